@@ -1,5 +1,5 @@
 -- Lines of the map: squared distances along an axis, less what all points have in common.
-use Rattle.std.proofs.Common.{◌≡◌, ℕ, ◌+◌, ◌-◌, ◌*◌, ◌<◌, ◌≤◌, ◌^◌, inl, inr, arith}
+use Rattle.std.proofs.Common.{◌≡◌, ℕ, ◌+◌, ◌-◌, ◌*◌, ◌<◌, ◌≤◌, ◌^◌, inl, inr, refl, arith}
 use Rattle.std.specs.Prelude.{ℤ, pos, neg_ℤ, ◌-ℤ◌, ◌*ℤ◌, unsigned_abs}
 use Rattle.std.proofs.lemmas.Int.{ints}
 use Rattle.std.proofs.lemmas.Bool.{cases_lt}
@@ -34,110 +34,45 @@ pub record IsLine (x : ℕ) (at : ℤ) (k : ℕ) : Type 0 where
   pub tied : 4096 * metric + squared_gap (pos 0) (coordinate x) ≡ squared_gap at (coordinate x) + 536870912
   pub close : squared_gap at (coordinate x) < 2 ^ 32
 
-pub below-1 : (x : ℕ) → x < 65536 → IsLine x (pos 2048 *ℤ neg_ℤ (pos 1)) (below 1 x)
-below-1 x l =
-    let gap = unsigned_abs (pos 2048 *ℤ neg_ℤ (pos 1) -ℤ coordinate x) in
-    let s = square_of_gap 30720 x gap (omega (arith, ints)) in
+-- a line by where it crosses the axis, counted from 0, and by its metric
+line : (x from metric k : ℕ) (at : ℤ) → x < 65536 → from < 65536 → at ≡ pos from -ℤ pos 32768 → k ≡ 256 * metric
+    → 4096 * metric + 536870912 + 2 * (from * x) ≡ from * from + 65536 * x → IsLine x at k
+line x from metric k at l low is key tie =
+    let gap = unsigned_abs (at -ℤ coordinate x) in
+    let s = square_of_gap from x gap (omega (arith, ints)) in
     let t = square_of_gap 32768 x (unsigned_abs (pos 0 -ℤ coordinate x)) (omega (arith, ints)) in
-    record {
-      metric = (1024 * 1 * 1 + 131072 - 32768 * 1) + 1 * x;
-      key_is = omega arith;
-      tied = omega arith;
-      close = square-small gap (omega (arith, ints));
-    }
+    record { metric = metric; key_is = key; tied = omega arith; close = square-small gap (omega (arith, ints)) }
+
+-- the metrics of lines below 0, and above
+abbrev low : ℕ → ℕ → ℕ
+low p x = (1024 * p * p + 131072 - 32768 * p) + p * x
+
+abbrev high : ℕ → ℕ → ℕ
+high p x = (1024 * p * p + 131072 - 32767 * p) + p * (65535 - x)
+
+pub below-1 : (x : ℕ) → x < 65536 → IsLine x (pos 2048 *ℤ neg_ℤ (pos 1)) (below 1 x)
+below-1 x l = line x 30720 (low 1 x) _ _ l (omega arith) refl (omega arith) (omega arith)
 
 pub below-2 : (x : ℕ) → x < 65536 → IsLine x (pos 2048 *ℤ neg_ℤ (pos 2)) (below 2 x)
-below-2 x l =
-    let gap = unsigned_abs (pos 2048 *ℤ neg_ℤ (pos 2) -ℤ coordinate x) in
-    let s = square_of_gap 28672 x gap (omega (arith, ints)) in
-    let t = square_of_gap 32768 x (unsigned_abs (pos 0 -ℤ coordinate x)) (omega (arith, ints)) in
-    record {
-      metric = (1024 * 2 * 2 + 131072 - 32768 * 2) + 2 * x;
-      key_is = omega arith;
-      tied = omega arith;
-      close = square-small gap (omega (arith, ints));
-    }
+below-2 x l = line x 28672 (low 2 x) _ _ l (omega arith) refl (omega arith) (omega arith)
 
 pub below-3 : (x : ℕ) → x < 65536 → IsLine x (pos 2048 *ℤ neg_ℤ (pos 3)) (below 3 x)
-below-3 x l =
-    let gap = unsigned_abs (pos 2048 *ℤ neg_ℤ (pos 3) -ℤ coordinate x) in
-    let s = square_of_gap 26624 x gap (omega (arith, ints)) in
-    let t = square_of_gap 32768 x (unsigned_abs (pos 0 -ℤ coordinate x)) (omega (arith, ints)) in
-    record {
-      metric = (1024 * 3 * 3 + 131072 - 32768 * 3) + 3 * x;
-      key_is = omega arith;
-      tied = omega arith;
-      close = square-small gap (omega (arith, ints));
-    }
+below-3 x l = line x 26624 (low 3 x) _ _ l (omega arith) refl (omega arith) (omega arith)
 
 pub below-4 : (x : ℕ) → x < 65536 → IsLine x (pos 2048 *ℤ neg_ℤ (pos 4)) (below 4 x)
-below-4 x l =
-    let gap = unsigned_abs (pos 2048 *ℤ neg_ℤ (pos 4) -ℤ coordinate x) in
-    let s = square_of_gap 24576 x gap (omega (arith, ints)) in
-    let t = square_of_gap 32768 x (unsigned_abs (pos 0 -ℤ coordinate x)) (omega (arith, ints)) in
-    record {
-      metric = (1024 * 4 * 4 + 131072 - 32768 * 4) + 4 * x;
-      key_is = omega arith;
-      tied = omega arith;
-      close = square-small gap (omega (arith, ints));
-    }
+below-4 x l = line x 24576 (low 4 x) _ _ l (omega arith) refl (omega arith) (omega arith)
 
 pub above-0 : (x : ℕ) → x < 65536 → IsLine x (pos 2048 *ℤ pos 0) (above 0 x)
-above-0 x l =
-    let gap = unsigned_abs (pos 2048 *ℤ pos 0 -ℤ coordinate x) in
-    let s = square_of_gap 32768 x gap (omega (arith, ints)) in
-    let t = square_of_gap 32768 x (unsigned_abs (pos 0 -ℤ coordinate x)) (omega (arith, ints)) in
-    record {
-      metric = (1024 * 0 * 0 + 131072 - 32767 * 0) + 0 * (65535 - x);
-      key_is = omega arith;
-      tied = omega arith;
-      close = square-small gap (omega (arith, ints));
-    }
+above-0 x l = line x 32768 (high 0 x) _ _ l (omega arith) refl (omega arith) (omega arith)
 
 pub above-1 : (x : ℕ) → x < 65536 → IsLine x (pos 2048 *ℤ pos 1) (above 1 x)
-above-1 x l =
-    let gap = unsigned_abs (pos 2048 *ℤ pos 1 -ℤ coordinate x) in
-    let s = square_of_gap 34816 x gap (omega (arith, ints)) in
-    let t = square_of_gap 32768 x (unsigned_abs (pos 0 -ℤ coordinate x)) (omega (arith, ints)) in
-    record {
-      metric = (1024 * 1 * 1 + 131072 - 32767 * 1) + 1 * (65535 - x);
-      key_is = omega arith;
-      tied = omega arith;
-      close = square-small gap (omega (arith, ints));
-    }
+above-1 x l = line x 34816 (high 1 x) _ _ l (omega arith) refl (omega arith) (omega arith)
 
 pub above-2 : (x : ℕ) → x < 65536 → IsLine x (pos 2048 *ℤ pos 2) (above 2 x)
-above-2 x l =
-    let gap = unsigned_abs (pos 2048 *ℤ pos 2 -ℤ coordinate x) in
-    let s = square_of_gap 36864 x gap (omega (arith, ints)) in
-    let t = square_of_gap 32768 x (unsigned_abs (pos 0 -ℤ coordinate x)) (omega (arith, ints)) in
-    record {
-      metric = (1024 * 2 * 2 + 131072 - 32767 * 2) + 2 * (65535 - x);
-      key_is = omega arith;
-      tied = omega arith;
-      close = square-small gap (omega (arith, ints));
-    }
+above-2 x l = line x 36864 (high 2 x) _ _ l (omega arith) refl (omega arith) (omega arith)
 
 pub above-3 : (x : ℕ) → x < 65536 → IsLine x (pos 2048 *ℤ pos 3) (above 3 x)
-above-3 x l =
-    let gap = unsigned_abs (pos 2048 *ℤ pos 3 -ℤ coordinate x) in
-    let s = square_of_gap 38912 x gap (omega (arith, ints)) in
-    let t = square_of_gap 32768 x (unsigned_abs (pos 0 -ℤ coordinate x)) (omega (arith, ints)) in
-    record {
-      metric = (1024 * 3 * 3 + 131072 - 32767 * 3) + 3 * (65535 - x);
-      key_is = omega arith;
-      tied = omega arith;
-      close = square-small gap (omega (arith, ints));
-    }
+above-3 x l = line x 38912 (high 3 x) _ _ l (omega arith) refl (omega arith) (omega arith)
 
 pub above-4 : (x : ℕ) → x < 65536 → IsLine x (pos 2048 *ℤ pos 4) (above 4 x)
-above-4 x l =
-    let gap = unsigned_abs (pos 2048 *ℤ pos 4 -ℤ coordinate x) in
-    let s = square_of_gap 40960 x gap (omega (arith, ints)) in
-    let t = square_of_gap 32768 x (unsigned_abs (pos 0 -ℤ coordinate x)) (omega (arith, ints)) in
-    record {
-      metric = (1024 * 4 * 4 + 131072 - 32767 * 4) + 4 * (65535 - x);
-      key_is = omega arith;
-      tied = omega arith;
-      close = square-small gap (omega (arith, ints));
-    }
+above-4 x l = line x 40960 (high 4 x) _ _ l (omega arith) refl (omega arith) (omega arith)

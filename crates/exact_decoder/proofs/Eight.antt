@@ -1,7 +1,6 @@
 -- The least keys of eight states, each of 32 bits, stand for those of the definition.
 use Rattle.std.proofs.Common.{◌≡◌, ℕ, zero, suc, ◌+◌, ◌-◌, ◌*◌, ◌/◌, ◌%◌, ◌<◌, ◌≤◌, ◌^◌, min, inl, inr, List, [], ◌∷◌, slice_index, refl}
-use Rattle.std.proofs.Common.{arith, sym, ◌∙◌}
-use Rattle.std.proofs.Common.{ap, subst}
+use Rattle.std.proofs.Common.{arith, sym, ◌∙◌, ap, subst}
 use Rattle.std.specs.Simd.Lanes.{zip2}
 use Rattle.std.proofs.Math.Nat.{min-le_left, min-le_right}
 use Rattle.symbol_map.specs.Points.{point_of}
@@ -10,28 +9,26 @@ use Rattle.exact_decoder.specs.Keys.{IsNearest, AreClose, IsLeastWay}
 use Rattle.exact_decoder.specs.Settled.{far_key, leveled, choice_in, chosen}
 use Rattle.exact_decoder.specs.Advances.{Advances}
 use Rattle.exact_decoder.specs.Lines.{least_four, words, sample_at, nearest_000, nearest_001, nearest_010, nearest_011, nearest_100}
-use Rattle.exact_decoder.specs.Lines.{nearest_101}
-use Rattle.exact_decoder.specs.Lines.{nearest_110, nearest_111}
+use Rattle.exact_decoder.specs.Lines.{nearest_101, nearest_110, nearest_111}
 use Rattle.exact_decoder.specs.Traced.{choice_by}
 use Rattle.exact_decoder.proofs.Keeping.{leveled-near, settled-near}
 use Rattle.exact_decoder.proofs.Vectors.{each_of_four, each_of_eight}
 use Rattle.exact_decoder.proofs.Subsets.{min-one}
 use Rattle.exact_decoder.proofs.Axes.{above-0}
-use Rattle.exact_decoder.proofs.MapKeys.{StandsFor, IsNearestKey, IsLeastOfFour, length_of, in_order, least_of_four, nearest-000}
-use Rattle.exact_decoder.proofs.MapKeys.{nearest-001}
-use Rattle.exact_decoder.proofs.MapKeys.{nearest-010, nearest-011, nearest-100, nearest-101, nearest-110, nearest-111}
+use Rattle.exact_decoder.proofs.MapKeys.{StandsFor, IsNearestKey, IsLeastOfFour, four_keys, length_of, in_order, least_of_four, nearest-000}
+use Rattle.exact_decoder.proofs.MapKeys.{nearest-001, nearest-010, nearest-011, nearest-100, nearest-101, nearest-110, nearest-111}
 
 -- the key by way of one
-by_way : (x y metric state key word : ℕ) (n : StandsFor x y key word) → n.before ≡ 0 → state < 8
-    → StandsFor x y (256 * metric + state + key) (268435456 * metric + state + word)
-by_way x y metric state key word n none few = record {
-  metric = metric + n.metric;
-  label = n.label;
+by_way : {x y subset key : ℕ} (metric state : ℕ) → state < 8 → (n : IsNearestKey x y subset key)
+    → StandsFor x y (256 * metric + state + key) (268435456 * metric + state + n.word)
+by_way metric state few n = record {
+  metric = metric + n.stands.metric;
+  label = n.stands.label;
   before = state;
-  label_few = n.label_few;
+  label_few = n.stands.label_few;
   before_few = few;
-  key_is = omega (arith, n.key_is, none);
-  word_is = omega (arith, n.word_is, none);
+  key_is = omega (arith, n.stands.key_is, n.no_state);
+  word_is = omega (arith, n.stands.word_is, n.no_state);
 }
 
 -- the least key of the ways into a state
@@ -40,12 +37,17 @@ pub record IsEntered (x y : ℕ) (sums nearest : List ℕ) (to key : ℕ) : Type
   pub least : IsLeastWay 4 way_before way_subset sums nearest to word
   pub stands : StandsFor x y key word
 
-entered : (x y : ℕ) (sums nearest : List ℕ) (to : ℕ) (k : ℕ → ℕ)
-    → ((i : ℕ) → i < 4 → StandsFor x y (k i) (slice_index sums (way_before to i) + slice_index nearest (way_subset to i)))
-    → IsEntered x y sums nearest to (least_four (k 0) (k 1) (k 2) (k 3))
-entered x y sums nearest to k ways =
+entered : (x y : ℕ) (sums nearest : List ℕ) (to a b c d : ℕ)
+    → StandsFor x y a (slice_index sums (way_before to 0) + slice_index nearest (way_subset to 0))
+    → StandsFor x y b (slice_index sums (way_before to 1) + slice_index nearest (way_subset to 1))
+    → StandsFor x y c (slice_index sums (way_before to 2) + slice_index nearest (way_subset to 2))
+    → StandsFor x y d (slice_index sums (way_before to 3) + slice_index nearest (way_subset to 3))
+    → IsEntered x y sums nearest to (least_four a b c d)
+entered x y sums nearest to a b c d sa sb sc sd =
+    let k : ℕ → ℕ = four_keys a b c d in
     let p = least_of_four k in
     let word : ℕ → ℕ = λ i. slice_index sums (way_before to i) + slice_index nearest (way_subset to i) in
+    let ways = each_of_four (λ i. StandsFor x y (k i) (word i)) sa sb sc sd in
     let own = ways p.place p.within in
     record {
       word = word p.place;
@@ -57,12 +59,6 @@ entered x y sums nearest to k ways =
       };
       stands = subst (λ n. StandsFor x y n (word p.place)) (sym p.is) own;
     }
-
-abbrev four_ways : ℕ → ℕ → ℕ → ℕ → ℕ → ℕ
-four_ways a b c d zero = a
-four_ways a b c d (suc zero) = b
-four_ways a b c d (suc (suc zero)) = c
-four_ways a b c d (suc (suc (suc i))) = d
 
 -- the least of eight keys
 pub record IsLeastOfEight (k : ℕ → ℕ) (least : ℕ) : Type 0 where
@@ -83,7 +79,7 @@ least_of_eight k least e = record {
 }
   where
     pairs : ℕ → ℕ
-    pairs = four_ways (min (k 0) (k 4)) (min (k 2) (k 6)) (min (k 1) (k 5)) (min (k 3) (k 7))
+    pairs = four_keys (min (k 0) (k 4)) (min (k 2) (k 6)) (min (k 1) (k 5)) (min (k 3) (k 7))
 
     p : IsLeastOfFour pairs (least_four (pairs 0) (pairs 1) (pairs 2) (pairs 3))
     p = least_of_four pairs
@@ -166,170 +162,68 @@ pub advances : (x y a b c d e f g h z : ℕ) → x < 65536 → y < 65536
     (k 4 / 256 - z / 256) (k 5 / 256 - z / 256) (k 6 / 256 - z / 256) (k 7 / 256 - z / 256))
     (zip2 choice_by (k 0 % 8 ∷ k 1 % 8 ∷ k 2 % 8 ∷ k 3 % 8 ∷ k 4 % 8 ∷ k 5 % 8 ∷ k 6 % 8 ∷ k 7 % 8 ∷ [])
     (k 0 / 8 % 32 ∷ k 1 / 8 % 32 ∷ k 2 / 8 % 32 ∷ k 3 / 8 % 32 ∷ k 4 / 8 % 32 ∷ k 5 / 8 % 32 ∷ k 6 / 8 % 32 ∷ k 7 / 8 % 32 ∷ []))
-advances x y a b c d e f g h z lx ly few least = record {
-  nearest = labels;
-  entered = keys;
-  least = slice_index keys least.place;
-  is_nearest = each_of_eight (λ q. IsNearest point_of 4 (sample_at x y) q (slice_index labels q))
-      n0.nearest n1.nearest n2.nearest n3.nearest n4.nearest n5.nearest n6.nearest n7.nearest;
-  close = each_of_eight (λ q. AreClose point_of 4 (sample_at x y) q) n0.close n1.close n2.close n3.close n4.close n5.close n6.close
-      n7.close;
-  into = each_of_eight (λ to. IsLeastWay 4 way_before way_subset sums labels to (slice_index keys to))
-      e0.least e1.least e2.least e3.least e4.least e5.least e6.least e7.least;
-  entered_long = refl;
-  is_least = record {
-    state = least.place;
-    within = least.within;
-    least_is = refl;
-    below = λ s l. in_order x y (k least.place) (k s) (slice_index keys least.place) (slice_index keys s)
-        (stands least.place least.within)
-        (stands s l) (omega (arith, least.is, least.below_each s l));
-  };
-  settled = record {
-    sums_long = refl;
-    column_long = refl;
-    levels = each_of_eight _ (level 0 (omega arith)) (level 1 (omega arith)) (level 2 (omega arith)) (level 3 (omega arith))
-        (level 4 (omega arith)) (level 5 (omega arith)) (level 6 (omega arith)) (level 7 (omega arith));
-    choices = each_of_eight _ (choice 0 (omega arith)) (choice 1 (omega arith)) (choice 2 (omega arith)) (choice 3 (omega arith))
-        (choice 4 (omega arith)) (choice 5 (omega arith)) (choice 6 (omega arith)) (choice 7 (omega arith));
-  };
-}
-  where
-    k : ℕ → ℕ
-    k = key_into x y a b c d e f g h
-
-    sums : List ℕ
-    sums = words a b c d e f g h
-
-    n0 : IsNearestKey x y 0 (nearest_000 x y)
-    n0 = nearest-000 x y lx ly
-
-    n1 : IsNearestKey x y 1 (nearest_001 x y)
-    n1 = nearest-001 x y lx ly
-
-    n2 : IsNearestKey x y 2 (nearest_010 x y)
-    n2 = nearest-010 x y lx ly
-
-    n3 : IsNearestKey x y 3 (nearest_011 x y)
-    n3 = nearest-011 x y lx ly
-
-    n4 : IsNearestKey x y 4 (nearest_100 x y)
-    n4 = nearest-100 x y lx ly
-
-    n5 : IsNearestKey x y 5 (nearest_101 x y)
-    n5 = nearest-101 x y lx ly
-
-    n6 : IsNearestKey x y 6 (nearest_110 x y)
-    n6 = nearest-110 x y lx ly
-
-    n7 : IsNearestKey x y 7 (nearest_111 x y)
-    n7 = nearest-111 x y lx ly
-
-    labels : List ℕ
-    labels = n0.word ∷ n1.word ∷ n2.word ∷ n3.word ∷ n4.word ∷ n5.word ∷ n6.word ∷ n7.word ∷ []
-
-    e0 : IsEntered x y sums labels 0 (k 0)
-    e0 = entered x y sums labels 0 (four_ways (256 * a + 0 + nearest_000 x y) (256 * g + 6 + nearest_001 x y)
-        (256 * e + 4 + nearest_010 x y) (256 * c + 2 + nearest_011 x y))
-        (each_of_four (λ i. StandsFor x y (four_ways (256 * a + 0 + nearest_000 x y) (256 * g + 6 + nearest_001 x y)
-        (256 * e + 4 + nearest_010 x y) (256 * c + 2 + nearest_011 x y) i)
-        (slice_index sums (way_before 0 i) + slice_index labels (way_subset 0 i)))
-        (by_way x y a 0 (nearest_000 x y) n0.word n0.stands n0.no_state (omega arith))
-        (by_way x y g 6 (nearest_001 x y) n1.word n1.stands n1.no_state (omega arith))
-        (by_way x y e 4 (nearest_010 x y) n2.word n2.stands n2.no_state (omega arith))
-        (by_way x y c 2 (nearest_011 x y) n3.word n3.stands n3.no_state (omega arith)))
-
-    e1 : IsEntered x y sums labels 1 (k 1)
-    e1 = entered x y sums labels 1 (four_ways (256 * c + 2 + nearest_000 x y) (256 * e + 4 + nearest_001 x y)
-        (256 * g + 6 + nearest_010 x y) (256 * a + 0 + nearest_011 x y))
-        (each_of_four (λ i. StandsFor x y (four_ways (256 * c + 2 + nearest_000 x y) (256 * e + 4 + nearest_001 x y)
-        (256 * g + 6 + nearest_010 x y) (256 * a + 0 + nearest_011 x y) i)
-        (slice_index sums (way_before 1 i) + slice_index labels (way_subset 1 i)))
-        (by_way x y c 2 (nearest_000 x y) n0.word n0.stands n0.no_state (omega arith))
-        (by_way x y e 4 (nearest_001 x y) n1.word n1.stands n1.no_state (omega arith))
-        (by_way x y g 6 (nearest_010 x y) n2.word n2.stands n2.no_state (omega arith))
-        (by_way x y a 0 (nearest_011 x y) n3.word n3.stands n3.no_state (omega arith)))
-
-    e2 : IsEntered x y sums labels 2 (k 2)
-    e2 = entered x y sums labels 2 (four_ways (256 * e + 4 + nearest_000 x y) (256 * c + 2 + nearest_001 x y)
-        (256 * a + 0 + nearest_010 x y) (256 * g + 6 + nearest_011 x y))
-        (each_of_four (λ i. StandsFor x y (four_ways (256 * e + 4 + nearest_000 x y) (256 * c + 2 + nearest_001 x y)
-        (256 * a + 0 + nearest_010 x y) (256 * g + 6 + nearest_011 x y) i)
-        (slice_index sums (way_before 2 i) + slice_index labels (way_subset 2 i)))
-        (by_way x y e 4 (nearest_000 x y) n0.word n0.stands n0.no_state (omega arith))
-        (by_way x y c 2 (nearest_001 x y) n1.word n1.stands n1.no_state (omega arith))
-        (by_way x y a 0 (nearest_010 x y) n2.word n2.stands n2.no_state (omega arith))
-        (by_way x y g 6 (nearest_011 x y) n3.word n3.stands n3.no_state (omega arith)))
-
-    e3 : IsEntered x y sums labels 3 (k 3)
-    e3 = entered x y sums labels 3 (four_ways (256 * g + 6 + nearest_000 x y) (256 * a + 0 + nearest_001 x y)
-        (256 * c + 2 + nearest_010 x y) (256 * e + 4 + nearest_011 x y))
-        (each_of_four (λ i. StandsFor x y (four_ways (256 * g + 6 + nearest_000 x y) (256 * a + 0 + nearest_001 x y)
-        (256 * c + 2 + nearest_010 x y) (256 * e + 4 + nearest_011 x y) i)
-        (slice_index sums (way_before 3 i) + slice_index labels (way_subset 3 i)))
-        (by_way x y g 6 (nearest_000 x y) n0.word n0.stands n0.no_state (omega arith))
-        (by_way x y a 0 (nearest_001 x y) n1.word n1.stands n1.no_state (omega arith))
-        (by_way x y c 2 (nearest_010 x y) n2.word n2.stands n2.no_state (omega arith))
-        (by_way x y e 4 (nearest_011 x y) n3.word n3.stands n3.no_state (omega arith)))
-
-    e4 : IsEntered x y sums labels 4 (k 4)
-    e4 = entered x y sums labels 4 (four_ways (256 * b + 1 + nearest_100 x y) (256 * h + 7 + nearest_101 x y)
-        (256 * d + 3 + nearest_110 x y) (256 * f + 5 + nearest_111 x y))
-        (each_of_four (λ i. StandsFor x y (four_ways (256 * b + 1 + nearest_100 x y) (256 * h + 7 + nearest_101 x y)
-        (256 * d + 3 + nearest_110 x y) (256 * f + 5 + nearest_111 x y) i)
-        (slice_index sums (way_before 4 i) + slice_index labels (way_subset 4 i)))
-        (by_way x y b 1 (nearest_100 x y) n4.word n4.stands n4.no_state (omega arith))
-        (by_way x y h 7 (nearest_101 x y) n5.word n5.stands n5.no_state (omega arith))
-        (by_way x y d 3 (nearest_110 x y) n6.word n6.stands n6.no_state (omega arith))
-        (by_way x y f 5 (nearest_111 x y) n7.word n7.stands n7.no_state (omega arith)))
-
-    e5 : IsEntered x y sums labels 5 (k 5)
-    e5 = entered x y sums labels 5 (four_ways (256 * h + 7 + nearest_100 x y) (256 * b + 1 + nearest_101 x y)
-        (256 * f + 5 + nearest_110 x y) (256 * d + 3 + nearest_111 x y))
-        (each_of_four (λ i. StandsFor x y (four_ways (256 * h + 7 + nearest_100 x y) (256 * b + 1 + nearest_101 x y)
-        (256 * f + 5 + nearest_110 x y) (256 * d + 3 + nearest_111 x y) i)
-        (slice_index sums (way_before 5 i) + slice_index labels (way_subset 5 i)))
-        (by_way x y h 7 (nearest_100 x y) n4.word n4.stands n4.no_state (omega arith))
-        (by_way x y b 1 (nearest_101 x y) n5.word n5.stands n5.no_state (omega arith))
-        (by_way x y f 5 (nearest_110 x y) n6.word n6.stands n6.no_state (omega arith))
-        (by_way x y d 3 (nearest_111 x y) n7.word n7.stands n7.no_state (omega arith)))
-
-    e6 : IsEntered x y sums labels 6 (k 6)
-    e6 = entered x y sums labels 6 (four_ways (256 * f + 5 + nearest_100 x y) (256 * d + 3 + nearest_101 x y)
-        (256 * h + 7 + nearest_110 x y) (256 * b + 1 + nearest_111 x y))
-        (each_of_four (λ i. StandsFor x y (four_ways (256 * f + 5 + nearest_100 x y) (256 * d + 3 + nearest_101 x y)
-        (256 * h + 7 + nearest_110 x y) (256 * b + 1 + nearest_111 x y) i)
-        (slice_index sums (way_before 6 i) + slice_index labels (way_subset 6 i)))
-        (by_way x y f 5 (nearest_100 x y) n4.word n4.stands n4.no_state (omega arith))
-        (by_way x y d 3 (nearest_101 x y) n5.word n5.stands n5.no_state (omega arith))
-        (by_way x y h 7 (nearest_110 x y) n6.word n6.stands n6.no_state (omega arith))
-        (by_way x y b 1 (nearest_111 x y) n7.word n7.stands n7.no_state (omega arith)))
-
-    e7 : IsEntered x y sums labels 7 (k 7)
-    e7 = entered x y sums labels 7 (four_ways (256 * d + 3 + nearest_100 x y) (256 * f + 5 + nearest_101 x y)
-        (256 * b + 1 + nearest_110 x y) (256 * h + 7 + nearest_111 x y))
-        (each_of_four (λ i. StandsFor x y (four_ways (256 * d + 3 + nearest_100 x y) (256 * f + 5 + nearest_101 x y)
-        (256 * b + 1 + nearest_110 x y) (256 * h + 7 + nearest_111 x y) i)
-        (slice_index sums (way_before 7 i) + slice_index labels (way_subset 7 i)))
-        (by_way x y d 3 (nearest_100 x y) n4.word n4.stands n4.no_state (omega arith))
-        (by_way x y f 5 (nearest_101 x y) n5.word n5.stands n5.no_state (omega arith))
-        (by_way x y b 1 (nearest_110 x y) n6.word n6.stands n6.no_state (omega arith))
-        (by_way x y h 7 (nearest_111 x y) n7.word n7.stands n7.no_state (omega arith)))
-
-    keys : List ℕ
-    keys = e0.word ∷ e1.word ∷ e2.word ∷ e3.word ∷ e4.word ∷ e5.word ∷ e6.word ∷ e7.word ∷ []
-
-    stands : (s : ℕ) → s < 8 → StandsFor x y (k s) (slice_index keys s)
-    stands = each_of_eight (λ s. StandsFor x y (k s) (slice_index keys s))
-        e0.stands e1.stands e2.stands e3.stands e4.stands e5.stands e6.stands e7.stands
-
-    least_stands : StandsFor x y z (slice_index keys least.place)
-    least_stands = subst (λ n. StandsFor x y n (slice_index keys least.place)) (sym least.is) (stands least.place least.within)
-
-    level : (s : ℕ) → s < 8 → 268435456 * (k s / 256 - z / 256) + s ≡ leveled (slice_index keys s) (slice_index keys least.place) s
-    level s l = level-is x y (k s) (slice_index keys s) z (slice_index keys least.place) s lx ly (few s l) (least.below_each s l)
-        (stands s l)
-        least_stands
-
-    choice : (s : ℕ) → s < 8 → choice_by (k s % 8) (k s / 8 % 32) ≡ chosen (slice_index keys s) (slice_index keys least.place)
-    choice s l = choice-is x y (k s) (slice_index keys s) (slice_index keys least.place) lx ly (few s l) (stands s l)
+advances x y a b c d e f g h z lx ly few least =
+    let k = key_into x y a b c d e f g h in
+    let sums = words a b c d e f g h in
+    let n0 = nearest-000 x y lx ly in
+    let n1 = nearest-001 x y lx ly in
+    let n2 = nearest-010 x y lx ly in
+    let n3 = nearest-011 x y lx ly in
+    let n4 = nearest-100 x y lx ly in
+    let n5 = nearest-101 x y lx ly in
+    let n6 = nearest-110 x y lx ly in
+    let n7 = nearest-111 x y lx ly in
+    let labels = n0.word ∷ n1.word ∷ n2.word ∷ n3.word ∷ n4.word ∷ n5.word ∷ n6.word ∷ n7.word ∷ [] in
+    let e0 = entered x y sums labels 0 _ _ _ _ (by_way a 0 (omega arith) n0) (by_way g 6 (omega arith) n1)
+    (by_way e 4 (omega arith) n2) (by_way c 2 (omega arith) n3) in
+    let e1 = entered x y sums labels 1 _ _ _ _ (by_way c 2 (omega arith) n0) (by_way e 4 (omega arith) n1)
+    (by_way g 6 (omega arith) n2) (by_way a 0 (omega arith) n3) in
+    let e2 = entered x y sums labels 2 _ _ _ _ (by_way e 4 (omega arith) n0) (by_way c 2 (omega arith) n1)
+    (by_way a 0 (omega arith) n2) (by_way g 6 (omega arith) n3) in
+    let e3 = entered x y sums labels 3 _ _ _ _ (by_way g 6 (omega arith) n0) (by_way a 0 (omega arith) n1)
+    (by_way c 2 (omega arith) n2) (by_way e 4 (omega arith) n3) in
+    let e4 = entered x y sums labels 4 _ _ _ _ (by_way b 1 (omega arith) n4) (by_way h 7 (omega arith) n5)
+    (by_way d 3 (omega arith) n6) (by_way f 5 (omega arith) n7) in
+    let e5 = entered x y sums labels 5 _ _ _ _ (by_way h 7 (omega arith) n4) (by_way b 1 (omega arith) n5)
+    (by_way f 5 (omega arith) n6) (by_way d 3 (omega arith) n7) in
+    let e6 = entered x y sums labels 6 _ _ _ _ (by_way f 5 (omega arith) n4) (by_way d 3 (omega arith) n5)
+    (by_way h 7 (omega arith) n6) (by_way b 1 (omega arith) n7) in
+    let e7 = entered x y sums labels 7 _ _ _ _ (by_way d 3 (omega arith) n4) (by_way f 5 (omega arith) n5)
+    (by_way b 1 (omega arith) n6) (by_way h 7 (omega arith) n7) in
+    let keys = e0.word ∷ e1.word ∷ e2.word ∷ e3.word ∷ e4.word ∷ e5.word ∷ e6.word ∷ e7.word ∷ [] in
+    let stands = each_of_eight (λ s. StandsFor x y (k s) (slice_index keys s))
+    e0.stands e1.stands e2.stands e3.stands e4.stands e5.stands e6.stands e7.stands in
+    let under : StandsFor x y z (slice_index keys least.place) =
+    subst (λ n. StandsFor x y n (slice_index keys least.place)) (sym least.is) (stands least.place least.within) in
+    let level = λ (s : ℕ) (l : s < 8). level-is x y (k s) (slice_index keys s) z (slice_index keys least.place) s lx ly (few s l)
+    (least.below_each s l) (stands s l) under in
+    let choice = λ (s : ℕ) (l : s < 8). choice-is x y (k s) (slice_index keys s) (slice_index keys least.place) lx ly (few s l)
+    (stands s l) in
+    record {
+      nearest = labels;
+      entered = keys;
+      least = slice_index keys least.place;
+      is_nearest = each_of_eight (λ q. IsNearest point_of 4 (sample_at x y) q (slice_index labels q))
+          n0.nearest n1.nearest n2.nearest n3.nearest n4.nearest n5.nearest n6.nearest n7.nearest;
+      close = each_of_eight (λ q. AreClose point_of 4 (sample_at x y) q) n0.close n1.close n2.close n3.close n4.close n5.close n6.close
+          n7.close;
+      into = each_of_eight (λ to. IsLeastWay 4 way_before way_subset sums labels to (slice_index keys to))
+          e0.least e1.least e2.least e3.least e4.least e5.least e6.least e7.least;
+      entered_long = refl;
+      is_least = record {
+        state = least.place;
+        within = least.within;
+        least_is = refl;
+        below = λ s l. in_order x y (k least.place) (k s) (slice_index keys least.place) (slice_index keys s)
+            (stands least.place least.within)
+            (stands s l) (omega (arith, least.is, least.below_each s l));
+      };
+      settled = record {
+        sums_long = refl;
+        column_long = refl;
+        levels = each_of_eight _ (level 0 (omega arith)) (level 1 (omega arith)) (level 2 (omega arith)) (level 3 (omega arith))
+            (level 4 (omega arith)) (level 5 (omega arith)) (level 6 (omega arith)) (level 7 (omega arith));
+        choices = each_of_eight _ (choice 0 (omega arith)) (choice 1 (omega arith)) (choice 2 (omega arith)) (choice 3 (omega arith))
+            (choice 4 (omega arith)) (choice 5 (omega arith)) (choice 6 (omega arith)) (choice 7 (omega arith));
+      };
+    }

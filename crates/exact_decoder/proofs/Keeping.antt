@@ -1,7 +1,6 @@
 -- What is kept of the survivors, over sums and columns.
 use Rattle.std.proofs.Common.{◌≡◌, ◌≢◌, ℕ, zero, suc, ◌+◌, ◌-◌, ◌*◌, ◌/◌, ◌%◌, ◌^◌, ◌<◌, ◌≤◌, ◌⊎◌, inl, inr, Bool, true, false, nat_lt}
-use Rattle.std.proofs.Common.{List, [], ◌∷◌, ◌++◌, length, map, take, reverse, All, get_or, slice_index, set, replicate, Option, Some}
-use Rattle.std.proofs.Common.{None}
+use Rattle.std.proofs.Common.{List, [], ◌∷◌, ◌++◌, length, map, take, reverse, All, get_or, slice_index, set, replicate, Option, Some, None}
 use Rattle.std.proofs.Common.{option_map, arith, add-one, refl, sym, ◌∙◌, ap, subst}
 use Rattle.std.specs.List.{range_with_len}
 use Rattle.std.proofs.lemmas.Grind.{common_steps}
@@ -178,70 +177,6 @@ newest-more column columns newer n l e =
     take-take-less : (n m : ℕ) (xs : List (List Choice)) → n ≤ m → take n (take m xs) ≡ take n xs
     take-take-less n m xs l = grind (arith, common_steps)
 
--- the step that keys make
-pub stepped-of : (table : ℕ → ℕ → Option ℕ) (points : ℕ → Sample) (states labels parallel subsets ways steps : ℕ) (before subset : ℕ → ℕ
-    → ℕ) (sample : Sample) (sums nearest entered new_sums : List ℕ) (least : ℕ) (column : List Choice)
-    (columns newer : List (List Choice))
-    (unreleased : ℕ)
-    → IsCode table states labels parallel subsets ways before subset
-    → AreKeys points states parallel subsets ways before subset sample sums nearest entered
-    → Settles states entered least new_sums column
-    → least < far_key → unreleased < length columns → newer ≡ column ∷ take (length columns - 1) columns
-    → Stepped table points sample (kept_of states sums columns unreleased) (kept_of states new_sums newer (unreleased + 1))
-stepped-of table points states labels parallel subsets ways steps before subset sample sums nearest entered new_sums least column columns
-    newer unreleased code keys made near room e = record {
-      entries = map entry_in entered;
-      chosen = λ starts to. chosen-all table points states labels parallel subsets ways before subset sample sums nearest entered starts
-          to
-          code
-          keys;
-      lowered = least / 65536;
-      lowest = (
-        made.is_least.state,
-        new_sum-near states entered made.is_least.state keys.entered_long made.is_least.within (omega (arith, made.is_least.least_is))
-            ∙ ap (λ n. Some (n / 65536)) (sym made.is_least.least_is),
-      );
-      least = λ s m f. let k = new_sum-known states entered s m keys.entered_long f in omega (arith, made.is_least.below s k.0, k.2);
-      sums = λ s. new_sums-at states entered new_sums least column s code.states_few keys.entered_long made;
-      follow = λ s f g. goes s f g;
-      longer_by_one = refl;
-      close = λ s label to b.
-          let w = code.all s label to b in
-          let in_table = code.bounded s label to b in
-          let q = code.ways_within to w.0 (code.within s label to in_table.0 in_table.1 b) w.2 in
-          subst (λ x. distance_of (points x) sample < 2 ^ 33) w.5 (keys.close (subset to w.0) w.1 q.1 w.3);
-    }
-  where
-    some_one : {a b : Entry} → Some a ≡ Some b → a ≡ b
-    some_one q = cc
-
-    goes : (s : ℕ) (f : Entry) → entry_at (map entry_in entered) s ≡ Some f
-        → tail_at (map (traced (take (unreleased + 1) newer)) (range_with_len 0 states)) s ≡ tail_at
-        (map (traced (take unreleased columns)) (range_with_len 0 states)) f.before ++ f.label ∷ []
-    goes s f g =
-        let k = new_sum-known states entered s f.sum keys.entered_long (ap (option_map sum_of) g) in
-        let is : entry_in (slice_index entered s) ≡ Some f = sym (map-at entry_in entered s (omega (arith, k.0, keys.entered_long))) ∙ g
-        in
-        let same : record {
-          before = slice_index entered s % 256;
-          label = slice_index entered s / 256 % 256;
-          sum = slice_index entered s / 65536;
-        } ≡ f = some_one (sym (entry-near (slice_index entered s) k.1) ∙ is) in
-        let choice : choice_at column s ≡ choice_in (slice_index entered s) =
-        made.choices s k.0 ∙ ap choice_in (settled-near (slice_index entered s) least k.1) in
-        let b : (choice_at column s).before ≡ f.before = ap (λ c. c.before) choice ∙ ap (λ x. x.before) same in
-        let l : (choice_at column s).label ≡ f.label = ap (λ c. c.label) choice ∙ ap (λ x. x.label) same in
-        let within : f.before < states =
-        omega (
-          arith,
-          ap (λ x. x.before) same,
-          (parts-within table points states labels parallel subsets ways before subset sample sums nearest entered s k.0 code keys).0,
-        ) in
-        tail-at states (take (unreleased + 1) newer) s k.0 ∙ ap (λ c. traced c s) (newest-more column columns newer unreleased room e)
-        ∙ ap (λ x. traced (take unreleased columns) x ++ (choice_at column s).label ∷ []) b
-        ∙ ap (λ x. traced (take unreleased columns) f.before ++ x ∷ []) l
-        ∙ ap (λ t. t ++ f.label ∷ []) (sym (tail-at states (take unreleased columns) f.before within))
-
 -- each state has a choice of one that was reached
 pub covered-of : (states : ℕ) (entered new_sums : List ℕ) (least : ℕ) (column : List Choice) (columns newer : List (List Choice))
     (unreleased : ℕ) → states ≤ 256 → length entered ≡ states → Settles states entered least new_sums column
@@ -274,63 +209,117 @@ covered-of states entered new_sums least column columns newer unreleased few lon
     known s l here = new_sums-at states entered new_sums least column s few long made
         ∙ ap (option_map (λ n. n - least / 65536)) (new_sum-near states entered s long l here)
 
--- what holds of sums and columns holds after a step
-pub holds-next : (table : ℕ → ℕ → Option ℕ) (points : ℕ → Sample) (states labels parallel subsets ways depth : ℕ) (before subset : ℕ → ℕ
-    → ℕ) (sample : Sample) (sums nearest entered new_sums : List ℕ) (least : ℕ) (column : List Choice)
-    (columns newer : List (List Choice))
-    (unreleased : ℕ)
-    → IsCode table states labels parallel subsets ways before subset
-    → AreKeys points states parallel subsets ways before subset sample sums nearest entered
-    → Settles states entered least new_sums column
-    → least < far_key → unreleased ≤ depth → newer ≡ column ∷ take (length columns - 1) columns
-    → HoldsColumns states labels depth sums columns unreleased → HoldsColumns states labels depth new_sums newer (unreleased + 1)
-holds-next table points states labels parallel subsets ways depth before subset sample sums nearest entered new_sums least column columns
-    newer unreleased code keys made near room e h = record {
-      sums_long = made.new_long;
-      states_in = λ s l. elim (cases_lt (slice_index entered s) far_key) [
-        | inl here ↦ omega (arith, made.levels s l ∙ leveled-near (slice_index entered s) least s here, code.states_few)
-        | inr far ↦ omega (arith, made.levels s l ∙ leveled-far (slice_index entered s) least s far, code.states_few)
-      ];
-      bound = λ s l. elim (cases_lt (slice_index entered s) far_key) [
-        | inl here ↦ omega (arith, made.levels s l ∙ leveled-near (slice_index entered s) least s here, code.states_few)
-        | inr far ↦ omega (arith, made.levels s l ∙ leveled-far (slice_index entered s) least s far, code.states_few)
-      ];
-      reached = (
-        made.is_least.state,
+module _ (table : ℕ → ℕ → Option ℕ) (points : ℕ → Sample) (states labels parallel subsets ways : ℕ) (before subset : ℕ → ℕ
+    → ℕ) (sample : Sample) (sums nearest entered new_sums : List ℕ) (least : ℕ) (column : List Choice) (columns newer : List (List Choice))
+    (unreleased : ℕ) (code : IsCode table states labels parallel subsets ways before subset)
+    (keys : AreKeys points states parallel subsets ways before subset sample sums nearest entered)
+    (made : Settles states entered least new_sums column) (near : least < far_key)
+    (e : newer ≡ column ∷ take (length columns - 1) columns) where
+  -- the step that keys make
+  pub stepped-of : unreleased < length columns
+      → Stepped table points sample (kept_of states sums columns unreleased) (kept_of states new_sums newer (unreleased + 1))
+  stepped-of room = record {
+    entries = map entry_in entered;
+    chosen = λ starts to. chosen-all table points states labels parallel subsets ways before subset sample sums nearest entered starts
+        to
+        code
+        keys;
+    lowered = least / 65536;
+    lowest = (
+      made.is_least.state,
+      new_sum-near states entered made.is_least.state keys.entered_long made.is_least.within (omega (arith, made.is_least.least_is))
+          ∙ ap (λ n. Some (n / 65536)) (sym made.is_least.least_is),
+    );
+    least = λ s m f. let k = new_sum-known states entered s m keys.entered_long f in omega (arith, made.is_least.below s k.0, k.2);
+    sums = λ s. new_sums-at states entered new_sums least column s code.states_few keys.entered_long made;
+    follow = λ s f g. goes s f g;
+    longer_by_one = refl;
+    close = λ s label to b.
+        let w = code.all s label to b in
+        let in_table = code.bounded s label to b in
+        let q = code.ways_within to w.0 (code.within s label to in_table.0 in_table.1 b) w.2 in
+        subst (λ x. distance_of (points x) sample < 2 ^ 33) w.5 (keys.close (subset to w.0) w.1 q.1 w.3);
+  }
+    where
+      some_one : {a b : Entry} → Some a ≡ Some b → a ≡ b
+      some_one q = cc
+
+      goes : (s : ℕ) (f : Entry) → entry_at (map entry_in entered) s ≡ Some f
+          → tail_at (map (traced (take (unreleased + 1) newer)) (range_with_len 0 states)) s ≡ tail_at
+          (map (traced (take unreleased columns)) (range_with_len 0 states)) f.before ++ f.label ∷ []
+      goes s f g =
+          let k = new_sum-known states entered s f.sum keys.entered_long (ap (option_map sum_of) g) in
+          let is : entry_in (slice_index entered s) ≡ Some f = sym (map-at entry_in entered s (omega (arith, k.0, keys.entered_long))) ∙ g
+          in
+          let same : record {
+            before = slice_index entered s % 256;
+            label = slice_index entered s / 256 % 256;
+            sum = slice_index entered s / 65536;
+          } ≡ f = some_one (sym (entry-near (slice_index entered s) k.1) ∙ is) in
+          let choice : choice_at column s ≡ choice_in (slice_index entered s) =
+          made.choices s k.0 ∙ ap choice_in (settled-near (slice_index entered s) least k.1) in
+          let b : (choice_at column s).before ≡ f.before = ap (λ c. c.before) choice ∙ ap (λ x. x.before) same in
+          let l : (choice_at column s).label ≡ f.label = ap (λ c. c.label) choice ∙ ap (λ x. x.label) same in
+          let within : f.before < states =
+          omega (
+            arith,
+            ap (λ x. x.before) same,
+            (parts-within table points states labels parallel subsets ways before subset sample sums nearest entered s k.0 code keys).0,
+          ) in
+          tail-at states (take (unreleased + 1) newer) s k.0 ∙ ap (λ c. traced c s) (newest-more column columns newer unreleased room e)
+          ∙ ap (λ x. traced (take unreleased columns) x ++ (choice_at column s).label ∷ []) b
+          ∙ ap (λ x. traced (take unreleased columns) f.before ++ x ∷ []) l
+          ∙ ap (λ t. t ++ f.label ∷ []) (sym (tail-at states (take unreleased columns) f.before within))
+
+  -- what holds of sums and columns holds after a step
+  pub holds-next : (depth : ℕ) → unreleased ≤ depth → HoldsColumns states labels depth sums columns unreleased
+      → HoldsColumns states labels depth new_sums newer (unreleased + 1)
+  holds-next depth room h = record {
+    sums_long = made.new_long;
+    states_in = λ s l. elim (cases_lt (slice_index entered s) far_key) [
+      | inl here ↦ omega (arith, made.levels s l ∙ leveled-near (slice_index entered s) least s here, code.states_few)
+      | inr far ↦ omega (arith, made.levels s l ∙ leveled-far (slice_index entered s) least s far, code.states_few)
+    ];
+    bound = λ s l. elim (cases_lt (slice_index entered s) far_key) [
+      | inl here ↦ omega (arith, made.levels s l ∙ leveled-near (slice_index entered s) least s here, code.states_few)
+      | inr far ↦ omega (arith, made.levels s l ∙ leveled-far (slice_index entered s) least s far, code.states_few)
+    ];
+    reached = (
+      made.is_least.state,
+      made.is_least.within,
+      omega (
+        arith,
+        made.levels made.is_least.state made.is_least.within
+            ∙ leveled-near (slice_index entered made.is_least.state) least made.is_least.state (omega (arith, made.is_least.least_is)),
+        made.is_least.least_is,
         made.is_least.within,
-        omega (
-          arith,
-          made.levels made.is_least.state made.is_least.within
-              ∙ leveled-near (slice_index entered made.is_least.state) least made.is_least.state (omega (arith, made.is_least.least_is)),
-          made.is_least.least_is,
-          made.is_least.within,
-          code.states_few,
-        ),
-      );
-      columns_long = omega (arith, ap length e, length-take-less (length columns - 1) columns (omega arith), h.columns_long);
-      columns_fit = All-same (IsColumn states labels) newer (column ∷ take (length columns - 1) columns) e
-          (All-cons (IsColumn states labels) column (take (length columns - 1) columns) (record {
-            long = made.column_long;
-            before = λ s l. omega (arith, ap (λ c. c.before) (made.choices s l), (fits s l).0);
-            label = λ s l. omega (arith, ap (λ c. c.label) (made.choices s l), (fits s l).1);
-          }) (All-take (IsColumn states labels) (length columns - 1) columns h.columns_fit));
-      within = omega arith;
-    }
-  where
-    length-take-less : (n : ℕ) (xs : List (List Choice)) → n ≤ length xs → length (take n xs) ≡ n
-    length-take-less n xs l = grind (arith, common_steps)
+        code.states_few,
+      ),
+    );
+    columns_long = omega (arith, ap length e, length-take-less (length columns - 1) columns (omega arith), h.columns_long);
+    columns_fit = All-same (IsColumn states labels) newer (column ∷ take (length columns - 1) columns) e
+        (All-cons (IsColumn states labels) column (take (length columns - 1) columns) (record {
+          long = made.column_long;
+          before = λ s l. omega (arith, ap (λ c. c.before) (made.choices s l), (fits s l).0);
+          label = λ s l. omega (arith, ap (λ c. c.label) (made.choices s l), (fits s l).1);
+        }) (All-take (IsColumn states labels) (length columns - 1) columns h.columns_fit));
+    within = omega arith;
+  }
+    where
+      length-take-less : (n : ℕ) (xs : List (List Choice)) → n ≤ length xs → length (take n xs) ≡ n
+      length-take-less n xs l = grind (arith, common_steps)
 
-    own : (s : ℕ) → s < states → (slice_index entered s % 256 < states) × (slice_index entered s / 256 % 256 < labels)
-    own s l = parts-within table points states labels parallel subsets ways before subset sample sums nearest entered s l code keys
+      own : (s : ℕ) → s < states → (slice_index entered s % 256 < states) × (slice_index entered s / 256 % 256 < labels)
+      own s l = parts-within table points states labels parallel subsets ways before subset sample sums nearest entered s l code keys
 
-    fits : (s : ℕ) → s < states → ((chosen (slice_index entered s) least).before < states)
-        × ((chosen (slice_index entered s) least).label < labels)
-    fits s l = elim (cases_lt (slice_index entered s) far_key) [
-      | inl here ↦ subst (λ k. ((choice_in k).before < states) × ((choice_in k).label < labels))
-          (sym (settled-near (slice_index entered s) least here)) (own s l)
-      | inr far ↦ subst (λ k. ((choice_in k).before < states) × ((choice_in k).label < labels))
-          (sym (settled-far (slice_index entered s) least far ∙ made.is_least.least_is)) (own made.is_least.state made.is_least.within)
-    ]
+      fits : (s : ℕ) → s < states → ((chosen (slice_index entered s) least).before < states)
+          × ((chosen (slice_index entered s) least).label < labels)
+      fits s l = elim (cases_lt (slice_index entered s) far_key) [
+        | inl here ↦ subst (λ k. ((choice_in k).before < states) × ((choice_in k).label < labels))
+            (sym (settled-near (slice_index entered s) least here)) (own s l)
+        | inr far ↦ subst (λ k. ((choice_in k).before < states) × ((choice_in k).label < labels))
+            (sym (settled-far (slice_index entered s) least far ∙ made.is_least.least_is)) (own made.is_least.state made.is_least.within)
+      ]
 
 -- what is released is what the columns split off
 pub released-of : (states : ℕ) (sums : List ℕ) (columns : List (List Choice)) (unreleased left : ℕ) (labels : List ℕ) → length sums ≡
@@ -429,10 +418,10 @@ pub push-all : (table : ℕ → ℕ → Option ℕ) (points : ℕ → Sample) (s
 push-all table points states labels parallel subsets ways steps depth before subset sample was sums made now columns newer unreleased
     code low
     reach small room holds is_was is_now (column, e, advanced) = (
-      holds-next table points states labels parallel subsets ways depth before subset sample sums step.nearest step.entered now step.least
-          column columns newer unreleased code keys settles far room e holds,
-      stepped-of table points states labels parallel subsets ways steps before subset sample sums step.nearest step.entered now step.least
-          column columns newer unreleased code keys settles far (omega (arith, holds.columns_long)) e,
+      holds-next table points states labels parallel subsets ways before subset sample sums step.nearest step.entered now step.least
+          column columns newer unreleased code keys settles far e depth room holds,
+      stepped-of table points states labels parallel subsets ways before subset sample sums step.nearest step.entered now step.least
+          column columns newer unreleased code keys settles far e (omega (arith, holds.columns_long)),
       covered-of states step.entered now step.least column columns newer unreleased code.states_few step.entered_long settles far
           (omega (arith, holds.columns_long)) e,
     )

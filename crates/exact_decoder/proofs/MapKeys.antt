@@ -5,7 +5,7 @@ use Rattle.std.proofs.lemmas.Bool.{cases_lt}
 use Rattle.symbol_map.specs.Distance.{distance_of, squared_gap}
 use Rattle.symbol_map.specs.Points.{point_of}
 use Rattle.exact_decoder.specs.Keys.{IsNearest, AreClose}
-use Rattle.exact_decoder.specs.Lines.{least_four, below, above, coordinate, sample_at, nearest_000, nearest_001, nearest_010, nearest_011}
+use Rattle.exact_decoder.specs.Lines.{least_four, coordinate, sample_at, nearest_000, nearest_001, nearest_010, nearest_011}
 use Rattle.exact_decoder.specs.Lines.{nearest_100, nearest_101, nearest_110, nearest_111}
 use Rattle.exact_decoder.proofs.Vectors.{each_of_four}
 use Rattle.exact_decoder.proofs.Axes.{IsLine, below-1, below-2, below-3, below-4, above-0, above-1, above-2, above-3, above-4}
@@ -91,10 +91,20 @@ pub record IsNearestKey (x y subset key : ℕ) : Type 0 where
   pub no_state : stands.before ≡ 0
   pub close : AreClose point_of 4 (sample_at x y) subset
 
-nearest : (x y subset : ℕ) (k : ℕ → ℕ)
-    → ((i : ℕ) → i < 4 → IsKey x y (4 * subset + i) (k i) (distance_of (point_of (4 * subset + i)) (sample_at x y)))
-    → IsNearestKey x y subset (least_four (k 0) (k 1) (k 2) (k 3))
-nearest x y subset k keys =
+abbrev pub four_keys : ℕ → ℕ → ℕ → ℕ → ℕ → ℕ
+four_keys a b c d zero = a
+four_keys a b c d (suc zero) = b
+four_keys a b c d (suc (suc zero)) = c
+four_keys a b c d (suc (suc (suc i))) = d
+
+abbrev IsKeyOf : ℕ → ℕ → ℕ → ℕ → ℕ → Type 0
+IsKeyOf x y subset i key = IsKey x y (4 * subset + i) key (distance_of (point_of (4 * subset + i)) (sample_at x y))
+
+nearest : (x y subset a b c d : ℕ) → IsKeyOf x y subset 0 a → IsKeyOf x y subset 1 b → IsKeyOf x y subset 2 c → IsKeyOf x y subset 3 d
+    → IsNearestKey x y subset (least_four a b c d)
+nearest x y subset a b c d ka kb kc kd =
+    let k : ℕ → ℕ = four_keys a b c d in
+    let keys = each_of_four (λ i. IsKeyOf x y subset i (k i)) ka kb kc kd in
     let p = least_of_four k in
     let word : ℕ → ℕ = λ i. 65536 * distance_of (point_of (4 * subset + i)) (sample_at x y) + 256 * (4 * subset + i) in
     let own = keys p.place p.within in
@@ -120,88 +130,66 @@ nearest x y subset k keys =
       close = λ i l. (keys i l).close;
     }
 
-abbrev pub four_keys : ℕ → ℕ → ℕ → ℕ → ℕ → ℕ
-four_keys a b c d zero = a
-four_keys a b c d (suc zero) = b
-four_keys a b c d (suc (suc zero)) = c
-four_keys a b c d (suc (suc (suc i))) = d
-
 pub nearest-000 : (x y : ℕ) → x < 65536 → y < 65536 → IsNearestKey x y 0 (nearest_000 x y)
 nearest-000 x y lx ly =
-    let k : ℕ → ℕ = four_keys (below 4 x + above 1 y) (above 0 x + below 3 y + 8) (above 0 x + above 1 y + 16)
-    (above 4 x + above 1 y + 24) in
-    nearest x y 0 k (each_of_four (λ i. IsKey x y (4 * 0 + i) (k i) (distance_of (point_of (4 * 0 + i)) (sample_at x y)))
+    nearest x y 0 _ _ _ _
     (on x y 0 _ _ _ _ _ (omega arith) (below-4 x lx) (above-1 y ly) (omega arith))
     (on x y 1 _ _ _ _ _ (omega arith) (above-0 x lx) (below-3 y ly) (omega arith))
     (on x y 2 _ _ _ _ _ (omega arith) (above-0 x lx) (above-1 y ly) (omega arith))
-    (on x y 3 _ _ _ _ _ (omega arith) (above-4 x lx) (above-1 y ly) (omega arith)))
+    (on x y 3 _ _ _ _ _ (omega arith) (above-4 x lx) (above-1 y ly) (omega arith))
 
 pub nearest-001 : (x y : ℕ) → x < 65536 → y < 65536 → IsNearestKey x y 1 (nearest_001 x y)
 nearest-001 x y lx ly =
-    let k : ℕ → ℕ = four_keys (above 4 x + below 1 y + 32) (above 0 x + above 3 y + 40) (above 0 x + below 1 y + 48)
-    (below 4 x + below 1 y + 56) in
-    nearest x y 1 k (each_of_four (λ i. IsKey x y (4 * 1 + i) (k i) (distance_of (point_of (4 * 1 + i)) (sample_at x y)))
+    nearest x y 1 _ _ _ _
     (on x y 4 _ _ _ _ _ (omega arith) (above-4 x lx) (below-1 y ly) (omega arith))
     (on x y 5 _ _ _ _ _ (omega arith) (above-0 x lx) (above-3 y ly) (omega arith))
     (on x y 6 _ _ _ _ _ (omega arith) (above-0 x lx) (below-1 y ly) (omega arith))
-    (on x y 7 _ _ _ _ _ (omega arith) (below-4 x lx) (below-1 y ly) (omega arith)))
+    (on x y 7 _ _ _ _ _ (omega arith) (below-4 x lx) (below-1 y ly) (omega arith))
 
 pub nearest-010 : (x y : ℕ) → x < 65536 → y < 65536 → IsNearestKey x y 2 (nearest_010 x y)
 nearest-010 x y lx ly =
-    let k : ℕ → ℕ = four_keys (below 2 x + above 3 y + 64) (below 2 x + below 1 y + 72) (above 2 x + above 3 y + 80)
-    (above 2 x + below 1 y + 88) in
-    nearest x y 2 k (each_of_four (λ i. IsKey x y (4 * 2 + i) (k i) (distance_of (point_of (4 * 2 + i)) (sample_at x y)))
+    nearest x y 2 _ _ _ _
     (on x y 8 _ _ _ _ _ (omega arith) (below-2 x lx) (above-3 y ly) (omega arith))
     (on x y 9 _ _ _ _ _ (omega arith) (below-2 x lx) (below-1 y ly) (omega arith))
     (on x y 10 _ _ _ _ _ (omega arith) (above-2 x lx) (above-3 y ly) (omega arith))
-    (on x y 11 _ _ _ _ _ (omega arith) (above-2 x lx) (below-1 y ly) (omega arith)))
+    (on x y 11 _ _ _ _ _ (omega arith) (above-2 x lx) (below-1 y ly) (omega arith))
 
 pub nearest-011 : (x y : ℕ) → x < 65536 → y < 65536 → IsNearestKey x y 3 (nearest_011 x y)
 nearest-011 x y lx ly =
-    let k : ℕ → ℕ = four_keys (above 2 x + below 3 y + 96) (above 2 x + above 1 y + 104) (below 2 x + below 3 y + 112)
-    (below 2 x + above 1 y + 120) in
-    nearest x y 3 k (each_of_four (λ i. IsKey x y (4 * 3 + i) (k i) (distance_of (point_of (4 * 3 + i)) (sample_at x y)))
+    nearest x y 3 _ _ _ _
     (on x y 12 _ _ _ _ _ (omega arith) (above-2 x lx) (below-3 y ly) (omega arith))
     (on x y 13 _ _ _ _ _ (omega arith) (above-2 x lx) (above-1 y ly) (omega arith))
     (on x y 14 _ _ _ _ _ (omega arith) (below-2 x lx) (below-3 y ly) (omega arith))
-    (on x y 15 _ _ _ _ _ (omega arith) (below-2 x lx) (above-1 y ly) (omega arith)))
+    (on x y 15 _ _ _ _ _ (omega arith) (below-2 x lx) (above-1 y ly) (omega arith))
 
 pub nearest-100 : (x y : ℕ) → x < 65536 → y < 65536 → IsNearestKey x y 4 (nearest_100 x y)
 nearest-100 x y lx ly =
-    let k : ℕ → ℕ = four_keys (below 3 x + below 2 y + 128) (above 1 x + below 2 y + 136) (below 3 x + above 2 y + 144)
-    (above 1 x + above 2 y + 152) in
-    nearest x y 4 k (each_of_four (λ i. IsKey x y (4 * 4 + i) (k i) (distance_of (point_of (4 * 4 + i)) (sample_at x y)))
+    nearest x y 4 _ _ _ _
     (on x y 16 _ _ _ _ _ (omega arith) (below-3 x lx) (below-2 y ly) (omega arith))
     (on x y 17 _ _ _ _ _ (omega arith) (above-1 x lx) (below-2 y ly) (omega arith))
     (on x y 18 _ _ _ _ _ (omega arith) (below-3 x lx) (above-2 y ly) (omega arith))
-    (on x y 19 _ _ _ _ _ (omega arith) (above-1 x lx) (above-2 y ly) (omega arith)))
+    (on x y 19 _ _ _ _ _ (omega arith) (above-1 x lx) (above-2 y ly) (omega arith))
 
 pub nearest-101 : (x y : ℕ) → x < 65536 → y < 65536 → IsNearestKey x y 5 (nearest_101 x y)
 nearest-101 x y lx ly =
-    let k : ℕ → ℕ = four_keys (above 3 x + above 2 y + 160) (below 1 x + above 2 y + 168) (above 3 x + below 2 y + 176)
-    (below 1 x + below 2 y + 184) in
-    nearest x y 5 k (each_of_four (λ i. IsKey x y (4 * 5 + i) (k i) (distance_of (point_of (4 * 5 + i)) (sample_at x y)))
+    nearest x y 5 _ _ _ _
     (on x y 20 _ _ _ _ _ (omega arith) (above-3 x lx) (above-2 y ly) (omega arith))
     (on x y 21 _ _ _ _ _ (omega arith) (below-1 x lx) (above-2 y ly) (omega arith))
     (on x y 22 _ _ _ _ _ (omega arith) (above-3 x lx) (below-2 y ly) (omega arith))
-    (on x y 23 _ _ _ _ _ (omega arith) (below-1 x lx) (below-2 y ly) (omega arith)))
+    (on x y 23 _ _ _ _ _ (omega arith) (below-1 x lx) (below-2 y ly) (omega arith))
 
 pub nearest-110 : (x y : ℕ) → x < 65536 → y < 65536 → IsNearestKey x y 6 (nearest_110 x y)
 nearest-110 x y lx ly =
-    let k : ℕ → ℕ = four_keys (above 1 x + above 4 y + 192) (below 3 x + above 0 y + 200) (above 1 x + above 0 y + 208)
-    (above 1 x + below 4 y + 216) in
-    nearest x y 6 k (each_of_four (λ i. IsKey x y (4 * 6 + i) (k i) (distance_of (point_of (4 * 6 + i)) (sample_at x y)))
+    nearest x y 6 _ _ _ _
     (on x y 24 _ _ _ _ _ (omega arith) (above-1 x lx) (above-4 y ly) (omega arith))
     (on x y 25 _ _ _ _ _ (omega arith) (below-3 x lx) (above-0 y ly) (omega arith))
     (on x y 26 _ _ _ _ _ (omega arith) (above-1 x lx) (above-0 y ly) (omega arith))
-    (on x y 27 _ _ _ _ _ (omega arith) (above-1 x lx) (below-4 y ly) (omega arith)))
+    (on x y 27 _ _ _ _ _ (omega arith) (above-1 x lx) (below-4 y ly) (omega arith))
 
 pub nearest-111 : (x y : ℕ) → x < 65536 → y < 65536 → IsNearestKey x y 7 (nearest_111 x y)
 nearest-111 x y lx ly =
-    let k : ℕ → ℕ = four_keys (below 1 x + below 4 y + 224) (above 3 x + above 0 y + 232) (below 1 x + above 0 y + 240)
-    (below 1 x + above 4 y + 248) in
-    nearest x y 7 k (each_of_four (λ i. IsKey x y (4 * 7 + i) (k i) (distance_of (point_of (4 * 7 + i)) (sample_at x y)))
+    nearest x y 7 _ _ _ _
     (on x y 28 _ _ _ _ _ (omega arith) (below-1 x lx) (below-4 y ly) (omega arith))
     (on x y 29 _ _ _ _ _ (omega arith) (above-3 x lx) (above-0 y ly) (omega arith))
     (on x y 30 _ _ _ _ _ (omega arith) (below-1 x lx) (above-0 y ly) (omega arith))
-    (on x y 31 _ _ _ _ _ (omega arith) (below-1 x lx) (above-4 y ly) (omega arith)))
+    (on x y 31 _ _ _ _ _ (omega arith) (below-1 x lx) (above-4 y ly) (omega arith))

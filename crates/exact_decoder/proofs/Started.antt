@@ -1,6 +1,6 @@
 -- A decoder before its first sample.
-use Rattle.std.proofs.Common.{◌≡◌, ◌≢◌, ℕ, zero, suc, add-one, ◌+◌, ◌<◌, ◌≤◌, nat_eq, nat_lt, inl, inr, Bool, true, false, if◌then◌else◌}
-use Rattle.std.proofs.Common.{List, [], ◌∷◌, ◌++◌, length, get_or, replicate, set, Option, Some, None, arith, refl, sym, ◌∙◌, ap, subst}
+use Rattle.std.proofs.Common.{◌≡◌, ◌≢◌, ℕ, ◌<◌, ◌≤◌, nat_eq, nat_lt, inl, inr, Bool, true, false, if◌then◌else◌}
+use Rattle.std.proofs.Common.{List, [], ◌++◌, length, get_or, replicate, set, Option, Some, None, arith, refl, sym, ◌∙◌, ap, subst}
 use Rattle.std.proofs.lemmas.Grind.{common_steps}
 use Rattle.std.proofs.lemmas.Bool.{cases_lt, lt-ltb, le-ltb}
 use Rattle.std.proofs.lemmas.Bool.Decides.{nat_tests}
@@ -15,13 +15,6 @@ use Rattle.exact_decoder.specs.Kept.{Kept, KeepsSurvivors}
 use Rattle.exact_decoder.specs.Memory.{opened}
 use Rattle.exact_decoder.specs.Decoder.{Decoding, DecoderStands, heard}
 use Rattle.exact_decoder.proofs.Pushed.{released-of}
-
-pub replicate-more : {X : Type 0} (n : ℕ) (x : X) → replicate (n + 1) x ≡ replicate n x ++ x ∷ []
-replicate-more {X} n x = rw (add-one n) (each n)
-  where
-    each : (n : ℕ) → x ∷ replicate n x ≡ replicate n x ++ x ∷ []
-    each zero = refl
-    each (suc n) = ap (λ l. x ∷ l) (each n)
 
 pub get_or-replicate : {X : Type 0} (n i : ℕ) (x d : X) → i < n → get_or (replicate n x) i d ≡ x
 get_or-replicate n i x d l = grind (arith, common_steps)

@@ -1,5 +1,5 @@
 -- Why a call of a folder failed, told of all names of a tap.
-use Rattle.std.proofs.Common.{◌≡◌, inl, inr, ℕ, List, [], ◌∷◌, ◌++◌, Result, Ok, Err, IsErrOf, refl, subst}
+use Rattle.std.proofs.Common.{inl, inr, ℕ, List, [], ◌∷◌, ◌++◌, Result, Err, IsErrOf, refl, subst}
 use Rattle.outside_calls.specs.Folder.{FolderState, HasCause, Rose, FaultsStand, CountsStand}
 use Rattle.outside_calls.specs.declared.folder.FolderFault.{FolderFault}
 use Rattle.outside_calls.specs.declared.folder.FolderFault.TheVariants.{Failed, NoMemory}
@@ -29,10 +29,6 @@ pub read-among : (old new : FolderState) (front : List (List ℕ)) (name : List 
     → ReadFails old new (name ∷ []) fault → ReadFails old new (front ++ name ∷ behind) fault
 read-among old new front name behind Failed fails = some-rose old.read_faults new.read_faults front name behind fails
 read-among old new front name behind NoMemory fails = fails
-
--- a call that was made has no fault
-pub no-fault : {T P : Type 0} {x : T} {fault : FolderFault} → ◌≡◌ {A = Result T FolderFault} (Ok x) (Err fault) → P
-no-fault e = absurd cc
 
 -- calls that counted nothing come before the one that has a cause
 pub cause-earlier : {T : Type 0} (old mid new : FolderState) (name : List ℕ) (result : Result T FolderFault) → CountsStand old mid

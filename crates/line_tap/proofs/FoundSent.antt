@@ -231,13 +231,11 @@ sent-piece laws check sender dlci symbols phase bits frame few codable e =
 
 pub finds-none : (check : Check) (sender : Role) (dlci symbols phase : ℕ) (bits : List Bool)
     → bit_of bits (length (rest_of_flag phase) + 32) ≡ false → FindsSent check sender dlci symbols phase bits None
-finds-none check sender dlci symbols phase bits zero_there sent.Mark e codable is = absurd (false≢true (sym e))
-finds-none check sender dlci symbols phase bits zero_there sent.Odp e codable is = absurd (false≢true (sym e))
-finds-none check sender dlci symbols phase bits zero_there sent.Adp e codable is = absurd (false≢true (sym e))
 finds-none check sender dlci symbols phase bits zero_there sent.Flags e codable is = refl
 finds-none check sender dlci symbols phase bits zero_there (sent.Frame frame) e codable is =
     absurd (false≢true (sym zero_there ∙ ap (λ xs. bit_of xs (length (rest_of_flag phase) + 32)) is
     ∙ frame-begins check sender dlci (4 * symbols) phase frame))
+finds-none check sender dlci symbols phase bits zero_there other e codable is = absurd (false≢true (sym e))
 
 -- and else it was a frame, which is found
 pub record FindsThere (check : Check) (sender : Role) (dlci symbols phase : ℕ) (bits : List Bool) (found : Option Frame) : Type 0 where
@@ -247,14 +245,12 @@ pub record FindsThere (check : Check) (sender : Role) (dlci symbols phase : ℕ)
 pub finds-there : (check : Check) (sender : Role) (dlci symbols phase : ℕ) (bits : List Bool) (found : Option Frame)
     → HEAD + TAIL < symbols → phase < 8 → bit_of bits (length (rest_of_flag phase) + 32) ≡ true
     → FindsThere check sender dlci symbols phase bits found → FindsSent check sender dlci symbols phase bits found
-finds-there check sender dlci symbols phase bits found long low one k sent.Mark e codable is = absurd (false≢true (sym e))
-finds-there check sender dlci symbols phase bits found long low one k sent.Odp e codable is = absurd (false≢true (sym e))
-finds-there check sender dlci symbols phase bits found long low one k sent.Adp e codable is = absurd (false≢true (sym e))
 finds-there check sender dlci symbols phase bits found long low one k sent.Flags e codable is =
     absurd (false≢true (sym (flags-begin (4 * symbols) phase low (omega (arith, long)))
     ∙ ap (λ xs. bit_of xs (length (rest_of_flag phase) + 32)) (sym is) ∙ one))
 finds-there check sender dlci symbols phase bits found long low one k (sent.Frame frame) e codable is =
     ap flagged (k.frame frame codable is)
+finds-there check sender dlci symbols phase bits found long low one k other e codable is = absurd (false≢true (sym e))
 
 pub none-there : FoundLaws → (check : Check) (sender : Role) (dlci symbols phase : ℕ) (bits : List Bool) (found : Option Frame) → dlci < 64
     → wholes (pieces_of (drop (length (rest_of_flag phase) + 24) bits)) ≡ [] → FindsThere check sender dlci symbols phase bits found

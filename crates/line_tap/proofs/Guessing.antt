@@ -81,19 +81,15 @@ frame-found check role dlci symbols phase frame read found k codable e = by foun
 
 plain-next : (check : Check) (role : Role) (dlci symbols : ℕ) (sigs : List Signal) (s : Sent) → is_plain s ≡ true
     → next_of check role dlci symbols sigs s ≡ plain_bits (4 * symbols) s
-plain-next check role dlci symbols sigs sent.Mark e = refl
-plain-next check role dlci symbols sigs sent.Odp e = refl
-plain-next check role dlci symbols sigs sent.Adp e = refl
 plain-next check role dlci symbols sigs sent.Flags e = absurd (false≢true e)
 plain-next check role dlci symbols sigs (sent.Frame frame) e = absurd (false≢true e)
+plain-next check role dlci symbols sigs other e = refl
 
 plain-codable : (check : Check) (role : Role) (dlci symbols phase : ℕ) (s : Sent) → is_plain s ≡ true
     → IsCodable check role dlci symbols phase s
-plain-codable check role dlci symbols phase sent.Mark e = tt
-plain-codable check role dlci symbols phase sent.Odp e = tt
-plain-codable check role dlci symbols phase sent.Adp e = tt
 plain-codable check role dlci symbols phase sent.Flags e = absurd (false≢true e)
 plain-codable check role dlci symbols phase (sent.Frame frame) e = absurd (false≢true e)
+plain-codable check role dlci symbols phase other e = tt
 
 -- a guess by the bits alone
 plain-right : GuessLaws → (check : Check) (role : Role) (dlci symbols : ℕ) (sigs : List Signal) (s guess : Sent) (read : List Bool)

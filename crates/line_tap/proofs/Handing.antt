@@ -5,7 +5,7 @@ use Rattle.std.proofs.lemmas.Bool.{false≢true}
 use Rattle.std.proofs.lemmas.Bool.Decides.{nat_tests}
 use Rattle.std.proofs.lemmas.List.{append-nil, append_assoc}
 use Rattle.std.proofs.lemmas.List.Folds.{concat-append}
-use Rattle.std.specs.Prelude.{slice_index_or, is_some, unwrap_or}
+use Rattle.std.specs.Prelude.{slice_index_or, is_some}
 use Rattle.std.specs.List.{concat}
 use Rattle.outside_calls.specs.Folder.{FolderState, GoesOn, Appended, PartlyAppended, Adds}
 use Rattle.lapm_receiver.specs.Incoming.{Incoming, after_delivered, next_delivered}
@@ -38,9 +38,6 @@ handing-starts start name r i h = record { given = i.given; stands = h; front = 
 pub record Next (r : Taking) (i : Incoming) (given : ℕ) (segment : List ℕ) : Type 0 where
   pub first : drop given i.taken ≡ segment ∷ drop (given + 1) i.taken
   pub within : given < length i.taken
-
-some-of : {x y : List ℕ} → Some x ≡ Some y → x ≡ y
-some-of {x} e = ap (λ o. unwrap_or o x) e
 
 -- the receiver had one: it is the segment that it copied
 pub next-is : (r : Taking) (i : Incoming) (given : ℕ) (segment : List ℕ) → true ≡ is_some (next_delivered (record i { given = given }))

@@ -82,7 +82,4 @@ pub stop-widened : (old new : FolderState) (some all outputs : List (List ℕ)) 
     → StopCounts old new all outputs stop
 stop-widened old new some all outputs (Own answer) wide counts = counts
 stop-widened old new some all outputs (Read folder.Failed) wide counts = wide counts
-stop-widened old new some all outputs (Read folder.NoMemory) wide counts = counts
-stop-widened old new some all outputs (Write fault) wide counts = counts
-stop-widened old new some all outputs (Say fault) wide counts = counts
-stop-widened old new some all outputs NoMemory wide counts = counts
+stop-widened old new some all outputs other wide counts = counts

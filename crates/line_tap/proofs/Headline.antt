@@ -7,7 +7,7 @@ use Rattle.outside_calls.specs.Folder.{FolderState}
 use Rattle.outside_calls.specs.Outputs.{KeepsAll, KeepsEach, OnlyOutputs}
 use Rattle.outside_calls.proofs.Putting.{HoldEach-kept}
 use Rattle.line_tap.specs.Answers.{stop_by}
-use Rattle.line_tap.specs.Ends.{TapEnd, TapOf}
+use Rattle.line_tap.specs.Ends.{TapEnd}
 use Rattle.line_tap.specs.Ends as ends
 use Rattle.command_base.specs.declared.status.Status.{Status}
 use Rattle.command_base.specs.declared.status.Status.TheVariants.{Done, LineLost, ChanceMatch, BadTap}

@@ -22,7 +22,7 @@ use Rattle.line_run.specs.Laws.{SlotsTellWhatWasSent}
 use Rattle.link_run.specs.Run.{Spoken, Side, Turn}
 use Rattle.link_run.specs.Trace.{trace_text}
 use Rattle.link_run.specs.Listened.{check_by, judged_by, received, given_to}
-use Rattle.line_run.specs.Sampled.{Wire, signals, bits_of, ArrivesAs, IsHeardOf, IsHeardWell, HeardIn, LineEnd, LosesLine}
+use Rattle.line_run.specs.Sampled.{Wire, signals, bits_of, IsHeardOf, IsHeardWell, LineEnd}
 use Rattle.line_run.specs.Sampled as lines
 use Rattle.line_run.specs.LineLaws.{HeardOnce, OneLineEndBy, EndsOrIsHeard}
 use Rattle.line_run.specs.Ends.{Left}

@@ -96,5 +96,4 @@ pub none-plain : (size : ℕ) (bits : List Bool) → (bits ≡ ones size → ⊥
 none-plain size bits a b c sent.Mark e k = a k
 none-plain size bits a b c sent.Odp e k = b k
 none-plain size bits a b c sent.Adp e k = c k
-none-plain size bits a b c sent.Flags e k = false≢true e
-none-plain size bits a b c (sent.Frame frame) e k = false≢true e
+none-plain size bits a b c other e k = false≢true e

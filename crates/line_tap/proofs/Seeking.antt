@@ -21,6 +21,7 @@ use Rattle.bit_stuffing.proofs.Written.{length-line_bits}
 use Rattle.sample_line.proofs.Finding.{wholes-append}
 use Rattle.sample_line.proofs.Standing.{slot-part}
 use Rattle.line_tap.specs.Seeking.{EndsFirst, part}
+use Rattle.command_base.proofs.Hearing.{octet-fours as two-quads}
 
 -- ---- bits more
 
@@ -67,16 +68,6 @@ quad-more quads from place quad low even within e =
     ∙ ap (drop from) (slot-part quads k inside)
     ∙ ap (drop from) (sym (quads-front (k + 1) quads (omega (arith, inside))) ∙ ap (λ n. take n (line_bits quads)) next)
 
--- an octet is two quads
-two-quads : (octet : ℕ) → low_bits 4 (octet % 16) ++ low_bits 4 (octet / 16) ≡ octet_bits octet
-two-quads octet =
-    let a : octet % 16 % 2 ≡ octet % 2 = omega arith in
-    let b : octet % 16 / 2 % 2 ≡ octet / 2 % 2 = omega arith in
-    let c : octet % 16 / 2 / 2 % 2 ≡ octet / 2 / 2 % 2 = omega arith in
-    let d : octet % 16 / 2 / 2 / 2 % 2 ≡ octet / 2 / 2 / 2 % 2 = omega arith in
-    let e : octet / 16 ≡ octet / 2 / 2 / 2 / 2 = omega arith in
-    rw (a, b, c, d, e) refl
-
 pub octet-more : (quads : List ℕ) (from place first second : ℕ) → from ≤ place → place % 4 ≡ 0 → place + 4 < 4 * length quads
     → first < 16 → first ≡ slice_index quads (place / 4) → second ≡ slice_index quads (place / 4 + 1)
     → part (line_bits quads) from place ++ octet_bits (first + 16 * second) ≡ part (line_bits quads) from (place + 8)
@@ -102,10 +93,7 @@ no-whole (Some found) other = go found.piece refl
   where
     go : (piece : Piece) → found.piece ≡ piece → octets_if_whole piece found.octets ++ [] ≡ []
     go Whole e = absurd (other (ap Some e))
-    go Piece.Ragged e = refl
-    go Piece.Aborted e = refl
-    go Piece.TooLong e = refl
-    go Piece.TooShort e = refl
+    go other e = refl
 
 pub none-more : (bits : List Bool) (from place : ℕ) → from ≤ place → place < length bits
     → (option_map (λ (f : Found). f.piece) (found_at (part bits from (place + 1))) ≡ Some Whole → ⊥)

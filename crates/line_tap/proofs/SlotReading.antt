@@ -46,8 +46,7 @@ use Rattle.line_tap.specs.Labels.{AreLabels, ReadsLabels}
 use Rattle.line_tap.specs.Reading.{IsGuess}
 use Rattle.line_tap.specs.Reader.{ReaderStands, IsNext, carries}
 use Rattle.line_tap.specs.Seeking.{AreBitsOf, EndsAt, EndsBy, FindsSent, IsAt, Lends}
-use Rattle.line_tap.proofs.Coding.{points-tell}
-use Rattle.line_tap.proofs.Coding.{small as few-labels}
+use Rattle.line_tap.proofs.Coding.{points-tell, small as few-labels}
 use Rattle.line_tap.proofs.Guessing.{GuessLaws, same-bits, guess-right, phase_of}
 
 abbrev bits_before : SlotReader → List Signal → List Bool

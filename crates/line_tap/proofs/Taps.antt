@@ -16,11 +16,10 @@ use Rattle.command_base.proofs.Creating.{CreatesPart-earlier}
 use Rattle.command_base.proofs.Reading.{ReadTo-kept}
 use Rattle.command_base.proofs.Jobs.{refusal-own}
 use Rattle.run_inputs.specs.declared.limits.Limits.{Limits}
-use Rattle.line_tap.specs.declared.limits.TheConstants.{TAP_LIMIT}
+use Rattle.line_tap.specs.declared.limits.TheConstants.{TAP_LIMIT, LIMITS}
 use Rattle.line_tap.specs.Names.{TapNames, inputs_of, outputs_of, recordings_of}
 use Rattle.line_tap.specs.Tap.{AreReadTo}
 use Rattle.line_tap.specs.Turns.{TurnsEnd, no_octets}
-use Rattle.line_tap.specs.declared.limits.TheConstants.{LIMITS}
 use Rattle.line_tap.proofs.HeaderRead.{header-read, stop-widened}
 use Rattle.line_tap.specs.Outcomes.{IsBegun, IsRefused, TappedBy, StopsCreating, EndsBy, Ends}
 

@@ -35,18 +35,17 @@ use Rattle.line_texts.specs.LineText.{chance_line}
 use Rattle.line_run.specs.Fitting.{AreFit}
 use Rattle.line_run.specs.Laws.{OneMoreFits, SlotsHaveSize, CodableFits, CodableIsSendable, SpelledInOctets}
 use Rattle.link_account.specs.Account.{check_of}
-use Rattle.link_run.specs.Run.{Link, Accounts, Spoken, Turn, spoken, RunOf, GoingTurn, IsSilent}
+use Rattle.link_run.specs.Run.{Link, Accounts, Spoken, Turn, spoken, RunOf, IsSilent}
 use Rattle.link_run.specs.Run as run
 use Rattle.link_run.specs.Laws.{RunsOver}
 use Rattle.link_run.specs.Overheard.{agreed_terms, SendsAgreedCheck}
 use Rattle.link_run.specs.Trace.{trace_text}
 use Rattle.link_run.specs.Listened.{check_by, judged_by, given_to, HearsByLine, StaysKnownByLine, RunsByLine}
-use Rattle.line_run.specs.Sampled.{Wire, IsAlone, signal_in, and_then, signals, bits_of, IsHeardOf, IsHeardWell, HeardIn, LineRun, LineEnd}
-use Rattle.line_run.specs.Sampled.{LosesLine}
+use Rattle.line_run.specs.Sampled.{Wire, IsAlone, signals, bits_of, IsHeardOf, IsHeardWell, HeardIn, LineRun, LineEnd}
 use Rattle.line_run.specs.Sampled as lines
 use Rattle.line_run.specs.LineLaws.{SamplesAreCarried, OneIsCarried}
 use Rattle.line_run.specs.Scripted.{wire_of, link_of, ScriptsMayPlay, ScriptsHaveDelays, SlotsHaveRoom}
-use Rattle.line_run.specs.Ends.{RunEnd, Left, RunsTo}
+use Rattle.line_run.specs.Ends.{RunEnd, Left}
 use Rattle.line_run.specs.Ends as runs
 use Rattle.line_tap.specs.Tapping.{tapping, phase_behind, next_bits, octets_of, HoldsNext, Hears, Tells}
 use Rattle.line_tap.specs.Ends.{EndsWhole, EndsLine, EndsOnLine, EndsBy, told_end}
@@ -58,6 +57,7 @@ use Rattle.line_tap.proofs.Plain.{plain-received, plain-given_to, plain-text, Al
 use Rattle.line_tap.proofs.Plain.{heard_of-plain, well-plain, heard_in-plain, loses-plain}
 use Rattle.sample_line.proofs.Once.{length-modulated}
 use Rattle.line_tap.proofs.Coding.{modulates-front, recorded-back}
+use Rattle.line_run.proofs.Recordings.{tap-some}
 
 pub record TellingLaws : Type 0 where
   pub play : ScriptsMayPlay
@@ -105,10 +105,6 @@ length-bits laws c role ts alone long low s k =
     let h = all-fit laws c role ts alone low s k in
     laws.size (4 * c.symbols) (signals c role ts) (omega (arith, long)) h.0 ∙ ap (λ n. 4 * c.symbols * n) h.1
     ∙ mul_assoc 4 c.symbols (length ts)
-
-tap-some : (role : Role) → 1 ≤ tap_of (mode_of role)
-tap-some Originator = omega arith
-tap-some Answerer = omega arith
 
 take-take : {X : Type 0} (n m : ℕ) (xs : List X) → n ≤ m → take n (take m xs) ≡ take n xs
 take-take n m xs l = grind (arith, common_steps)

@@ -1,7 +1,6 @@
 -- What a turn of a tap comes to, at each of its ways out.
-use Rattle.std.proofs.Common.{◌≡◌, ◌⊎◌, inl, inr, ℕ, ◌+◌, ◌*◌, ◌^◌, ◌<◌, ◌≤◌, IsTrue, List, [], ◌∷◌, ◌++◌, length, take, arith}
-use Rattle.std.proofs.Common.{length-append}
-use Rattle.std.proofs.Common.{refl, sym, ◌∙◌, ap, subst, append-nil, append_assoc, None, Result, Ok, Err}
+use Rattle.std.proofs.Common.{◌≡◌, ◌⊎◌, inl, inr, ℕ, ◌+◌, ◌*◌, ◌^◌, ◌<◌, ◌≤◌, IsTrue, List, [], ◌∷◌, ◌++◌, length, take, arith, min}
+use Rattle.std.proofs.Common.{length-append, refl, sym, ◌∙◌, ap, subst, append-nil, append_assoc, None, Result, Ok, Err}
 use Rattle.std.proofs.lemmas.Bool.{cases_lt}
 use Rattle.std.proofs.lemmas.List.{length-take}
 use Rattle.std.specs.List.{concat}
@@ -93,12 +92,16 @@ pub record ReadsPieces (start a b : FolderState) (n : TapNames) (at : ℕ) (orig
 abbrev read_pieces_of : Both (List ℕ) → ℕ → ℕ → List ℕ → List ℕ → Both (List ℕ)
 read_pieces_of bodies orig answ of_orig of_answ = and_pieces bodies (take orig of_orig) (take answ of_answ)
 
+-- how long a body is with what was read of a piece
+read-length : (body piece : List ℕ) (count : ℕ) → length (body ++ take count piece) ≡ length body + min count (length piece)
+read-length body piece count = omega (arith, length-append {A = ℕ} body (take count piece), length-take count piece)
+
 read-so : (start b : FolderState) (name header body piece : List ℕ) (at count : ℕ) → at ≡ HEADER + length body → count ≤ length piece
     → ReadTo start b name TAP_LIMIT (at + count) ((header ++ body) ++ take count piece)
     → ReadTo start b name TAP_LIMIT (HEADER + length (body ++ take count piece)) (header ++ (body ++ take count piece))
 read-so start b name header body piece at count e few h =
     let n : at + count ≡ HEADER + length (body ++ take count piece) =
-    omega (arith, e, few, length-append {A = ℕ} body (take count piece), length-take count piece) in
+    omega (arith, e, few, read-length body piece count) in
     subst (λ m. ReadTo start b name TAP_LIMIT m (header ++ (body ++ take count piece))) n
     (subst (ReadTo start b name TAP_LIMIT (at + count)) (append_assoc header body (take count piece)) h)
 
@@ -139,8 +142,7 @@ read-out start a b n x ts at orig answ of_orig of_answ eo ea h r count ro ra Ori
       count Originator,
       ro,
       octets-next (line_of x) (length ts),
-      length-append {A = ℕ} x.bodies.orig (take orig of_orig),
-      length-take orig of_orig,
+      read-length x.bodies.orig of_orig orig,
     )) told
 read-out start a b n x ts at orig answ of_orig of_answ eo ea h r count ro ra Answerer less told =
     out-so start a n.rec_a (header_of (mode_of Answerer)) x.bodies.answ of_answ at answ ea r.end_answ (h Answerer)
@@ -151,8 +153,7 @@ read-out start a b n x ts at orig answ of_orig of_answ eo ea h r count ro ra Ans
       count Answerer,
       ra,
       octets-next (line_of x) (length ts),
-      length-append {A = ℕ} x.bodies.answ (take answ of_answ),
-      length-take answ of_answ,
+      read-length x.bodies.answ of_answ answ,
     )) told
 
 -- ---- what is left
@@ -366,21 +367,6 @@ put-still : (tap : Tap) (start a b c : FolderState) (n : TapNames) (x : Tapping)
 put-still tap start a b c n x ts h counts k =
     AddEach-kept a b c (outputs_of n) (got_pieces x ts h.heard) k.only.goes_on k.put (KeepsEach-reads b c (outputs_of n) k.reads)
 
--- and the lines are written, or a part of them
-put-lines : (tap : Tap) (start a b c d : FolderState) (n : TapNames) (x : Tapping) (ts : List Turn) (h : Hearing) (counts : Both ℕ)
-    (text : List ℕ) → HasPieces tap start a b c n x ts h counts → OnlyWrites c d n.trace → Appended c d n.trace text
-    → AddEach a d (outputs_of n) (held_of (added x ts (silent_in x ts h.heard) text))
-put-lines tap start a b c d n x ts h counts text k w put =
-    AddEach-next a c d (n.got_o ∷ n.got_a ∷ []) n.trace [] (got_pieces x ts h.heard) text tt k.apart.0 (goes-on-to a b c n k.only k.reads)
-    (put-still tap start a b c n x ts h counts k) w (inr put)
-
-part-lines : (tap : Tap) (start a b c d : FolderState) (n : TapNames) (x : Tapping) (ts : List Turn) (h : Hearing) (counts : Both ℕ)
-    (text : List ℕ) → HasPieces tap start a b c n x ts h counts → OnlyWrites c d n.trace → PartlyAppended c d n.trace text
-    → AddPart a d (outputs_of n) (held_of (added x ts (silent_in x ts h.heard) text))
-part-lines tap start a b c d n x ts h counts text k w part =
-    AddPart-next a c d (n.got_o ∷ n.got_a ∷ []) n.trace [] (got_pieces x ts h.heard) text tt k.apart.0 (goes-on-to a b c n k.only k.reads)
-    (put-still tap start a b c n x ts h counts k) w part
-
 -- ---- nothing was read
 
 silent : (x : Tapping) (ts : List Turn) (heard : Both Heard) → IsSilent (silent_in x ts heard)
@@ -398,75 +384,9 @@ none-more : (tap : Tap) (x : Tapping) (ts : List Turn) (counts : Both ℕ) → I
     → (role : Role)
     → length (of role (read_of tap x counts)) ≤ octets_of (line_of x) (length ts)
 none-more tap x ts counts h eo ea Originator =
-    omega (
-      arith,
-      h.orig.count,
-      eo,
-      length-append {A = ℕ} x.bodies.orig (take counts.orig tap.orig.piece.items),
-      length-take counts.orig tap.orig.piece.items,
-    )
+    omega (arith, h.orig.count, eo, read-length x.bodies.orig tap.orig.piece.items counts.orig)
 none-more tap x ts counts h eo ea Answerer =
-    omega (
-      arith,
-      h.answ.count,
-      ea,
-      length-append {A = ℕ} x.bodies.answ (take counts.answ tap.answ.piece.items),
-      length-take counts.answ tap.answ.piece.items,
-    )
-
-pub ends-whole : KeepsTaken → (tap : Tap) (start a b c d : FolderState) (n : TapNames) (x : Tapping) (ts : List Turn) (h : Hearing)
-    (counts : Both ℕ) (turns : ℕ)
-    → HasPieces tap start a b c n x ts h counts → counts.orig ≡ 0 → counts.answ ≡ 0 → turns ≡ length ts + 1 → OnlyWrites c d n.trace
-    → Appended c d n.trace (turn_text (length ts) (silent_in x ts h.heard))
-    → EndsReading start a d n x ts (ends.IsDone turns)
-unfolding last-hears
-ends-whole law tap start a b c d n x ts h counts turns k eo ea number w put =
-    let t : Turn = silent_in x ts h.heard in
-    let y : Tapping = now_of tap x counts in (
-      record {
-        others = read_of tap x counts;
-        read = read-later start c d n (read_of tap x counts) k.apart (OnlyPuts-one c d (n.got_o ∷ n.got_a ∷ []) n.trace [] w)
-            k.pieces.read;
-        tells = tells-now tap x ts counts k.pieces.turn.behind.tells;
-        more = added x ts t (turn_text (length ts) t);
-        ended = record {
-          number = number;
-          last = last-hears y ts h (hears-now tap x ts h counts k.hears);
-          none = none-more tap x ts counts k.pieces.turn.behind eo ea;
-          leaves = leaves-turn law y ts t (turn_text (length ts) t);
-        };
-        writes = put-lines tap start a b c d n x ts h counts (turn_text (length ts) t) k w put;
-      },
-      k.pieces.out,
-    )
-
-pub stops-ending : (tap : Tap) (start a b c d : FolderState) (n : TapNames) (x : Tapping) (ts : List Turn) (h : Hearing) (counts : Both ℕ)
-    → HasPieces tap start a b c n x ts h counts → counts.orig ≡ 0 → counts.answ ≡ 0 → OnlyWrites c d n.trace
-    → PartlyAppended c d n.trace (turn_text (length ts) (silent_in x ts h.heard)) → StopsInTurn start a d n x ts
-unfolding last-hears
-stops-ending tap start a b c d n x ts h counts k eo ea w part =
-    let t : Turn = silent_in x ts h.heard in
-    let y : Tapping = now_of tap x counts in
-    record {
-      others = read_of tap x counts;
-      read = read-later start c d n (read_of tap x counts) k.apart (OnlyPuts-one c d (n.got_o ∷ n.got_a ∷ []) n.trace [] w)
-          k.pieces.read;
-      tells = tells-now tap x ts counts k.pieces.turn.behind.tells;
-      more = added x ts t (turn_text (length ts) t);
-      adds = inr (inl (
-        record {
-          turn = t;
-          makes = inr (record {
-            hears = (last-hears y ts h (hears-now tap x ts h counts k.hears)).hears;
-            silent = silent x ts h.heard;
-            none = none-more tap x ts counts k.pieces.turn.behind eo ea;
-          });
-          is = refl;
-        },
-        k.pieces.out,
-      ));
-      writes = part-lines tap start a b c d n x ts h counts (turn_text (length ts) t) k w part;
-    }
+    omega (arith, h.answ.count, ea, read-length x.bodies.answ tap.answ.piece.items counts.answ)
 
 -- ---- a slot is refused
 
@@ -479,14 +399,7 @@ some-more tap x ts counts h fo fa some = by (cases_lt 0 counts.orig)
         × (octets_of (line_of x) (length ts) < length (of side (read_of tap x counts)))
     by (inl l) = (
       Originator,
-      omega (
-        arith,
-        h.orig.count,
-        l,
-        fo,
-        length-append {A = ℕ} x.bodies.orig (take counts.orig tap.orig.piece.items),
-        length-take counts.orig tap.orig.piece.items,
-      ),
+      omega (arith, h.orig.count, l, fo, read-length x.bodies.orig tap.orig.piece.items counts.orig),
     )
     by (inr none) = (Answerer, at)
       where
@@ -494,14 +407,7 @@ some-more tap x ts counts h fo fa some = by (cases_lt 0 counts.orig)
         answ-some = elim (cases_lt 0 counts.answ) [ inl l ↦ l | inr m ↦ absurd (some (omega (arith, none)) (omega (arith, m))) ]
 
         at : octets_of (line_of x) (length ts) < length (of Answerer (read_of tap x counts))
-        at = omega (
-          arith,
-          h.answ.count,
-          answ-some,
-          fa,
-          length-append {A = ℕ} x.bodies.answ (take counts.answ tap.answ.piece.items),
-          length-take counts.answ tap.answ.piece.items,
-        )
+        at = omega (arith, h.answ.count, answ-some, fa, read-length x.bodies.answ tap.answ.piece.items counts.answ)
 
 pub ends-badly : KeepsTaken → (tap : Tap) (start a b c : FolderState) (n : TapNames) (x : Tapping) (ts : List Turn) (h : Hearing)
     (counts : Both ℕ)
@@ -553,34 +459,94 @@ to-go tap new x ts h counts slots k so read script turn at lo la po pa = record 
   answ_room = rw pa k.behind.answ_room;
 }
 
-pub goes-on-by : (tap new : Tap) (start a b c d : FolderState) (n : TapNames) (x : Tapping) (ts : List Turn) (h : Hearing) (counts : Both ℕ)
-    (slots : Both Slot) → HasPieces tap start a b c n x ts h counts
-    → TapAfter new (now_of tap x counts) (going_in (now_of tap x counts) ts h.heard slots ∷ ts)
-    → OnlyWrites c d n.trace
-    → Appended c d n.trace (turn_text (length ts) (going_in (now_of tap x counts) ts h.heard slots)) → GoesOnBy new start a d n x ts
-goes-on-by tap new start a b c d n x ts h counts slots k after w put = record {
-  others = read_of tap x counts;
-  read = read-later start c d n (read_of tap x counts) k.apart (OnlyPuts-one c d (n.got_o ∷ n.got_a ∷ []) n.trace [] w) k.pieces.read;
-  turn = going_in (now_of tap x counts) ts h.heard slots;
-  after = after;
-  writes = put-lines tap start a b c d n x ts h counts (turn_text (length ts) (going_in (now_of tap x counts) ts h.heard slots)) k w put;
-}
+module _ (tap : Tap) (start a b c d : FolderState) (n : TapNames) (x : Tapping) (ts : List Turn) (h : Hearing) (counts : Both ℕ)
+    (k : HasPieces tap start a b c n x ts h counts) (w : OnlyWrites c d n.trace) where
+  -- and the lines are written, or a part of them
+  put-lines : (text : List ℕ) → Appended c d n.trace text → AddEach a d (outputs_of n) (held_of (added x ts (silent_in x ts h.heard) text))
+  put-lines text put =
+      AddEach-next a c d (n.got_o ∷ n.got_a ∷ []) n.trace [] (got_pieces x ts h.heard) text tt k.apart.0 (goes-on-to a b c n k.only k.reads)
+      (put-still tap start a b c n x ts h counts k) w (inr put)
 
-pub stops-going : (tap mid : Tap) (start a b c d : FolderState) (n : TapNames) (x : Tapping) (ts : List Turn) (h : Hearing)
-    (counts : Both ℕ)
-    (slots : Both Slot) → HasPieces tap start a b c n x ts h counts → IsToGo mid (now_of tap x counts) ts h slots → OnlyWrites c d n.trace
-    → PartlyAppended c d n.trace (turn_text (length ts) (going_in (now_of tap x counts) ts h.heard slots)) → StopsInTurn start a d n x ts
-stops-going tap mid start a b c d n x ts h counts slots k go w part =
-    let y : Tapping = now_of tap x counts in
-    let t : Turn = going_in y ts h.heard slots in
-    record {
-      others = read_of tap x counts;
-      read = read-later start c d n (read_of tap x counts) k.apart (OnlyPuts-one c d (n.got_o ∷ n.got_a ∷ []) n.trace [] w) k.pieces.read;
-      tells = tells-now tap x ts counts k.pieces.turn.behind.tells;
-      more = added x ts t (turn_text (length ts) t);
-      adds = inr (inl (record { turn = t; makes = inl (goes-on y ts mid h slots go); is = refl }, k.pieces.out));
-      writes = part-lines tap start a b c d n x ts h counts (turn_text (length ts) t) k w part;
-    }
+  part-lines : (text : List ℕ) → PartlyAppended c d n.trace text
+      → AddPart a d (outputs_of n) (held_of (added x ts (silent_in x ts h.heard) text))
+  part-lines text part =
+      AddPart-next a c d (n.got_o ∷ n.got_a ∷ []) n.trace [] (got_pieces x ts h.heard) text tt k.apart.0 (goes-on-to a b c n k.only k.reads)
+      (put-still tap start a b c n x ts h counts k) w part
+
+  pub ends-whole : KeepsTaken → (turns : ℕ) → counts.orig ≡ 0 → counts.answ ≡ 0 → turns ≡ length ts + 1
+      → Appended c d n.trace (turn_text (length ts) (silent_in x ts h.heard)) → EndsReading start a d n x ts (ends.IsDone turns)
+  unfolding last-hears
+  ends-whole law turns eo ea number put =
+      let t : Turn = silent_in x ts h.heard in
+      let y : Tapping = now_of tap x counts in (
+        record {
+          others = read_of tap x counts;
+          read = read-later start c d n (read_of tap x counts) k.apart (OnlyPuts-one c d (n.got_o ∷ n.got_a ∷ []) n.trace [] w)
+              k.pieces.read;
+          tells = tells-now tap x ts counts k.pieces.turn.behind.tells;
+          more = added x ts t (turn_text (length ts) t);
+          ended = record {
+            number = number;
+            last = last-hears y ts h (hears-now tap x ts h counts k.hears);
+            none = none-more tap x ts counts k.pieces.turn.behind eo ea;
+            leaves = leaves-turn law y ts t (turn_text (length ts) t);
+          };
+          writes = put-lines (turn_text (length ts) t) put;
+        },
+        k.pieces.out,
+      )
+
+  pub stops-ending : counts.orig ≡ 0 → counts.answ ≡ 0 → PartlyAppended c d n.trace (turn_text (length ts) (silent_in x ts h.heard))
+      → StopsInTurn start a d n x ts
+  unfolding last-hears
+  stops-ending eo ea part =
+      let t : Turn = silent_in x ts h.heard in
+      let y : Tapping = now_of tap x counts in
+      record {
+        others = read_of tap x counts;
+        read = read-later start c d n (read_of tap x counts) k.apart (OnlyPuts-one c d (n.got_o ∷ n.got_a ∷ []) n.trace [] w)
+            k.pieces.read;
+        tells = tells-now tap x ts counts k.pieces.turn.behind.tells;
+        more = added x ts t (turn_text (length ts) t);
+        adds = inr (inl (
+          record {
+            turn = t;
+            makes = inr (record {
+              hears = (last-hears y ts h (hears-now tap x ts h counts k.hears)).hears;
+              silent = silent x ts h.heard;
+              none = none-more tap x ts counts k.pieces.turn.behind eo ea;
+            });
+            is = refl;
+          },
+          k.pieces.out,
+        ));
+        writes = part-lines (turn_text (length ts) t) part;
+      }
+
+  pub goes-on-by : (new : Tap) (slots : Both Slot)
+      → TapAfter new (now_of tap x counts) (going_in (now_of tap x counts) ts h.heard slots ∷ ts)
+      → Appended c d n.trace (turn_text (length ts) (going_in (now_of tap x counts) ts h.heard slots)) → GoesOnBy new start a d n x ts
+  goes-on-by new slots after put = record {
+    others = read_of tap x counts;
+    read = read-later start c d n (read_of tap x counts) k.apart (OnlyPuts-one c d (n.got_o ∷ n.got_a ∷ []) n.trace [] w) k.pieces.read;
+    turn = going_in (now_of tap x counts) ts h.heard slots;
+    after = after;
+    writes = put-lines (turn_text (length ts) (going_in (now_of tap x counts) ts h.heard slots)) put;
+  }
+
+  pub stops-going : (mid : Tap) (slots : Both Slot) → IsToGo mid (now_of tap x counts) ts h slots
+      → PartlyAppended c d n.trace (turn_text (length ts) (going_in (now_of tap x counts) ts h.heard slots)) → StopsInTurn start a d n x ts
+  stops-going mid slots go part =
+      let y : Tapping = now_of tap x counts in
+      let t : Turn = going_in y ts h.heard slots in
+      record {
+        others = read_of tap x counts;
+        read = read-later start c d n (read_of tap x counts) k.apart (OnlyPuts-one c d (n.got_o ∷ n.got_a ∷ []) n.trace [] w) k.pieces.read;
+        tells = tells-now tap x ts counts k.pieces.turn.behind.tells;
+        more = added x ts t (turn_text (length ts) t);
+        adds = inr (inl (record { turn = t; makes = inl (goes-on y ts mid h slots go); is = refl }, k.pieces.out));
+        writes = part-lines (turn_text (length ts) t) part;
+      }
 
 -- a whole slot was read of each recording
 pub whole-orig : (tap mid : Tap) (x : Tapping) (ts : List Turn) (h : Hearing) (counts : Both ℕ) (slots : Both Slot)
@@ -594,8 +560,7 @@ whole-orig tap mid x ts h counts slots k few go =
       k.behind.orig.count,
       k.behind.orig_room,
       octets-next (line_of x) (length ts),
-      length-append {A = ℕ} x.bodies.orig (take counts.orig tap.orig.piece.items),
-      length-take counts.orig tap.orig.piece.items,
+      read-length x.bodies.orig tap.orig.piece.items counts.orig,
     )
 
 -- a piece has octets

@@ -17,7 +17,7 @@ use Rattle.link_run.specs.Listened.{check_by}
 use Rattle.line_run.specs.Sampled.{LineEnd}
 use Rattle.line_run.specs.Ends.{Left}
 use Rattle.line_tap.specs.Tapping.{Tapping, line_of, terms_of, octets_of, HoldsNext}
-use Rattle.line_tap.specs.Ends.{TapEnd, EndsBy, EndsWhole, EndsBadly, EndsOnLine, HoldsNone, IsFirstRefused, Leaves, LastHears, TapOf}
+use Rattle.line_tap.specs.Ends.{EndsBy, EndsOnLine, IsFirstRefused, Leaves, LastHears}
 use Rattle.line_tap.specs.Ends as ends
 use Rattle.line_tap.specs.Names.{TapNames, recording_of}
 use Rattle.line_tap.specs.Turn.{MakesTurn, AddsGot, AddsTurn, Adds}

@@ -2,8 +2,7 @@
 use Rattle.std.proofs.Common.{◌≡◌, ℕ, List, [], ◌++◌, take, IsTrue, refl, sym, ◌∙◌, ap, subst}
 use Rattle.outside_calls.specs.Folder.{FolderState, KeepsName, GoesOn, OnlyWrites, CountsStand, Rose}
 use Rattle.outside_calls.proofs.Steps.{told_later, octets-kept, FaultsStand-trans, CountsStand-trans}
-use Rattle.outside_calls.specs.Outputs.{KeepsEach}
-use Rattle.outside_calls.specs.Outputs.{AreApartFrom, OnlyPuts}
+use Rattle.outside_calls.specs.Outputs.{KeepsEach, AreApartFrom, OnlyPuts}
 use Rattle.outside_calls.proofs.Putting.{OnlyPuts-one, SomeRose-earlier, inputs-kept}
 use Rattle.shared_terms.specs.Both.{Both}
 use Rattle.link_run.specs.Run.{Accounts}

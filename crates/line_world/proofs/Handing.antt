@@ -140,8 +140,7 @@ given-within (ends.Negotiating end) a h e = go end.talk h
     go (talks.Answering answering) k = absurd (false≢true (sym (ap is_connected k.phase_is) ∙ e))
 given-within (ends.Establishing end) a h e = absurd (false≢true (sym (ap is_connected h.0) ∙ e))
 given-within (ends.Connected end) a h e = h.beside.receiver_stands.given_within
-given-within (ends.Releasing end) a h e = absurd (false≢true (sym (ap is_connected h.0) ∙ e))
-given-within (ends.Closed end) a h e = absurd (false≢true (sym (ap is_connected h.0) ∙ e))
+given-within other a h e = absurd (false≢true (sym (ap is_connected h.0) ∙ e))
 
 pub record HandsNone (b : Account) : Type 0 where
   pub none : deliveries b ≡ []

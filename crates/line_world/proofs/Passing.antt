@@ -14,7 +14,7 @@ use Rattle.lapm_frames.specs.declared.sent.Sent.{Sent}
 use Rattle.lapm_frames.specs.declared.sent.Sent.TheVariants as slots
 use Rattle.lapm_frames.specs.Sendable.{IsSendable}
 use Rattle.lapm_frames.specs.declared.heard.Heard.{Heard}
-use Rattle.lapm_frames.specs.declared.heard.Heard.TheVariants.{Nothing, Passed, Lost as LostSlot, Chance}
+use Rattle.lapm_frames.specs.declared.heard.Heard.TheVariants.{Passed}
 use Rattle.noise_script.specs.Script.{ScriptValue, loses}
 use Rattle.sample_line.specs.Recorded.{Records}
 use Rattle.sample_line.specs.Received.{Receives}
@@ -197,20 +197,15 @@ passes-oldest once stay d new script passed way slot items number check dlci r o
 
 -- what is heard has numbers that an end may hear
 numbered-sent : (s : Sent) → IsSendable s → IsNumbered (arrival (Passed s))
-numbered-sent slots.Mark h = tt
-numbered-sent slots.Odp h = tt
-numbered-sent slots.Adp h = tt
-numbered-sent slots.Flags h = tt
 numbered-sent (slots.Frame frame) h = let f = h.0 in (f.0, f.1)
+numbered-sent other h = tt
 
 as-heard : (lost : Bool) (sender : Role) (dlci : ℕ) (s : Sent) (octets : List (List ℕ)) (patterns : List Seen) (heard : Heard)
     → IsSendable s
     → IsOutcome lost sender dlci s octets patterns heard → IsNumbered (arrival heard)
-as-heard lost sender dlci s octets patterns Nothing h o = tt
-as-heard lost sender dlci s octets patterns (LostSlot t) h o = tt
-as-heard lost sender dlci s octets patterns Chance h o = tt
 as-heard true sender dlci s octets patterns (Passed t) h o = absurd o
 as-heard false sender dlci s octets patterns (Passed t) h o = subst (λ x. IsNumbered (arrival (Passed x))) (sym o.0) (numbered-sent s h)
+as-heard lost sender dlci s octets patterns other h o = tt
 
 pub numbered-by : (d new : DelayedLine) (script : ScriptValue) (passed : List Signal) (way : List Carried) (slot : SentSlot)
     (items : List SentSlot)

@@ -31,12 +31,10 @@ use Rattle.line_world.specs.declared.world.World.{World}
 use Rattle.line_run.specs.declared.fault.RunFault.{RunFault}
 use Rattle.line_run.specs.declared.fault.RunFault.TheVariants as faults
 use Rattle.line_world.specs.World.{KnowsFiles, WorldAfter, script_of, turn_of, lost_of, again_of}
-use Rattle.line_world.specs.Turn.{added, GoesOnBy, EndsInTurn, LosesLine, MeetsChance, StopsInTurn}
-use Rattle.line_world.specs.Turn.{StopsReading, Stops, IsWriting}
+use Rattle.line_world.specs.Turn.{added, GoesOnBy, EndsInTurn, LosesLine, MeetsChance, StopsInTurn, StopsReading, Stops, IsWriting}
 use Rattle.line_world.specs.Turn.{EndsBy as TurnEndsBy}
-use Rattle.outside_calls.specs.Outputs.{AreApartFrom, Holds, HoldsPart, KeepsEach, Creates, joined}
+use Rattle.outside_calls.specs.Outputs.{AreApartFrom, Holds, HoldsPart, KeepsEach, Creates, joined, OnlyPuts, AddEach, HoldEach}
 use Rattle.outside_calls.proofs.Holding.{Holds-kept, Holds-more, HoldsPart-more}
-use Rattle.outside_calls.specs.Outputs.{OnlyPuts, AddEach, HoldEach}
 use Rattle.outside_calls.proofs.Putting.{OnlyPuts-refl, OnlyPuts-trans, inputs-kept, HoldEach-kept, HoldEach-add, HoldPart-add}
 use Rattle.line_run.specs.Recorded.{Tapes, tapes_of}
 use Rattle.line_run.proofs.Leaving.{hearing-in}
@@ -44,8 +42,7 @@ use Rattle.line_run.proofs.WhatIsLeft.{left_of, leaves-so}
 use Rattle.line_world.specs.Tapes.{HoldTapes, HoldTapesPartly}
 use Rattle.line_world.proofs.Folders.{IsApart, stay-known, knows-kept}
 use Rattle.line_world.proofs.Several.{puts-front, puts-behind, apart-front, inputs-front, inputs-behind, keeps-front, keeps-behind}
-use Rattle.line_world.specs.Turns.{held_of, AddsTurn, RunEnds, RunCounts, RunStops, RunStopsReading}
-use Rattle.line_world.specs.Turns.{FaultEnds}
+use Rattle.line_world.specs.Turns.{held_of, AddsTurn, RunEnds, RunCounts, RunStops, RunStopsReading, FaultEnds}
 
 -- Some turns were made over these files, and the outputs hold what they left.
 pub record Reached (w : World) (script : ScriptValue) (n : Written) (tapes : Tapes) (old now : FolderState) : Type 0 where
@@ -162,25 +159,6 @@ reached-going delivers speaks w w' script n tapes old now next r same g only sta
       stand = CountsStand-trans r.stand stand;
     }
 
--- the run ends in a turn that is written
-ended-turn : HearingsDeliver → (w v : World) (n : Written) (tapes : Tapes) (old now next : FolderState)
-    (r : Reached w (script_of v) n tapes old now) (outcome : Outcome) (number : ℕ) → OnlyPuts now next (outputs_of n)
-    → (e : EndsInTurn v.modems v.lines (wire_of (script_of v)) 1 (both_sent_by 0 r.turns) now next n r.files r.turns r.ends outcome number)
-    → runs.EndsInTurn (wire_of (script_of v)) (link_of (script_of v) e.others) r.turns r.ends outcome number
-    (left_of e.mid (trace_text (e.turn ∷ r.turns))) × HoldEach next (outputs_of n) (held_of (left_of e.mid (trace_text (e.turn ∷ r.turns))))
-ended-turn delivers w v n tapes old now next r outcome number only e = (
-  record {
-    number = e.number_is;
-    last = e.turn;
-    mid = e.mid;
-    heard = e.makes.heard;
-    is = e.makes.is;
-    leaves = leaves-so e.mid (trace_text (e.turn ∷ r.turns));
-  },
-  held-turn delivers (link_of (script_of w) r.files) r.turns r.ends e.turn e.mid now next n r.world.modems.run.run
-      (hearing-in (link_of (script_of v) e.others) r.turns r.ends e.turn e.mid outcome e.makes.is) only.goes_on r.holds e.writes,
-)
-
 run-ends : (script : ScriptValue) (f : FolderState) (n : Written) (tapes : Tapes) (end : RunEnd) (files : Both (List ℕ)) (left : Left)
     (ts : List Turn)
     (ends : Accounts) → KnowsFiles f n files → LineRun (wire_of script) (link_of script files) ts ends
@@ -196,79 +174,10 @@ run-ends script f n tapes end files left ts ends knows run ended holds t =
       taped = t;
     }
 
--- the run is done
-done-so : HearingsDeliver
-    → (w v : World) (n : Written) (tapes : Tapes) (old now next : FolderState) (number : ℕ) (r : Reached w (script_of v) n tapes old now)
-    → EndsInTurn v.modems v.lines (wire_of (script_of v)) 1 (both_sent_by 0 r.turns) now next n r.files r.turns r.ends Done number
-    → OnlyPuts now next (outputs_of n)
-    → HoldTapes next tapes (wire_of (script_of v)) r.turns → RunEnds (script_of v) next n tapes (runs.IsDone number)
-done-so delivers w v n tapes old now next number r e only t =
-    let k = ended-turn delivers w v n tapes old now next r Done number only e in
-    run-ends (script_of v) next n tapes (runs.IsDone number) e.others _ r.turns r.ends (e.known.known r.knows) e.makes.run k.0 k.1 t
-
-pub reached-done : HearingsDeliver
-    → (w v : World) (script : ScriptValue) (n : Written) (tapes : Tapes) (old now next : FolderState) (number : ℕ)
-    (r : Reached w script n tapes old now)
-    → script_of v ≡ script_of w → EndsInTurn v.modems v.lines (wire_of (script_of v)) 1 (both_sent_by 0 r.turns) now next n r.files r.turns
-    r.ends Done number → OnlyPuts now next (outputs_of n)
-    → HoldTapes next tapes (wire_of script) r.turns → RunEnds script next n tapes (runs.IsDone number)
-reached-done delivers w v script n tapes old now next number r same e only t =
-    subst (λ s. RunEnds s next n tapes (runs.IsDone number)) (same ∙ r.script_is)
-    (done-so delivers w v n tapes old now next number (over w v script n tapes old now r same) e only
-    (subst (λ s. HoldTapes next tapes (wire_of s) r.turns) (sym (same ∙ r.script_is)) t))
-
--- nothing goes again in a turn in which nothing is sent
-none-again : (ts : List Turn) (ends : Accounts) (t : Turn) (mid : Accounts) → LastTurn ts ends t mid → sent_again (t ∷ ts) ≡ sent_again ts
-none-again ts ends t mid h = λ k.
-    repeated (segment_number (h.silent Originator k) ++ numbers_sent Originator ts)
-    + repeated (segment_number (h.silent Answerer k) ++ numbers_sent Answerer ts)
-
--- with all its turns counted
-pub reached-counts : HearingsDeliver
-    → (w v : World) (script : ScriptValue) (n : Written) (tapes : Tapes) (old now next : FolderState) (number : ℕ)
-    (r : Reached w script n tapes old now)
-    → script_of v ≡ script_of w → EndsInTurn v.modems v.lines (wire_of (script_of v)) 1 (both_sent_by 0 r.turns) now next n r.files r.turns
-    r.ends Done number → OnlyPuts now next (outputs_of n)
-    → HoldTapes next tapes (wire_of script) r.turns → RunCounts script next n tapes number (lost_of v) (again_of v)
-unfolding run-ends ended-turn done-so
-reached-counts delivers w v script n tapes old now next number r same e only t =
-    subst (λ s. RunCounts s next n tapes number (lost_of v) (again_of v)) (same ∙ r.script_is) (record {
-      ran = done-so delivers w v n tapes old now next number (over w v script n tapes old now r same) e only
-          (subst (λ s. HoldTapes next tapes (wire_of s) r.turns) (sym (same ∙ r.script_is)) t);
-      lost_is = e.halts.lost;
-      again_is = e.halts.again ∙ sym (none-again r.turns r.ends e.turn e.mid e.makes.is);
-    })
-
 -- the run so far, over the script
 run-so : (w : World) (script : ScriptValue) (n : Written) (tapes : Tapes) (old now : FolderState) (r : Reached w script n tapes old now)
     → LineRun (wire_of script) (link_of script r.files) r.turns r.ends
 run-so w script n tapes old now r = subst (λ s. LineRun (wire_of s) (link_of s r.files) r.turns r.ends) r.script_is r.world.modems.run
-
-reached-line : (w v : World) (n : Written) (tapes : Tapes) (old now next : FolderState) (role : Role) (symbol : ℕ)
-    (r : Reached w (script_of v) n tapes old now) → IsApart n
-    → LosesLine v.modems (wire_of (script_of v)) now next n r.turns r.ends role symbol → OnlyPuts now next (outputs_of n)
-    → HoldTapes next tapes (wire_of (script_of v)) r.turns → RunEnds (script_of v) next n tapes (runs.LineLost role symbol)
-reached-line w v n tapes old now next role symbol r apart e only t =
-    run-ends (script_of v) next n tapes (runs.LineLost role symbol) r.files (left_of r.ends (trace_text r.turns)) r.turns r.ends
-    (knows-later now next n r.files apart only r.knows) (run-so w (script_of v) n tapes old now r)
-    (record { is = e.is; leaves = leaves-so r.ends (trace_text r.turns) })
-    (HoldEach-kept now next (outputs_of n) (held_of (left_of r.ends (trace_text r.turns))) only.goes_on r.holds e.kept) t
-
-reached-chance : (w v : World) (n : Written) (tapes : Tapes) (old now next : FolderState) (role : Role) (number : ℕ)
-    (r : Reached w (script_of v) n tapes old now) → IsApart n
-    → MeetsChance v.modems (wire_of (script_of v)) now next n r.turns r.ends role number → OnlyPuts now next (outputs_of n)
-    → HoldTapes next tapes (wire_of (script_of v)) r.turns → RunEnds (script_of v) next n tapes (runs.ChanceMatch role number)
-reached-chance w v n tapes old now next role number r apart e only t =
-    let text = trace_text r.turns ++ chance_line (length r.turns) role in
-    run-ends (script_of v) next n tapes (runs.ChanceMatch role number) r.files (left_of r.ends text) r.turns r.ends
-    (knows-later now next n r.files apart only r.knows) (run-so w (script_of v) n tapes old now r)
-    (e.number_is, record { is = e.is; leaves = leaves-so r.ends text }) (
-      Holds-kept now next n.got_o _ only.goes_on r.holds.0 e.received.0,
-      (
-        Holds-kept now next n.got_a _ only.goes_on r.holds.1.0 e.received.1.0,
-        (Holds-more now next n.trace (trace_text r.turns) (chance_line (length r.turns) role) only.goes_on r.holds.1.1.0 e.trace, tt),
-      ),
-    ) t
 
 -- no octets are added to either received file
 abbrev pub none_got : Both (List ℕ)
@@ -283,132 +192,198 @@ kept-none now next name octets on holds kept =
 abbrev more_of : Accounts → List ℕ → Left
 more_of mid text = record { got = record { orig = concat (deliveries mid.orig); answ = concat (deliveries mid.answ) }; trace = text }
 
--- the folder fails in a turn, whatever it comes to,
-adds-turn : (w v : World) (n : Written) (tapes : Tapes) (old now next : FolderState) (r : Reached w (script_of v) n tapes old now)
-    → (s : StopsInTurn v.modems v.lines (wire_of (script_of v)) 1 (both_sent_by 0 r.turns) now next n r.files r.turns r.ends)
-    → AddsTurn (wire_of (script_of v)) (link_of (script_of v) s.others) r.turns r.ends (more_of s.mid (turn_text (length r.turns) s.turn))
-adds-turn w v n tapes old now next r s = record {
-  turn = s.turn;
-  mid = s.mid;
-  outcome = s.outcome;
-  heard = s.makes.heard;
-  is = s.makes.is;
-  got_is = got;
-  trace_is = refl;
-}
-  where
-    got : (role : Role) → of role (record { orig = concat (deliveries s.mid.orig); answ = concat (deliveries s.mid.answ) }) ≡ concat
-        (deliveries (of role s.mid))
-    got Originator = refl
-    got Answerer = refl
+module _ (delivers : HearingsDeliver) (w v : World) (n : Written) (tapes : Tapes) (old now next : FolderState)
+    (r : Reached w (script_of v) n tapes old now) (only : OnlyPuts now next (outputs_of n))
+    (t : HoldTapes next tapes (wire_of (script_of v)) r.turns) where
+  -- the run ends in a turn that is written
+  abbrev ended-turn : (outcome : Outcome) (number : ℕ)
+      (e : EndsInTurn v.modems v.lines (wire_of (script_of v)) 1 (both_sent_by 0 r.turns) now next n r.files r.turns r.ends outcome number)
+      → runs.EndsInTurn (wire_of (script_of v))
+      (link_of (script_of v) e.others) r.turns r.ends outcome number (left_of e.mid (trace_text (e.turn ∷ r.turns))) × HoldEach next
+      (outputs_of n) (held_of (left_of e.mid (trace_text (e.turn ∷ r.turns))))
+  ended-turn outcome number e = (
+    record {
+      number = e.number_is;
+      last = e.turn;
+      mid = e.mid;
+      heard = e.makes.heard;
+      is = e.makes.is;
+      leaves = leaves-so e.mid (trace_text (e.turn ∷ r.turns));
+    },
+    held-turn delivers (link_of (script_of w) r.files) r.turns r.ends e.turn e.mid now next n r.world.modems.run.run
+        (hearing-in (link_of (script_of v) e.others) r.turns r.ends e.turn e.mid outcome e.makes.is) only.goes_on r.holds e.writes,
+  )
 
-stopped-turn : (w v : World) (n : Written) (tapes : Tapes) (old now next : FolderState) (r : Reached w (script_of v) n tapes old now)
-    → StopsInTurn v.modems v.lines (wire_of (script_of v)) 1 (both_sent_by 0 r.turns) now next n r.files r.turns r.ends
-    → OnlyPuts now next (outputs_of n)
-    → HoldTapes next tapes (wire_of (script_of v)) r.turns → RunStops (script_of v) next n tapes
-stopped-turn w v n tapes old now next r s only t = record {
-  files = s.others;
-  knows = s.known.known r.knows;
-  stops = record {
-    turns = r.turns;
-    ends = r.ends;
-    run = s.makes.run;
-    left = left_of r.ends (trace_text r.turns);
-    leaves = leaves-so r.ends (trace_text r.turns);
-    more = more_of s.mid (turn_text (length r.turns) s.turn);
-    adds = inl (adds-turn w v n tapes old now next r s);
-    holds = HoldPart-add now next (outputs_of n) (held_of (left_of r.ends (trace_text r.turns)))
-        (added s.mid (turn_text (length r.turns) s.turn)) only.goes_on r.holds s.writes;
-  };
-  taped = inl t;
-}
+  -- the run is done
+  abbrev done-so : (number : ℕ)
+      → EndsInTurn v.modems v.lines (wire_of (script_of v)) 1 (both_sent_by 0 r.turns) now next n r.files r.turns r.ends Done number
+      → RunEnds (script_of v) next n tapes (runs.IsDone number)
+  done-so number e =
+      let k = ended-turn Done number e in
+      run-ends (script_of v) next n tapes (runs.IsDone number) e.others _ r.turns r.ends (e.known.known r.knows) e.makes.run k.0 k.1 t
 
--- as a file is read,
-reached-reading : (w v : World) (n : Written) (tapes : Tapes) (old now next : FolderState) (r : Reached w (script_of v) n tapes old now)
-    → StopsReading v.modems v.lines (wire_of (script_of v)) 1 (both_sent_by 0 r.turns) now next n r.files r.turns r.ends
-    → OnlyPuts now next (outputs_of n)
-    → HoldTapes next tapes (wire_of (script_of v)) r.turns → RunStopsReading (script_of v) next n tapes
-unfolding stopped-turn
-reached-reading w v n tapes old now next r (s, delivered) only t = (
-  stopped-turn w v n tapes old now next r s only t,
-  record {
-    adds = adds-turn w v n tapes old now next r s;
-    holds = HoldEach-add now next (outputs_of n) (held_of (left_of r.ends (trace_text r.turns))) (octets_of s.mid) only.goes_on r.holds
-        delivered;
-    taped = t;
-  },
-)
+  reached-line : (role : Role) (symbol : ℕ) → IsApart n → LosesLine v.modems (wire_of (script_of v)) now next n r.turns r.ends role symbol
+      → RunEnds (script_of v) next n tapes (runs.LineLost role symbol)
+  reached-line role symbol apart e =
+      run-ends (script_of v) next n tapes (runs.LineLost role symbol) r.files (left_of r.ends (trace_text r.turns)) r.turns r.ends
+      (knows-later now next n r.files apart only r.knows) (run-so w (script_of v) n tapes old now r)
+      (record { is = e.is; leaves = leaves-so r.ends (trace_text r.turns) })
+      (HoldEach-kept now next (outputs_of n) (held_of (left_of r.ends (trace_text r.turns))) only.goes_on r.holds e.kept) t
 
--- or at any of its steps
-reached-stops : (w v : World) (n : Written) (tapes : Tapes) (old now next : FolderState) (r : Reached w (script_of v) n tapes old now)
-    → IsApart n
-    → Stops v.modems v.lines (wire_of (script_of v)) 1 (both_sent_by 0 r.turns) now next n r.files r.turns r.ends
-    → OnlyPuts now next (outputs_of n)
-    → HoldTapes next tapes (wire_of (script_of v)) r.turns → RunStops (script_of v) next n tapes
-reached-stops w v n tapes old now next r apart (inl s) only t = stopped-turn w v n tapes old now next r s only t
-reached-stops w v n tapes old now next r apart (inr s) only t = record {
-  files = r.files;
-  knows = knows-later now next n r.files apart only r.knows;
-  stops = record {
-    turns = r.turns;
-    ends = r.ends;
-    run = run-so w (script_of v) n tapes old now r;
-    left = left_of r.ends (trace_text r.turns);
-    leaves = leaves-so r.ends (trace_text r.turns);
-    more = record { got = none_got; trace = chance_line (length r.turns) s.role };
-    adds = inr (record { role = s.role; is = s.is; got_is = none; trace_is = refl });
-    holds = inr (
-      kept-none now next n.got_o _ only.goes_on r.holds.0 s.received.0,
-      inr (
-        kept-none now next n.got_a _ only.goes_on r.holds.1.0 s.received.1.0,
-        inl (
-          HoldsPart-more now next n.trace (trace_text r.turns) (chance_line (length r.turns) s.role) only.goes_on r.holds.1.1.0 s.trace,
-          tt,
+  reached-chance : (role : Role) (number : ℕ) → IsApart n
+      → MeetsChance v.modems (wire_of (script_of v)) now next n r.turns r.ends role number
+      → RunEnds (script_of v) next n tapes (runs.ChanceMatch role number)
+  reached-chance role number apart e =
+      let text = trace_text r.turns ++ chance_line (length r.turns) role in
+      run-ends (script_of v) next n tapes (runs.ChanceMatch role number) r.files (left_of r.ends text) r.turns r.ends
+      (knows-later now next n r.files apart only r.knows) (run-so w (script_of v) n tapes old now r)
+      (e.number_is, record { is = e.is; leaves = leaves-so r.ends text }) (
+        Holds-kept now next n.got_o _ only.goes_on r.holds.0 e.received.0,
+        (
+          Holds-kept now next n.got_a _ only.goes_on r.holds.1.0 e.received.1.0,
+          (Holds-more now next n.trace (trace_text r.turns) (chance_line (length r.turns) role) only.goes_on r.holds.1.1.0 e.trace, tt),
         ),
-      ),
-    );
-  };
-  taped = inl t;
-}
-  where
-    none : (side : Role) → of side none_got ≡ []
-    none Originator = refl
-    none Answerer = refl
+      ) t
 
--- a fault ends the run
-fault-so : HearingsDeliver
-    → (w v : World) (n : Written) (tapes : Tapes) (old now next : FolderState) (fault : RunFault)
-    (r : Reached w (script_of v) n tapes old now)
-    → IsApart n → TurnEndsBy v.modems v.lines (wire_of (script_of v)) 1 (both_sent_by 0 r.turns) now next n r.files r.turns r.ends fault
-    → OnlyPuts now next (outputs_of n)
-    → HoldTapes next tapes (wire_of (script_of v)) r.turns → FaultEnds (script_of v) next n tapes fault
-fault-so delivers w v n tapes old now next faults.ReadFault r apart e only t = reached-reading w v n tapes old now next r e only t
-fault-so delivers w v n tapes old now next faults.WriteFault r apart e only t = reached-stops w v n tapes old now next r apart e only t
-fault-so delivers w v n tapes old now next faults.NoMemory r apart e only t = reached-stops w v n tapes old now next r apart e only t
-fault-so delivers w v n tapes old now next (faults.LineLost role symbol) r apart e only t = reached-line w v n tapes old now next role
-    symbol r apart e only t
-fault-so delivers w v n tapes old now next (faults.ChanceMatch role turn) r apart e only t = reached-chance w v n tapes old now next role
-    turn r apart e only t
-fault-so delivers w v n tapes old now next (faults.NotDetected turn) r apart e only t =
-    let k = ended-turn delivers w v n tapes old now next r (Broken Originator causes.NotDetected) turn only e in
-    run-ends (script_of v) next n tapes (runs.NotDetected turn) e.others _ r.turns r.ends (e.known.known r.knows) e.makes.run k.0 k.1 t
-fault-so delivers w v n tapes old now next (faults.LinkLost role segment turn) r apart e only t =
-    let k = ended-turn delivers w v n tapes old now next r (Broken role (causes.Spent segment e.0)) turn only e.1 in
-    run-ends (script_of v) next n tapes (runs.LinkLost role segment turn) e.1.others _ r.turns r.ends (e.1.known.known r.knows)
-    e.1.makes.run
-    (e.0, k.0) k.1 t
+  -- the folder fails in a turn, whatever it comes to,
+  adds-turn : (s : StopsInTurn v.modems v.lines (wire_of (script_of v)) 1 (both_sent_by 0 r.turns) now next n r.files r.turns r.ends)
+      → AddsTurn (wire_of (script_of v)) (link_of (script_of v) s.others) r.turns r.ends (more_of s.mid (turn_text (length r.turns) s.turn))
+  adds-turn s = record {
+    turn = s.turn;
+    mid = s.mid;
+    outcome = s.outcome;
+    heard = s.makes.heard;
+    is = s.makes.is;
+    got_is = got;
+    trace_is = refl;
+  }
+    where
+      got : (role : Role) → of role (record { orig = concat (deliveries s.mid.orig); answ = concat (deliveries s.mid.answ) }) ≡ concat
+          (deliveries (of role s.mid))
+      got Originator = refl
+      got Answerer = refl
 
-pub reached-fault : HearingsDeliver
-    → (w v : World) (script : ScriptValue) (n : Written) (tapes : Tapes) (old now next : FolderState) (fault : RunFault)
-    (r : Reached w script n tapes old now)
-    → IsApart n
-    → script_of v ≡ script_of w → TurnEndsBy v.modems v.lines (wire_of (script_of v)) 1 (both_sent_by 0 r.turns) now next n r.files r.turns
-    r.ends fault → OnlyPuts now next (outputs_of n)
-    → HoldTapes next tapes (wire_of script) r.turns → FaultEnds script next n tapes fault
-reached-fault delivers w v script n tapes old now next fault r apart same e only t =
-    subst (λ s. FaultEnds s next n tapes fault) (same ∙ r.script_is)
-    (fault-so delivers w v n tapes old now next fault (over w v script n tapes old now r same) apart e only
-    (subst (λ s. HoldTapes next tapes (wire_of s) r.turns) (sym (same ∙ r.script_is)) t))
+  abbrev stopped-turn : StopsInTurn v.modems v.lines (wire_of (script_of v)) 1 (both_sent_by 0 r.turns) now next n r.files r.turns r.ends
+      → RunStops (script_of v) next n tapes
+  stopped-turn s = record {
+    files = s.others;
+    knows = s.known.known r.knows;
+    stops = record {
+      turns = r.turns;
+      ends = r.ends;
+      run = s.makes.run;
+      left = left_of r.ends (trace_text r.turns);
+      leaves = leaves-so r.ends (trace_text r.turns);
+      more = more_of s.mid (turn_text (length r.turns) s.turn);
+      adds = inl (adds-turn s);
+      holds = HoldPart-add now next (outputs_of n) (held_of (left_of r.ends (trace_text r.turns)))
+          (added s.mid (turn_text (length r.turns) s.turn)) only.goes_on r.holds s.writes;
+    };
+    taped = inl t;
+  }
+
+  -- as a file is read,
+  reached-reading : StopsReading v.modems v.lines (wire_of (script_of v)) 1 (both_sent_by 0 r.turns) now next n r.files r.turns r.ends
+      → RunStopsReading (script_of v) next n tapes
+  reached-reading (s, delivered) = (
+    stopped-turn s,
+    record {
+      adds = adds-turn s;
+      holds = HoldEach-add now next (outputs_of n) (held_of (left_of r.ends (trace_text r.turns))) (octets_of s.mid) only.goes_on r.holds
+          delivered;
+      taped = t;
+    },
+  )
+
+  -- or at any of its steps
+  reached-stops : IsApart n → Stops v.modems v.lines (wire_of (script_of v)) 1 (both_sent_by 0 r.turns) now next n r.files r.turns r.ends
+      → RunStops (script_of v) next n tapes
+  reached-stops apart (inl s) = stopped-turn s
+  reached-stops apart (inr s) = record {
+    files = r.files;
+    knows = knows-later now next n r.files apart only r.knows;
+    stops = record {
+      turns = r.turns;
+      ends = r.ends;
+      run = run-so w (script_of v) n tapes old now r;
+      left = left_of r.ends (trace_text r.turns);
+      leaves = leaves-so r.ends (trace_text r.turns);
+      more = record { got = none_got; trace = chance_line (length r.turns) s.role };
+      adds = inr (record { role = s.role; is = s.is; got_is = none; trace_is = refl });
+      holds = inr (
+        kept-none now next n.got_o _ only.goes_on r.holds.0 s.received.0,
+        inr (
+          kept-none now next n.got_a _ only.goes_on r.holds.1.0 s.received.1.0,
+          inl (
+            HoldsPart-more now next n.trace (trace_text r.turns) (chance_line (length r.turns) s.role) only.goes_on r.holds.1.1.0 s.trace,
+            tt,
+          ),
+        ),
+      );
+    };
+    taped = inl t;
+  }
+    where
+      none : (side : Role) → of side none_got ≡ []
+      none Originator = refl
+      none Answerer = refl
+
+  -- a fault ends the run
+  fault-so : (fault : RunFault) → IsApart n
+      → TurnEndsBy v.modems v.lines (wire_of (script_of v)) 1 (both_sent_by 0 r.turns) now next n r.files r.turns r.ends fault
+      → FaultEnds (script_of v) next n tapes fault
+  fault-so faults.ReadFault apart e = reached-reading e
+  fault-so faults.WriteFault apart e = reached-stops apart e
+  fault-so faults.NoMemory apart e = reached-stops apart e
+  fault-so (faults.LineLost role symbol) apart e = reached-line role symbol apart e
+  fault-so (faults.ChanceMatch role turn) apart e = reached-chance role turn apart e
+  fault-so (faults.NotDetected turn) apart e =
+      let k = ended-turn (Broken Originator causes.NotDetected) turn e in
+      run-ends (script_of v) next n tapes (runs.NotDetected turn) e.others _ r.turns r.ends (e.known.known r.knows) e.makes.run k.0 k.1 t
+  fault-so (faults.LinkLost role segment turn) apart e =
+      let k = ended-turn (Broken role (causes.Spent segment e.0)) turn e.1 in
+      run-ends (script_of v) next n tapes (runs.LinkLost role segment turn) e.1.others _ r.turns r.ends (e.1.known.known r.knows)
+      e.1.makes.run
+      (e.0, k.0) k.1 t
+
+-- nothing goes again in a turn in which nothing is sent
+none-again : (ts : List Turn) (ends : Accounts) (t : Turn) (mid : Accounts) → LastTurn ts ends t mid → sent_again (t ∷ ts) ≡ sent_again ts
+none-again ts ends t mid h = λ k.
+    repeated (segment_number (h.silent Originator k) ++ numbers_sent Originator ts)
+    + repeated (segment_number (h.silent Answerer k) ++ numbers_sent Answerer ts)
+
+module _ (delivers : HearingsDeliver) (w v : World) (script : ScriptValue) (n : Written) (tapes : Tapes) (old now next : FolderState)
+    (r : Reached w script n tapes old now) (same : script_of v ≡ script_of w) (only : OnlyPuts now next (outputs_of n))
+    (t : HoldTapes next tapes (wire_of script) r.turns) where
+  pub reached-done : (number : ℕ)
+      → EndsInTurn v.modems v.lines (wire_of (script_of v)) 1 (both_sent_by 0 r.turns) now next n r.files r.turns r.ends Done number
+      → RunEnds script next n tapes (runs.IsDone number)
+  reached-done number e =
+      subst (λ s. RunEnds s next n tapes (runs.IsDone number)) (same ∙ r.script_is)
+      (done-so delivers w v n tapes old now next (over w v script n tapes old now r same) only
+      (subst (λ s. HoldTapes next tapes (wire_of s) r.turns) (sym (same ∙ r.script_is)) t) number e)
+
+  -- with all its turns counted
+  pub reached-counts : (number : ℕ)
+      → EndsInTurn v.modems v.lines (wire_of (script_of v)) 1 (both_sent_by 0 r.turns) now next n r.files r.turns r.ends Done number
+      → RunCounts script next n tapes number (lost_of v) (again_of v)
+  unfolding run-ends
+  reached-counts number e =
+      subst (λ s. RunCounts s next n tapes number (lost_of v) (again_of v)) (same ∙ r.script_is) (record {
+        ran =
+            done-so delivers w v n tapes old now next (over w v script n tapes old now r same) only
+            (subst (λ s. HoldTapes next tapes (wire_of s) r.turns) (sym (same ∙ r.script_is)) t) number e;
+        lost_is = e.halts.lost;
+        again_is = e.halts.again ∙ sym (none-again r.turns r.ends e.turn e.mid e.makes.is);
+      })
+
+  pub reached-fault : (fault : RunFault) → IsApart n
+      → TurnEndsBy v.modems v.lines (wire_of (script_of v)) 1 (both_sent_by 0 r.turns) now next n r.files r.turns r.ends fault
+      → FaultEnds script next n tapes fault
+  reached-fault fault apart e =
+      subst (λ s. FaultEnds s next n tapes fault) (same ∙ r.script_is)
+      (fault-so delivers w v n tapes old now next (over w v script n tapes old now r same) only
+      (subst (λ s. HoldTapes next tapes (wire_of s) r.turns) (sym (same ∙ r.script_is)) t) fault apart e)
 
 -- a turn more is nearer to the bound
 pub nearer : (turns next : ℕ) → turns < 2 ^ 40 → next ≡ turns + 1 → 2 ^ 40 - next < 2 ^ 40 - turns

@@ -1,6 +1,5 @@
 -- Both ends speak, and a turn is made.
-use Rattle.std.proofs.Common.{◌≡◌, ◌≢◌, ℕ, ◌+◌, true, false, List, ◌∷◌, ◌++◌, length, arith}
-use Rattle.std.proofs.Common.{refl, sym, ◌∙◌, subst, Option, Some, None, Ok}
+use Rattle.std.proofs.Common.{◌≡◌, ◌≢◌, ℕ, ◌+◌, true, false, List, ◌∷◌, ◌++◌, length, arith, refl, sym, ◌∙◌, subst, Option, Some, None, Ok}
 use Rattle.std.specs.Option.{option_map}
 use Rattle.outside_calls.specs.Folder.{FolderState, Appended, PartlyAppended, CountsStand}
 use Rattle.frame_check.specs.declared.check.Check.{Check}
@@ -297,18 +296,14 @@ ends-so c f new n files ts ends heard mid turn role (faults.Spent segment since)
     },
   ),
 )
-ends-so c f new n files ts ends heard mid turn role (faults.BadAck nr va high) number named o b trace = absurd named
-ends-so c f new n files ts ends heard mid turn role (faults.PeerReset va vr) number named o b trace = absurd named
-ends-so c f new n files ts ends heard mid turn role faults.PeerRefused number named o b trace = absurd named
+ends-so c f new n files ts ends heard mid turn role other number named o b trace = absurd named
 
 -- such an end is no fault of the folder
 pub counts-so : (f new : FolderState) (n : Written) (turn : ℕ) (role : Role) (fault : LinkFault) → IsNamed role fault → CountsStand f new
     → FaultCounts f new n (fault_named turn role fault)
 counts-so f new n turn role faults.NotDetected named stand = stand
 counts-so f new n turn role (faults.Spent segment since) named stand = stand
-counts-so f new n turn role (faults.BadAck nr va high) named stand = absurd named
-counts-so f new n turn role (faults.PeerReset va vr) named stand = absurd named
-counts-so f new n turn role faults.PeerRefused named stand = absurd named
+counts-so f new n turn role other named stand = absurd named
 
 -- ---- the folder doesn't take the lines
 

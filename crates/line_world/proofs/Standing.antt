@@ -1,8 +1,6 @@
 -- What a station stands for once its end has heard or spoken, or was asked for a break.
-use Rattle.std.proofs.Common.{◌≡◌, ℕ, ◌+◌, Bool, true, false, cond, nat_le, List, [], ◌∷◌, ◌++◌, length, arith, length-append}
-use Rattle.std.proofs.Common.{refl, sym, ◌∙◌, ap, subst, Some, Ok, Err, Result, IfOk, OnOk, OnErr, ◌≤◌}
+use Rattle.std.proofs.Common.{◌≡◌, ℕ, ◌+◌, Bool, List, length, arith, refl, sym, ◌∙◌, ap, subst, Ok, Err, Result, IfOk, OnOk, OnErr, ◌≤◌}
 use Rattle.std.proofs.lemmas.Bool.{false≢true}
-use Rattle.break_signals.specs.Breaks.{OwnBreaks, takes_break, after_ask}
 use Rattle.lapm_frames.specs.declared.arrived.Arrived.{Arrived}
 use Rattle.lapm_frames.specs.declared.sent.Sent.{Sent}
 use Rattle.lapm_link.specs.declared.any_end.AnyEnd.{AnyEnd}
@@ -10,13 +8,12 @@ use Rattle.lapm_link.specs.declared.any_end.AnyEnd.TheVariants as ends
 use Rattle.lapm_link.specs.declared.closed.Broken.{Broken}
 use Rattle.lapm_link.specs.Stands.{StandsFor, IsOver, Hears, Speaks, TakesNothing, given_up, taken_of}
 use Rattle.shared_terms.specs.declared.fault.LinkFault.{LinkFault}
-use Rattle.link_account.specs.Account.{Account, is_connected, takes_own, after_break_asked}
+use Rattle.link_account.specs.Account.{Account}
 use Rattle.link_account.specs.Hear.{hear}
 use Rattle.link_account.specs.Speak.{Said, speak}
-use Rattle.link_run.specs.End.{asked_at}
 use Rattle.link_run.specs.Reading.{IsOffered, HearingStaysOffered, SpeakingStaysOffered}
 use Rattle.line_world.specs.declared.station.Station.{Station}
-use Rattle.line_world.specs.Station.{Stands, IsKept, HearsAs, SpeaksAs, IsIdle, IsCounted, line_of}
+use Rattle.line_world.specs.Station.{Stands, IsKept, HearsAs, SpeaksAs, IsIdle, IsCounted}
 
 -- what was offered depends on these parts alone
 pub as-offered : (file : List ℕ) (a b : Account) → b.setup ≡ a.setup → b.terms ≡ a.terms → b.phase ≡ a.phase → b.outgoing ≡ a.outgoing
@@ -188,49 +185,3 @@ pub kept-sendable : (P : Type 0) (new : Station) (became : Result AnyEnd Broken)
 kept-sendable P new became result kept p = kept-so P became new result kept (if-ok {Q = λ end. new.end ≡ end → P} became (λ end p is. p) p)
 
 -- ---- breaks
-
-abbrev pub taken_number : Bool → ℕ
-taken_number true = 1
-taken_number false = 0
-
-ask-lengths : (turn n : ℕ) (o : OwnBreaks) → length (after_ask turn n o).lengths ≡ length o.lengths + taken_number (takes_break turn o)
-ask-lengths turn n o = go (takes_break turn o)
-  where
-    go : (b : Bool)
-        → length (cond b (record o { lengths = o.lengths ++ n ∷ []; brk = true; set = turn; count = 0 }) o).lengths
-        ≡ length o.lengths + taken_number b
-    go true = length-append o.lengths (n ∷ [])
-    go false = omega arith
-
-pub asked-breaks : (turn n : ℕ) (a : Account)
-    → length (after_break_asked turn n a).own_breaks.lengths ≡ length a.own_breaks.lengths + taken_number (takes_own turn a)
-asked-breaks turn n a = go (is_connected a.phase)
-  where
-    go : (b : Bool)
-        → length (cond b (record a { own_breaks = after_ask turn n a.own_breaks }) a).own_breaks.lengths
-        ≡ length a.own_breaks.lengths + taken_number (cond b (takes_break turn a.own_breaks) false)
-    go true = ask-lengths turn n a.own_breaks
-    go false = omega arith
-
-pub asked-offered : (file : List ℕ) (turn n : ℕ) (a : Account) → IsOffered file a → IsOffered file (after_break_asked turn n a)
-asked-offered file turn n a h = go (is_connected a.phase)
-  where
-    go : (b : Bool) → IsOffered file (cond b (record a { own_breaks = after_ask turn n a.own_breaks }) a)
-    go true = as-offered file a (record a { own_breaks = after_ask turn n a.own_breaks }) refl refl refl refl h
-    go false = h
-
-pub asked-stands : (file : List ℕ) (turn from n : ℕ) (a : Account) (old new : Station) (taken : Bool) → Stands old file a
-    → nat_le from turn ≡ true
-    → StandsFor new.end (after_break_asked turn n a) → taken ≡ takes_own turn a → new.breaks ≡ old.breaks + taken_number taken
-    → Stands new file (asked_at turn (Some (line_of (from, n))) a)
-asked-stands file turn from n a old new taken h ready end answer breaks =
-    subst (λ b. Stands new file (cond b (after_break_asked turn n a) a)) (sym ready) (record {
-      end = end;
-      breaks = breaks ∙ ap (λ m. m + taken_number taken) h.breaks ∙ ap (λ t. length a.own_breaks.lengths + taken_number t) answer
-          ∙ sym (asked-breaks turn n a);
-      offered = asked-offered file turn n a h.offered;
-    })
-
-pub unasked-stands : (file : List ℕ) (turn from n : ℕ) (a : Account) (s : Station) → Stands s file a → nat_le from turn ≡ false
-    → Stands s file (asked_at turn (Some (line_of (from, n))) a)
-unasked-stands file turn from n a s h early = subst (λ b. Stands s file (cond b (after_break_asked turn n a) a)) (sym early) h

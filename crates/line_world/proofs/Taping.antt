@@ -1,7 +1,6 @@
 -- What tapes hold, as turns are recorded and as others are written.
 use Rattle.std.proofs.Common.{◌≡◌, inr, ◌∙◌, ℕ, ◌+◌, ◌<◌, Bool, List, [], ◌∷◌, ◌++◌, length, take, slice_index_or, Option, Some, None}
-use Rattle.std.proofs.Common.{Result, Ok, Err, refl, sym, ap, subst}
-use Rattle.std.proofs.Common.{append-nil, append_assoc}
+use Rattle.std.proofs.Common.{Result, Ok, Err, refl, sym, ap, subst, append-nil, append_assoc}
 use Rattle.std.proofs.lemmas.List.{take_more}
 use Rattle.std.proofs.lemmas.Grind.{flat_map-append}
 use Rattle.frame_check.specs.Bits.{low_bits}
@@ -25,10 +24,9 @@ use Rattle.noise_script.specs.Script.{ScriptValue}
 use Rattle.link_run.specs.Run.{Turn}
 use Rattle.line_run.specs.Sampled.{Wire, bits_of}
 use Rattle.line_run.specs.Scripted.{wire_of}
-use Rattle.line_run.specs.Recorded.{IsRecorded}
+use Rattle.line_run.specs.Recorded.{IsRecorded, Tapes, tapes_of}
 use Rattle.line_run.proofs.Bits.{bits-more}
 use Rattle.line_world.specs.World.{HasSent}
-use Rattle.line_run.specs.Recorded.{Tapes, tapes_of}
 use Rattle.line_world.specs.Tapes.{HoldsTape, HoldsTapePart, HoldTapes}
 use Rattle.line_world.specs.Taping.{RecordsBits, TapeStands, KeepsTape, TakesSlot, KeepTapes, TakeTurn, tape_names}
 use Rattle.line_run.specs.declared.fault.RunFault.{RunFault}

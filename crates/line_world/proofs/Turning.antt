@@ -34,8 +34,7 @@ use Rattle.line_world.specs.declared.step.Step.{Step}
 use Rattle.line_world.specs.declared.step.Step.TheVariants as steps
 use Rattle.line_world.specs.World.{StayKnown}
 use Rattle.line_world.specs.Tally.{IsFew}
-use Rattle.line_world.specs.Turn.{SendsNone, MakesTurn, Stops, StopsReading, EndsBy, EndsInTurn, GoesOnBy, IsWriting, IsReading}
-use Rattle.line_world.specs.Turn.{added}
+use Rattle.line_world.specs.Turn.{SendsNone, MakesTurn, Stops, StopsReading, EndsBy, EndsInTurn, GoesOnBy, IsWriting, IsReading, added}
 use Rattle.line_world.specs.Mid.{Overhears, InTurn, SameBeside, HasGone, HearsThese, AddsLines, AddsPart, SpeaksLast, turn_in}
 use Rattle.line_world.specs.declared.tally.Counts.{Counts}
 use Rattle.link_run.specs.Counts.{lost_in, lost_slots}
@@ -146,61 +145,29 @@ checked-so old m c files ts ends heard mid now h same role = ap (of role) same.h
 
 -- ---- a fault of the folder
 
-pub writing-ends : (m : Modems) (l : Lines) (c : Wire) (links : ℕ) (streams : Both (List Carried)) (a b : FolderState) (n : Written)
-    (files : Both (List ℕ)) (ts : List Turn) (ends : Accounts)
-    (fault : RunFault) → IsWriting fault
-    → Stops m l c links streams a b n files ts ends → EndsBy m l c links streams a b n files ts ends fault
-writing-ends m l c links streams a b n files ts ends run_faults.WriteFault is h = h
-writing-ends m l c links streams a b n files ts ends run_faults.NoMemory is h = h
-writing-ends m l c links streams a b n files ts ends run_faults.ReadFault is h = absurd is
-writing-ends m l c links streams a b n files ts ends (run_faults.LineLost role symbol) is h = absurd is
-writing-ends m l c links streams a b n files ts ends (run_faults.ChanceMatch role turn) is h = absurd is
-writing-ends m l c links streams a b n files ts ends (run_faults.NotDetected turn) is h = absurd is
-writing-ends m l c links streams a b n files ts ends (run_faults.LinkLost role segment turn) is h = absurd is
+module _ (m : Modems) (l : Lines) (c : Wire) (links : ℕ) (streams : Both (List Carried)) (a b : FolderState) (n : Written)
+    (files : Both (List ℕ)) (ts : List Turn) (ends : Accounts) where
+  pub writing-ends : (fault : RunFault) → IsWriting fault → Stops m l c links streams a b n files ts ends
+      → EndsBy m l c links streams a b n files ts ends fault
+  writing-ends run_faults.WriteFault is h = h
+  writing-ends run_faults.NoMemory is h = h
+  writing-ends other is h = absurd is
 
-pub reading-ends : (m : Modems) (l : Lines) (c : Wire) (links : ℕ) (streams : Both (List Carried)) (a b : FolderState) (n : Written)
-    (files : Both (List ℕ)) (ts : List Turn) (ends : Accounts)
-    (fault : RunFault) → IsReading fault
-    → StopsReading m l c links streams a b n files ts ends → EndsBy m l c links streams a b n files ts ends fault
-reading-ends m l c links streams a b n files ts ends run_faults.ReadFault is h = h
-reading-ends m l c links streams a b n files ts ends run_faults.NoMemory is h = inl h.0
-reading-ends m l c links streams a b n files ts ends run_faults.WriteFault is h = absurd is
-reading-ends m l c links streams a b n files ts ends (run_faults.LineLost role symbol) is h = absurd is
-reading-ends m l c links streams a b n files ts ends (run_faults.ChanceMatch role turn) is h = absurd is
-reading-ends m l c links streams a b n files ts ends (run_faults.NotDetected turn) is h = absurd is
-reading-ends m l c links streams a b n files ts ends (run_faults.LinkLost role segment turn) is h = absurd is
+  pub reading-ends : (fault : RunFault) → IsReading fault → StopsReading m l c links streams a b n files ts ends
+      → EndsBy m l c links streams a b n files ts ends fault
+  reading-ends run_faults.ReadFault is h = h
+  reading-ends run_faults.NoMemory is h = inl h.0
+  reading-ends other is h = absurd is
 
--- as what both took is handed over,
-pub stops-handing : MakingLaws
-    → (m : Modems) (l : Lines) (c : Wire) (links : ℕ) (streams : Both (List Carried)) (a b : FolderState) (n : Written)
-    (files : Both (List ℕ)) (ts : List Turn) (ends : Accounts) (heard : Both Heard)
-    (mid : Accounts)
-    → IsInLimits c.script → IsApart n → AreWithin files → OnlyPuts a b (outputs_of n) → Overhears c files ts ends heard mid
-    → Halts m l c links streams ts heard → AddPart a b (outputs_of n) (octets_of mid)
-    → Stops m l c links streams a b n files ts ends
-stops-handing laws m l c links streams a b n files ts ends heard mid limits apart within only o halts part =
-    let k = making laws c files ts ends heard mid limits o in
-    inl (record {
-      others = files;
-      known = stay-known a b n files apart only within;
-      turn = k.turn;
-      mid = mid;
-      outcome = k.outcome;
-      makes = k.makes;
-      halts = halts k.turn k.hears;
-      writes = AddPart-longer a b (outputs_of n) (octets_of mid) (turn_text (length ts) k.turn ∷ []) part;
-    })
-
--- as the files are read,
-pub stops-reading : MakingLaws
-    → (m : Modems) (l : Lines) (c : Wire) (links : ℕ) (streams : Both (List Carried)) (a b : FolderState) (n : Written)
-    (files : Both (List ℕ)) (ts : List Turn) (ends : Accounts) (heard : Both Heard)
-    (mid : Accounts)
-    → IsInLimits c.script → IsApart n → AreWithin files → OnlyPuts a b (outputs_of n) → Overhears c files ts ends heard mid
-    → Halts m l c links streams ts heard → AddEach a b (outputs_of n) (octets_of mid) → StopsReading m l c links streams a b n files ts ends
-stops-reading laws m l c links streams a b n files ts ends heard mid limits apart within only o halts delivered =
-    let k = making laws c files ts ends heard mid limits o in (
-      record {
+module _ (laws : MakingLaws) (m : Modems) (l : Lines) (c : Wire) (links : ℕ) (streams : Both (List Carried)) (a b : FolderState)
+    (n : Written) (files : Both (List ℕ)) (ts : List Turn) (ends : Accounts) (heard : Both Heard) (mid : Accounts)
+    (limits : IsInLimits c.script) (apart : IsApart n) (within : AreWithin files) (only : OnlyPuts a b (outputs_of n))
+    (o : Overhears c files ts ends heard mid) (halts : Halts m l c links streams ts heard) where
+  -- as what both took is handed over,
+  pub stops-handing : AddPart a b (outputs_of n) (octets_of mid) → Stops m l c links streams a b n files ts ends
+  stops-handing part =
+      let k = making laws c files ts ends heard mid limits o in
+      inl (record {
         others = files;
         known = stay-known a b n files apart only within;
         turn = k.turn;
@@ -208,72 +175,71 @@ stops-reading laws m l c links streams a b n files ts ends heard mid limits apar
         outcome = k.outcome;
         makes = k.makes;
         halts = halts k.turn k.hears;
-        writes = AddPart-none a b (received_of n) n.trace [] (octets_of mid) (turn_text (length ts) k.turn) [] tt delivered;
-      },
-      delivered,
-    )
+        writes = AddPart-longer a b (outputs_of n) (octets_of mid) (turn_text (length ts) k.turn ∷ []) part;
+      })
 
--- and as the lines go out.
-pub stops-writing : (m : Modems) (l : Lines) (c : Wire) (links : ℕ) (streams : Both (List Carried)) (a b z : FolderState) (n : Written)
-    (files others : Both (List ℕ)) (ts : List Turn)
-    (ends : Accounts) (heard : Both Heard) (mid : Accounts) → IsApart n
-    → StayKnown a z n files others → OnlyPuts a b (outputs_of n) → AddEach a b (outputs_of n) (octets_of mid) → OnlyWrites b z n.trace
-    → Halts m l c links streams ts heard → AddsPart c b z n others ts ends heard mid → Stops m l c links streams a z n files ts ends
-stops-writing m l c links streams a b z n files others ts ends heard mid apart known only delivered lines halts p =
-    inl (record {
-      others = others;
-      known = known;
-      turn = p.turn;
-      mid = mid;
-      outcome = p.outcome;
-      makes = p.makes;
-      halts = halts p.turn p.hears;
-      writes = AddPart-next a b z (received_of n) n.trace [] (octets_of mid) _ tt apart.0 only.goes_on delivered lines p.trace;
-    })
+  -- as the files are read,
+  pub stops-reading : AddEach a b (outputs_of n) (octets_of mid) → StopsReading m l c links streams a b n files ts ends
+  stops-reading delivered =
+      let k = making laws c files ts ends heard mid limits o in (
+        record {
+          others = files;
+          known = stay-known a b n files apart only within;
+          turn = k.turn;
+          mid = mid;
+          outcome = k.outcome;
+          makes = k.makes;
+          halts = halts k.turn k.hears;
+          writes = AddPart-none a b (received_of n) n.trace [] (octets_of mid) (turn_text (length ts) k.turn) [] tt delivered;
+        },
+        delivered,
+      )
 
 -- ---- the run ends in this turn
 
-pub ends-in : (m : Modems) (l : Lines) (c : Wire) (links : ℕ) (streams : Both (List Carried)) (a b z : FolderState) (n : Written)
-    (files others : Both (List ℕ)) (ts : List Turn) (ends : Accounts)
-    (heard : Both Heard) (mid : Accounts) (outcome : Outcome) (number : ℕ)
-    → IsApart n → number ≡ length ts → StayKnown a z n files others → OnlyPuts a b (outputs_of n)
-    → AddEach a b (outputs_of n) (octets_of mid)
-    → OnlyWrites b z n.trace → Halts m l c links streams ts heard → Checked m mid
-    → AddsLines c b z n others ts ends heard mid outcome → EndsInTurn m l c links streams a z n files ts ends outcome number
-ends-in m l c links streams a b z n files others ts ends heard mid outcome number apart e known only delivered lines halts checked p =
-    record {
-      number_is = e;
-      others = others;
-      known = known;
-      turn = p.turn;
-      mid = mid;
-      makes = p.makes;
-      halts = halts p.turn p.hears;
-      checks = checked;
-      writes = AddEach-next a b z (received_of n) n.trace [] (octets_of mid) _ tt apart.0 only.goes_on delivered lines (inr p.trace);
-    }
+module _ (m : Modems) (l : Lines) (c : Wire) (links : ℕ) (streams : Both (List Carried)) (a b z : FolderState) (n : Written)
+    (files others : Both (List ℕ)) (ts : List Turn) (ends : Accounts) (heard : Both Heard) (mid : Accounts) (apart : IsApart n)
+    (known : StayKnown a z n files others) (only : OnlyPuts a b (outputs_of n)) (delivered : AddEach a b (outputs_of n) (octets_of mid))
+    (lines : OnlyWrites b z n.trace) (halts : Halts m l c links streams ts heard) where
+  -- and as the lines go out.
+  pub stops-writing : AddsPart c b z n others ts ends heard mid → Stops m l c links streams a z n files ts ends
+  stops-writing p =
+      inl (record {
+        others = others;
+        known = known;
+        turn = p.turn;
+        mid = mid;
+        outcome = p.outcome;
+        makes = p.makes;
+        halts = halts p.turn p.hears;
+        writes = AddPart-next a b z (received_of n) n.trace [] (octets_of mid) _ tt apart.0 only.goes_on delivered lines p.trace;
+      })
 
-pub speaks-last : (m : Modems) (l : Lines) (c : Wire) (links : ℕ) (streams : Both (List Carried)) (a b z : FolderState) (n : Written)
-    (files others : Both (List ℕ)) (ts : List Turn)
-    (ends : Accounts) (heard : Both Heard) (mid : Accounts) (fault : RunFault)
-    → IsApart n → StayKnown a z n files others → OnlyPuts a b (outputs_of n) → AddEach a b (outputs_of n) (octets_of mid)
-    → OnlyWrites b z n.trace → Halts m l c links streams ts heard → Checked m mid
-    → SpeaksLast c b z n others ts ends heard mid fault → EndsBy m l c links streams a z n files ts ends fault
-speaks-last m l c links streams a b z n files others ts ends heard mid run_faults.WriteFault apart known only d lines halts checked h =
-    stops-writing m l c links streams a b z n files others ts ends heard mid apart known only d lines halts h
-speaks-last m l c links streams a b z n files others ts ends heard mid run_faults.NoMemory apart known only d lines halts checked h =
-    stops-writing m l c links streams a b z n files others ts ends heard mid apart known only d lines halts h
-speaks-last m l c links streams a b z n files others ts ends heard mid (run_faults.LinkLost role segment turn) apart known only d lines
-    halts checked h = (
-      h.0,
-      ends-in m l c links streams a b z n files others ts ends heard mid (Broken role (faults.Spent segment h.0)) turn apart h.1.0 known
-          only d lines halts checked h.1.1,
-    )
-speaks-last m l c links streams a b z n files others ts ends heard mid (run_faults.NotDetected turn) apart known only d lines halts checked
-    h =
-    ends-in m l c links streams a b z n files others ts ends heard mid (Broken Originator faults.NotDetected) turn apart h.0 known only d
-    lines halts checked h.1
-speaks-last m l c links streams a b z n files others ts ends heard mid fault apart known only d lines halts checked h = absurd h
+  pub ends-in : (outcome : Outcome) (number : ℕ) → number ≡ length ts → Checked m mid → AddsLines c b z n others ts ends heard mid outcome
+      → EndsInTurn m l c links streams a z n files ts ends outcome number
+  ends-in outcome number e checked p =
+      record {
+        number_is = e;
+        others = others;
+        known = known;
+        turn = p.turn;
+        mid = mid;
+        makes = p.makes;
+        halts = halts p.turn p.hears;
+        checks = checked;
+        writes = AddEach-next a b z (received_of n) n.trace [] (octets_of mid) _ tt apart.0 only.goes_on delivered lines (inr p.trace);
+      }
+
+  pub speaks-last : (fault : RunFault) → Checked m mid → SpeaksLast c b z n others ts ends heard mid fault
+      → EndsBy m l c links streams a z n files ts ends fault
+  speaks-last run_faults.WriteFault checked h = stops-writing h
+  speaks-last run_faults.NoMemory checked h = stops-writing h
+  speaks-last (run_faults.LinkLost role segment turn) checked h = (
+    h.0,
+    ends-in (Broken role (faults.Spent segment h.0)) turn h.1.0 checked h.1.1,
+  )
+  speaks-last (run_faults.NotDetected turn) checked h = ends-in (Broken Originator faults.NotDetected) turn h.0 checked h.1
+  speaks-last fault checked h = absurd h
 
 -- ---- the run goes on
 

@@ -1,10 +1,9 @@
 -- A pair before its first round, and from round to round.
 use Rattle.std.proofs.Common.{◌≡◌, ℕ, ◌+◌, ◌-◌, ◌^◌, ◌<◌, List, [], sym, subst, arith, refl, Result, Ok, Err}
-use Rattle.outside_calls.specs.Folder.{FolderState, CountsStand}
+use Rattle.outside_calls.specs.Folder.{FolderState, CountsStand, Rose}
 use Rattle.outside_calls.specs.Outputs.{Creates}
 use Rattle.outside_calls.proofs.Steps.{CountsStand-trans, FaultsStand-trans}
 use Rattle.outside_calls.proofs.Putting.{SomeRose-earlier}
-use Rattle.outside_calls.specs.Folder.{Rose}
 use Rattle.noise_script.specs.Script.{ScriptValue}
 use Rattle.link_run.specs.Run.{start}
 use Rattle.line_run.specs.Scripted.{link_of}

@@ -15,7 +15,7 @@ use Rattle.line_run.specs.Sampled.{LineEnd}
 use Rattle.line_run.specs.Ends.{RunEnd, Left}
 use Rattle.line_run.specs.Ends as runs
 use Rattle.line_ends.specs.Causes.{FewLossesKeepLinks}
-use Rattle.line_ends.specs.Completes.{IsQuiet, AreOfOctets, DisplacesNoneIsFaint, CompletesWithFewNamed}
+use Rattle.line_ends.specs.Completes.{IsQuiet, AreOfOctets, DisplacesNoneIsFaint, CompletesWithFewNamed, NamesFew, IsUndisturbed}
 use Rattle.command_base.specs.declared.status.Status.{Status}
 use Rattle.command_base.specs.declared.status.Status.TheVariants.{BadScript, TooLong, NoMemory}
 use Rattle.command_base.specs.declared.stop.Stop.{Stop}
@@ -29,7 +29,6 @@ use Rattle.run_inputs.specs.Lengths.{IsFirstLong}
 use Rattle.line_run.specs.Names.{Written}
 use Rattle.line_run.specs.Names as written
 use Rattle.line_world.specs.Turns.{held_of}
-use Rattle.line_ends.specs.Completes.{NamesFew, IsUndisturbed}
 use Rattle.link_pair.specs.Pairs.Beside.{first_wire, second_wire}
 use Rattle.link_pair.specs.Pairs.Ends.{IsByLine, PairEnd, BothDone, end_of, line_end, PairRunsTo, by_links, by_line}
 use Rattle.link_pair.specs.Pairs.Laws.{OnePairResult, FaintPairsAreIsolated, EndsDone, UnstarvedPairsAreDone, QuietPairsAreDone}
@@ -38,8 +37,7 @@ use Rattle.link_pair.specs.Words.{Names, files_of}
 use Rattle.link_pair.specs.Answers.{answer_of, result_of}
 use Rattle.link_pair.specs.Ends.{AreFiles, RanTo, EndsBy, pair_job}
 use Rattle.link_pair.specs.Ends as ends
-use Rattle.link_pair.specs.Completes.{IsCarried, LosesFew, AreRight, files_at, DoneWhere, Answered, AnsweredByItsEnd}
-use Rattle.link_pair.specs.Completes.{Completes}
+use Rattle.link_pair.specs.Completes.{IsCarried, LosesFew, AreRight, files_at, DoneWhere, Answered, AnsweredByItsEnd, Completes}
 use Rattle.link_pair.proofs.Refusing.{own-answer}
 
 -- the laws that a pair's end rests on

@@ -21,7 +21,7 @@ use Rattle.link_run.specs.Run.{Accounts, Turn}
 use Rattle.link_run.specs.Trace.{trace_text, turn_text}
 use Rattle.line_run.specs.Sampled.{Wire, LineRun}
 use Rattle.line_run.specs.Sampled as lines
-use Rattle.line_run.specs.Ends.{Left, RunsTo, EndsInTurn}
+use Rattle.line_run.specs.Ends.{Left, RunsTo, EndsBy, EndsInTurn}
 use Rattle.line_run.specs.Scripted.{wire_at, link_of}
 use Rattle.line_run.specs.Stream.{Carried, and_sent}
 use Rattle.line_run.proofs.Leaving.{hearing-in}
@@ -142,146 +142,6 @@ pub record Around (old new : FolderState) (n : Written) (files : Both (List ℕ)
   pub knows : KnowsFiles old n files
   pub holds : HoldLeft old n (Goes ts ends)
 
-gone-on : HearingsDeliver → SpeakingTakesNothing
-    → (m : Modems) (l : Lines) (c : Wire) (links : ℕ) (streams : Both (List Carried)) (old new : FolderState) (n : Written)
-    (files : Both (List ℕ)) (ts : List Turn) (ends : Accounts) → Around old new n files ts ends → LineRun c (link_of c.script files) ts ends
-    → AreKept m → GoesOnBy m l c links streams old new n files ts ends → GoneOn m l c links streams new n ts
-gone-on delivers speaks m l c links streams old new n files ts ends a run kept g =
-    let held = held-turn delivers (link_of c.script files) ts ends g.turn g.going.mid old new n run.run g.going.hearing a.only.goes_on
-    a.holds g.writes in
-    let nothing = speaks (link_of c.script g.others) ts ends g.turn g.after g.going in record {
-      others = g.others;
-      turn = g.turn;
-      after = g.after;
-      run = g.modems.run;
-      may = record { kept = kept; link = g.modems.link; turn = g.modems.turn; tally = g.modems.tally; spoke = g.modems.spoke };
-      waits = g.lines;
-      knows = g.known.known a.knows;
-      holds = (
-        subst (λ t. Holds new n.got_o (concat t)) (sym (nothing Originator)) held.0,
-        (subst (λ t. Holds new n.got_a (concat t)) (sym (nothing Answerer)) held.1.0, held.1.1),
-      );
-    }
-
--- the last turn, and what the outputs hold behind it
-last-turn : HearingsDeliver
-    → (m : Modems) (l : Lines) (c : Wire) (links : ℕ) (streams : Both (List Carried)) (old new : FolderState) (n : Written)
-    (files : Both (List ℕ)) (ts : List Turn) (ends : Accounts) (outcome : Outcome) (number : ℕ) → Around old new n files ts ends
-    → LineRun c (link_of c.script files) ts ends
-    → (e : turns.EndsInTurn m l c links streams old new n files ts ends outcome number)
-    → EndsInTurn c (link_of c.script e.others) ts ends outcome number (left_of e.mid (trace_text (e.turn ∷ ts)))
-    × HoldEach new (outputs_of n) (held_of (left_of e.mid (trace_text (e.turn ∷ ts))))
-last-turn delivers m l c links streams old new n files ts ends outcome number a run e = (
-  record {
-    number = e.number_is;
-    last = e.turn;
-    mid = e.mid;
-    heard = e.makes.heard;
-    is = e.makes.is;
-    leaves = leaves-so e.mid (trace_text (e.turn ∷ ts));
-  },
-  held-turn delivers (link_of c.script files) ts ends e.turn e.mid old new n run.run
-      (hearing-in (link_of c.script e.others) ts ends e.turn e.mid outcome e.makes.is) a.only.goes_on a.holds e.writes,
-)
-
-ended-done : HearingsDeliver
-    → (m : Modems) (l : Lines) (c : Wire) (links : ℕ) (streams : Both (List Carried)) (old new : FolderState) (n : Written)
-    (files : Both (List ℕ)) (ts : List Turn) (ends : Accounts) (turn : ℕ) → Around old new n files ts ends
-    → LineRun c (link_of c.script files) ts ends → turns.EndsInTurn m l c links streams old new n files ts ends Done turn
-    → EndedNow m l c links streams new n ts (link_ends.Done turn)
-unfolding last-turn
-ended-done delivers m l c links streams old new n files ts ends turn a run e =
-    let k = last-turn delivers m l c links streams old new n files ts ends Done turn a run e in record {
-      others = e.others;
-      mid = e.mid;
-      left = left_of e.mid (trace_text (e.turn ∷ ts));
-      ran = record { turns = ts; ends = ends; run = e.makes.run; ended = k.0 };
-      turns_are = refl;
-      ends_are = refl;
-      checks = e.checks;
-      arrived = e.halts.lines;
-      knows = e.known.known a.knows;
-      holds = k.1;
-    }
-
-ended-undetected : HearingsDeliver
-    → (m : Modems) (l : Lines) (c : Wire) (links : ℕ) (streams : Both (List Carried)) (old new : FolderState) (n : Written)
-    (files : Both (List ℕ)) (ts : List Turn) (ends : Accounts) (turn : ℕ) → Around old new n files ts ends
-    → LineRun c (link_of c.script files) ts ends
-    → turns.EndsInTurn m l c links streams old new n files ts ends (Broken Originator causes.NotDetected) turn
-    → EndedNow m l c links streams new n ts (link_ends.NotDetected turn)
-unfolding last-turn
-ended-undetected delivers m l c links streams old new n files ts ends turn a run e =
-    let k = last-turn delivers m l c links streams old new n files ts ends (Broken Originator causes.NotDetected) turn a run e in record {
-      others = e.others;
-      mid = e.mid;
-      left = left_of e.mid (trace_text (e.turn ∷ ts));
-      ran = record { turns = ts; ends = ends; run = e.makes.run; ended = k.0 };
-      turns_are = refl;
-      ends_are = refl;
-      checks = e.checks;
-      arrived = e.halts.lines;
-      knows = e.known.known a.knows;
-      holds = k.1;
-    }
-
-ended-lost : HearingsDeliver
-    → (m : Modems) (l : Lines) (c : Wire) (links : ℕ) (streams : Both (List Carried)) (old new : FolderState) (n : Written)
-    (files : Both (List ℕ)) (ts : List Turn) (ends : Accounts) (role : Role) (segment turn : ℕ) → Around old new n files ts ends
-    → LineRun c (link_of c.script files) ts ends
-    → (since : ℕ) × turns.EndsInTurn m l c links streams old new n files ts ends (Broken role (causes.Spent segment since)) turn
-    → EndedNow m l c links streams new n ts (link_ends.LinkLost role segment turn)
-unfolding last-turn
-ended-lost delivers m l c links streams old new n files ts ends role segment turn a run (since, e) =
-    let k = last-turn delivers m l c links streams old new n files ts ends (Broken role
-    (causes.Spent segment since)) turn a run e in record {
-      others = e.others;
-      mid = e.mid;
-      left = left_of e.mid (trace_text (e.turn ∷ ts));
-      ran = record { turns = ts; ends = ends; run = e.makes.run; ended = (since, k.0) };
-      turns_are = refl;
-      ends_are = refl;
-      checks = e.checks;
-      arrived = e.halts.lines;
-      knows = e.known.known a.knows;
-      holds = k.1;
-    }
-
--- the line ends the pair
-line-lost : (m : Modems) (c : Wire) (old new : FolderState) (n : Written) (files : Both (List ℕ)) (ts : List Turn) (ends : Accounts)
-    (role : Role) (symbol : ℕ) → Around old new n files ts ends → LosesLine m c old new n ts ends role symbol
-    → IsEndedByLine c new n files (length ts) (Goes ts ends) (lines.LineLost role symbol)
-line-lost m c old new n files ts ends role symbol a e = record {
-  is = e.is;
-  knows = knows-later old new n files a.apart a.only a.knows;
-  left = left_of ends (trace_text ts ++ []);
-  leaves = leaves-so ends (trace_text ts ++ []);
-  holds =
-      let h = HoldEach-kept old new (outputs_of n) (held_of (left_by (Goes ts ends))) a.only.goes_on a.holds e.kept in
-      (h.0, (h.1.0, (subst (Holds new n.trace) (sym (append-nil (trace_text ts))) h.1.1.0, tt)));
-}
-
-chance-met : (m : Modems) (c : Wire) (old new : FolderState) (n : Written) (files : Both (List ℕ)) (ts : List Turn) (ends : Accounts)
-    (role : Role) (turn : ℕ) → Around old new n files ts ends → MeetsChance m c old new n ts ends role turn
-    → (turn ≡ length ts) × IsEndedByLine c new n files (length ts) (Goes ts ends) (lines.ChanceMatch role)
-chance-met m c old new n files ts ends role turn a e = (
-  e.number_is,
-  record {
-    is = e.is;
-    knows = knows-later old new n files a.apart a.only a.knows;
-    left = left_of ends (trace_text ts ++ chance_line (length ts) role);
-    leaves = leaves-so ends (trace_text ts ++ chance_line (length ts) role);
-    holds = (
-      Holds-kept old new n.got_o _ a.only.goes_on a.holds.0 e.received.0,
-      (
-        Holds-kept old new n.got_a _ a.only.goes_on a.holds.1.0 e.received.1.0,
-        (Holds-more old new n.trace (trace_text ts) (chance_line (length ts) role) a.only.goes_on a.holds.1.1.0 e.trace, tt),
-      ),
-    );
-  },
-)
-
--- the folder fails
 pub kept-none : (now next : FolderState) (name octets : List ℕ) → GoesOn now next → Holds now name octets → KeepsName now next name
     → Holds next name (octets ++ [])
 kept-none now next name octets on holds kept =
@@ -290,103 +150,177 @@ kept-none now next name octets on holds kept =
 abbrev more_of : Accounts → List ℕ → Left
 more_of mid text = record { got = record { orig = concat (deliveries mid.orig); answ = concat (deliveries mid.answ) }; trace = text }
 
-adds-turn : (m : Modems) (l : Lines) (c : Wire) (links : ℕ) (streams : Both (List Carried)) (old new : FolderState) (n : Written)
-    (files : Both (List ℕ)) (ts : List Turn) (ends : Accounts) (s : StopsInTurn m l c links streams old new n files ts ends)
-    → AddsTurn c (link_of c.script s.others) ts ends (more_of s.mid (turn_text (length ts) s.turn))
-adds-turn m l c links streams old new n files ts ends s = record {
-  turn = s.turn;
-  mid = s.mid;
-  outcome = s.outcome;
-  heard = s.makes.heard;
-  is = s.makes.is;
-  got_is = got;
-  trace_is = refl;
-}
-  where
-    got : (role : Role) → of role (record { orig = concat (deliveries s.mid.orig); answ = concat (deliveries s.mid.answ) }) ≡ concat
-        (deliveries (of role s.mid))
-    got Originator = refl
-    got Answerer = refl
+module _ (delivers : HearingsDeliver) (speaks : SpeakingTakesNothing) (m : Modems) (l : Lines) (c : Wire) (links : ℕ)
+    (streams : Both (List Carried)) (old new : FolderState) (n : Written) (files : Both (List ℕ)) (ts : List Turn) (ends : Accounts)
+    (a : Around old new n files ts ends) (run : LineRun c (link_of c.script files) ts ends) where
+  gone-on : AreKept m → GoesOnBy m l c links streams old new n files ts ends → GoneOn m l c links streams new n ts
+  gone-on kept g =
+      let held = held-turn delivers (link_of c.script files) ts ends g.turn g.going.mid old new n run.run g.going.hearing a.only.goes_on
+      a.holds g.writes in
+      let nothing = speaks (link_of c.script g.others) ts ends g.turn g.after g.going in record {
+        others = g.others;
+        turn = g.turn;
+        after = g.after;
+        run = g.modems.run;
+        may = record { kept = kept; link = g.modems.link; turn = g.modems.turn; tally = g.modems.tally; spoke = g.modems.spoke };
+        waits = g.lines;
+        knows = g.known.known a.knows;
+        holds = (
+          subst (λ t. Holds new n.got_o (concat t)) (sym (nothing Originator)) held.0,
+          (subst (λ t. Holds new n.got_a (concat t)) (sym (nothing Answerer)) held.1.0, held.1.1),
+        );
+      }
 
-stops-so : (m : Modems) (l : Lines) (c : Wire) (links : ℕ) (streams : Both (List Carried)) (old new : FolderState) (n : Written)
-    (files : Both (List ℕ)) (ts : List Turn) (ends : Accounts) → Around old new n files ts ends
-    → (s : StopsInTurn m l c links streams old new n files ts ends)
-    → LinkStops c (link_of c.script s.others) new n (length ts) (Goes ts ends)
-stops-so m l c links streams old new n files ts ends a s = record {
-  more = more_of s.mid (turn_text (length ts) s.turn);
-  adds = inl (adds-turn m l c links streams old new n files ts ends s);
-  holds = HoldPart-add old new (outputs_of n) (held_of (left_by (Goes ts ends))) (added s.mid (turn_text (length ts) s.turn))
-      a.only.goes_on a.holds s.writes;
-}
+  -- the last turn, and what the outputs hold behind it
+  abbrev last-turn : (outcome : Outcome) (number : ℕ) (e : turns.EndsInTurn m l c links streams old new n files ts ends outcome number)
+      → EndsInTurn c (link_of c.script e.others) ts ends outcome number (left_of e.mid (trace_text (e.turn ∷ ts)))
+  last-turn outcome number e = record {
+    number = e.number_is;
+    last = e.turn;
+    mid = e.mid;
+    heard = e.makes.heard;
+    is = e.makes.is;
+    leaves = leaves-so e.mid (trace_text (e.turn ∷ ts));
+  }
 
-stopped : (m : Modems) (l : Lines) (c : Wire) (links : ℕ) (streams : Both (List Carried)) (old new : FolderState) (n : Written)
-    (files : Both (List ℕ)) (ts : List Turn) (ends : Accounts) → Around old new n files ts ends → LineRun c (link_of c.script files) ts ends
-    → Stops m l c links streams old new n files ts ends → IsStopped LinkStops c new n (length ts) (Goes ts ends)
-stopped m l c links streams old new n files ts ends a run (inl s) = record {
-  others = s.others;
-  knows = s.known.known a.knows;
-  lasts = record { run = s.makes.run; count = refl };
-  stops = stops-so m l c links streams old new n files ts ends a s;
-}
-stopped m l c links streams old new n files ts ends a run (inr s) = record {
-  others = files;
-  knows = knows-later old new n files a.apart a.only a.knows;
-  lasts = record { run = run; count = refl };
-  stops = record {
-    more = record { got = none_got; trace = chance_line (length ts) s.role };
-    adds = inr (record { role = s.role; is = s.is; got_is = none; trace_is = refl });
-    holds = inr (
-      kept-none old new n.got_o _ a.only.goes_on a.holds.0 s.received.0,
-      inr (
-        kept-none old new n.got_a _ a.only.goes_on a.holds.1.0 s.received.1.0,
-        inl (HoldsPart-more old new n.trace (trace_text ts) (chance_line (length ts) s.role) a.only.goes_on a.holds.1.1.0 s.trace, tt),
-      ),
-    );
-  };
-}
-  where
-    none : (side : Role) → of side none_got ≡ []
-    none Originator = refl
-    none Answerer = refl
+  last-held : (outcome : Outcome) (number : ℕ) (e : turns.EndsInTurn m l c links streams old new n files ts ends outcome number)
+      → HoldEach new (outputs_of n) (held_of (left_of e.mid (trace_text (e.turn ∷ ts))))
+  last-held outcome number e =
+      held-turn delivers (link_of c.script files) ts ends e.turn e.mid old new n run.run
+      (hearing-in (link_of c.script e.others) ts ends e.turn e.mid outcome e.makes.is) a.only.goes_on a.holds e.writes
 
-stopped-reading : (m : Modems) (l : Lines) (c : Wire) (links : ℕ) (streams : Both (List Carried)) (old new : FolderState) (n : Written)
-    (files : Both (List ℕ)) (ts : List Turn) (ends : Accounts) → Around old new n files ts ends
-    → StopsReading m l c links streams old new n files ts ends → IsStopped LinkStopsReading c new n (length ts) (Goes ts ends)
-unfolding stops-so
-stopped-reading m l c links streams old new n files ts ends a (s, delivered) = record {
-  others = s.others;
-  knows = s.known.known a.knows;
-  lasts = record { run = s.makes.run; count = refl };
-  stops = record {
-    stops = stops-so m l c links streams old new n files ts ends a s;
-    adds = adds-turn m l c links streams old new n files ts ends s;
-    holds = HoldEach-add old new (outputs_of n) (held_of (left_by (Goes ts ends))) (octets_of s.mid) a.only.goes_on a.holds delivered;
-  };
-}
+  ended : (outcome : Outcome) (found : LinkEnd) (turn : ℕ) (e : turns.EndsInTurn m l c links streams old new n files ts ends outcome turn)
+      → (by : EndsBy c (link_of c.script e.others) ts ends (run_end found) (left_of e.mid (trace_text (e.turn ∷ ts))))
+      → last_ends c (link_of c.script e.others) ts ends (run_end found) (left_of e.mid (trace_text (e.turn ∷ ts))) by ≡ e.mid
+      → EndedNow m l c links streams new n ts found
+  ended outcome found turn e by is = record {
+    others = e.others;
+    mid = e.mid;
+    left = left_of e.mid (trace_text (e.turn ∷ ts));
+    ran = record { turns = ts; ends = ends; run = e.makes.run; ended = by };
+    turns_are = refl;
+    ends_are = is;
+    checks = e.checks;
+    arrived = e.halts.lines;
+    knows = e.known.known a.knows;
+    holds = last-held outcome turn e;
+  }
 
-pub comes : HearingsDeliver → SpeakingTakesNothing
-    → (m : Modems) (l : Lines) (c : Wire) (links : ℕ) (streams : Both (List Carried)) (old new : FolderState) (n : Written)
-    (files : Both (List ℕ)) (ts : List Turn) (ends : Accounts) (answer : Result Step RunFault) → Around old new n files ts ends
-    → LineRun c (link_of c.script files) ts ends → (answer ≡ Ok steps.Going → AreKept m)
-    → TurnAnswers m l c links streams old new n files ts ends answer → Comes m l c links streams new n files ts ends (sorted answer)
-comes delivers speaks m l c links streams old new n files ts ends (Ok steps.Going) a run kept t =
-    gone-on delivers speaks m l c links streams old new n files ts ends a run (kept refl) t
-comes delivers speaks m l c links streams old new n files ts ends (Ok (steps.Done turn)) a run kept t =
-    ended-done delivers m l c links streams old new n files ts ends turn a run t
-comes delivers speaks m l c links streams old new n files ts ends (Err (run_faults.LinkLost role segment turn)) a run kept t =
-    ended-lost delivers m l c links streams old new n files ts ends role segment turn a run t
-comes delivers speaks m l c links streams old new n files ts ends (Err (run_faults.NotDetected turn)) a run kept t =
-    ended-undetected delivers m l c links streams old new n files ts ends turn a run t
-comes delivers speaks m l c links streams old new n files ts ends (Err (run_faults.LineLost role symbol)) a run kept t =
-    line-lost m c old new n files ts ends role symbol a t
-comes delivers speaks m l c links streams old new n files ts ends (Err (run_faults.ChanceMatch role turn)) a run kept t =
-    chance-met m c old new n files ts ends role turn a t
-comes delivers speaks m l c links streams old new n files ts ends (Err run_faults.ReadFault) a run kept t =
-    stopped-reading m l c links streams old new n files ts ends a t
-comes delivers speaks m l c links streams old new n files ts ends (Err run_faults.WriteFault) a run kept t =
-    stopped m l c links streams old new n files ts ends a run t
-comes delivers speaks m l c links streams old new n files ts ends (Err run_faults.NoMemory) a run kept t =
-    stopped m l c links streams old new n files ts ends a run t
+  -- the line ends the pair
+  line-lost : (role : Role) (symbol : ℕ) → LosesLine m c old new n ts ends role symbol
+      → IsEndedByLine c new n files (length ts) (Goes ts ends) (lines.LineLost role symbol)
+  line-lost role symbol e = record {
+    is = e.is;
+    knows = knows-later old new n files a.apart a.only a.knows;
+    left = left_of ends (trace_text ts ++ []);
+    leaves = leaves-so ends (trace_text ts ++ []);
+    holds =
+        let h = HoldEach-kept old new (outputs_of n) (held_of (left_by (Goes ts ends))) a.only.goes_on a.holds e.kept in
+        (h.0, (h.1.0, (subst (Holds new n.trace) (sym (append-nil (trace_text ts))) h.1.1.0, tt)));
+  }
+
+  chance-met : (role : Role) (turn : ℕ) → MeetsChance m c old new n ts ends role turn
+      → (turn ≡ length ts) × IsEndedByLine c new n files (length ts) (Goes ts ends) (lines.ChanceMatch role)
+  chance-met role turn e = (
+    e.number_is,
+    record {
+      is = e.is;
+      knows = knows-later old new n files a.apart a.only a.knows;
+      left = left_of ends (trace_text ts ++ chance_line (length ts) role);
+      leaves = leaves-so ends (trace_text ts ++ chance_line (length ts) role);
+      holds = (
+        Holds-kept old new n.got_o _ a.only.goes_on a.holds.0 e.received.0,
+        (
+          Holds-kept old new n.got_a _ a.only.goes_on a.holds.1.0 e.received.1.0,
+          (Holds-more old new n.trace (trace_text ts) (chance_line (length ts) role) a.only.goes_on a.holds.1.1.0 e.trace, tt),
+        ),
+      );
+    },
+  )
+
+  adds-turn : (s : StopsInTurn m l c links streams old new n files ts ends)
+      → AddsTurn c (link_of c.script s.others) ts ends (more_of s.mid (turn_text (length ts) s.turn))
+  adds-turn s = record {
+    turn = s.turn;
+    mid = s.mid;
+    outcome = s.outcome;
+    heard = s.makes.heard;
+    is = s.makes.is;
+    got_is = got;
+    trace_is = refl;
+  }
+    where
+      got : (role : Role) → of role (record { orig = concat (deliveries s.mid.orig); answ = concat (deliveries s.mid.answ) }) ≡ concat
+          (deliveries (of role s.mid))
+      got Originator = refl
+      got Answerer = refl
+
+  stops-so : (s : StopsInTurn m l c links streams old new n files ts ends)
+      → LinkStops c (link_of c.script s.others) new n (length ts) (Goes ts ends)
+  stops-so s = record {
+    more = more_of s.mid (turn_text (length ts) s.turn);
+    adds = inl (adds-turn s);
+    holds = HoldPart-add old new (outputs_of n) (held_of (left_by (Goes ts ends))) (added s.mid (turn_text (length ts) s.turn))
+        a.only.goes_on a.holds s.writes;
+  }
+
+  stopped : Stops m l c links streams old new n files ts ends → IsStopped LinkStops c new n (length ts) (Goes ts ends)
+  stopped (inl s) = record {
+    others = s.others;
+    knows = s.known.known a.knows;
+    lasts = record { run = s.makes.run; count = refl };
+    stops = stops-so s;
+  }
+  stopped (inr s) = record {
+    others = files;
+    knows = knows-later old new n files a.apart a.only a.knows;
+    lasts = record { run = run; count = refl };
+    stops = record {
+      more = record { got = none_got; trace = chance_line (length ts) s.role };
+      adds = inr (record { role = s.role; is = s.is; got_is = none; trace_is = refl });
+      holds = inr (
+        kept-none old new n.got_o _ a.only.goes_on a.holds.0 s.received.0,
+        inr (
+          kept-none old new n.got_a _ a.only.goes_on a.holds.1.0 s.received.1.0,
+          inl (HoldsPart-more old new n.trace (trace_text ts) (chance_line (length ts) s.role) a.only.goes_on a.holds.1.1.0 s.trace, tt),
+        ),
+      );
+    };
+  }
+    where
+      none : (side : Role) → of side none_got ≡ []
+      none Originator = refl
+      none Answerer = refl
+
+  stopped-reading : StopsReading m l c links streams old new n files ts ends
+      → IsStopped LinkStopsReading c new n (length ts) (Goes ts ends)
+  unfolding stops-so
+  stopped-reading (s, delivered) = record {
+    others = s.others;
+    knows = s.known.known a.knows;
+    lasts = record { run = s.makes.run; count = refl };
+    stops = record {
+      stops = stops-so s;
+      adds = adds-turn s;
+      holds = HoldEach-add old new (outputs_of n) (held_of (left_by (Goes ts ends))) (octets_of s.mid) a.only.goes_on a.holds delivered;
+    };
+  }
+
+  pub comes : (answer : Result Step RunFault) → (answer ≡ Ok steps.Going → AreKept m)
+      → TurnAnswers m l c links streams old new n files ts ends answer → Comes m l c links streams new n files ts ends (sorted answer)
+  comes (Ok steps.Going) kept t = gone-on (kept refl) t
+  comes (Ok (steps.Done turn)) kept t = ended Done (link_ends.Done turn) turn t (last-turn Done turn t) refl
+  comes (Err (run_faults.LinkLost role segment turn)) kept t =
+      ended (Broken role (causes.Spent segment t.0)) (link_ends.LinkLost role segment turn) turn t.1
+      (t.0, last-turn (Broken role (causes.Spent segment t.0)) turn t.1) refl
+  comes (Err (run_faults.NotDetected turn)) kept t =
+      ended (Broken Originator causes.NotDetected) (link_ends.NotDetected turn) turn t
+      (last-turn (Broken Originator causes.NotDetected) turn t) refl
+  comes (Err (run_faults.LineLost role symbol)) kept t = line-lost role symbol t
+  comes (Err (run_faults.ChanceMatch role turn)) kept t = chance-met role turn t
+  comes (Err run_faults.ReadFault) kept t = stopped-reading t
+  comes (Err run_faults.WriteFault) kept t = stopped t
+  comes (Err run_faults.NoMemory) kept t = stopped t
 
 -- ---- so the link has come farther
 
@@ -487,8 +421,9 @@ came-to delivers speaks h m l l' script beside links streams old new n files rou
       is = a.is;
       count = a.goes.count;
       comes = subst (Comes m l' (wire_at script h.dlci beside) links streams new n files a.ts a.ends) sorts
-          (comes delivers speaks m l' (wire_at script h.dlci beside) links streams old new n files a.ts a.ends answer
-          (record { apart = apart; only = only; knows = at.knows; holds = subst (HoldLeft old n) a.is at.holds }) a.goes.run kept there);
+          (comes delivers speaks m l' (wire_at script h.dlci beside) links streams old new n files a.ts a.ends
+          (record { apart = apart; only = only; knows = at.knows; holds = subst (HoldLeft old n) a.is at.holds }) a.goes.run answer kept
+          there);
     }
 
 pub came-going : (h : Half) (l : Lines) (c : Wire) (links : ℕ) (streams : Both (List Carried)) (f : FolderState) (n : Written)

@@ -20,7 +20,7 @@ use Rattle.noise_script.specs.Script.{ScriptValue}
 use Rattle.line_texts.specs.LineText.{chance_line}
 use Rattle.link_account.specs.Account.{check_of}
 use Rattle.link_run.specs.Run.{Accounts, Turn}
-use Rattle.line_run.specs.Sampled.{Wire, IsHeardOf, IsHeardWell, LineEnd, EndsLine, EndsLineBy, LosesLine}
+use Rattle.line_run.specs.Sampled.{Wire, IsHeardOf, IsHeardWell, LineEnd, EndsLine, EndsLineBy}
 use Rattle.line_run.specs.Sampled as lines
 use Rattle.line_run.specs.Ends.{RunEnd, Left}
 use Rattle.line_run.specs.Scripted.{wire_at, link_of}
@@ -70,94 +70,12 @@ pub record AtEnd (h : Half) (script : ScriptValue) (beside : Role → ℕ → Op
   pub stopped : HasStopped h.modems found ends end
   pub ended : HasEnded (wire_at script h.dlci beside) (link_of script files) round ts ends end left
 
-pub at-end : (h : Half) (script : ScriptValue) (beside : Role → ℕ → Option Signal) (files : Both (List ℕ)) (round : ℕ) (p : Progress)
-    → is_some h.ended ≡ true → StandsFor h.ended h.modems files p → Lasts (wire_at script h.dlci beside) (link_of script files) round p
-    → AtEnd h script beside files round p
-at-end h script beside files round p some stands = by h.ended refl p (subst (λ o. StandsFor o h.modems files p) refl stands)
-  where
-    by : (o : Option LinkEnd) → h.ended ≡ o → (p : Progress) → StandsFor o h.modems files p
-        → Lasts (wire_at script h.dlci beside) (link_of script files) round p → AtEnd h script beside files round p
-    by None e p s l = absurd (false≢true (sym (ap is_some e) ∙ some))
-    by (Some found) e (Ended ts ends end left) s l = record {
-      ts = ts;
-      ends = ends;
-      end = end;
-      left = left;
-      found = found;
-      is = refl;
-      found_is = e;
-      stopped = s;
-      ended = l;
-    }
-    by (Some found) e (Goes ts ends) s l = absurd s
-
 -- so many turns stand on the line
 pub count-on-line : (c : Wire) (round : ℕ) (ts : List Turn) (ends : Accounts) (end : RunEnd) (left : Left) → length ts < round
     → length (turns_on_line round (Ended ts ends end left)) ≡ round
 count-on-line c round ts ends end left before = omega (arith, length-lasting (round - length ts) ts, before)
 
-pub count-at : (h : Half) (script : ScriptValue) (beside : Role → ℕ → Option Signal) (files : Both (List ℕ)) (round : ℕ) (p : Progress)
-    → AtEnd h script beside files round p → round ≡ length (turns_on_line round p)
-count-at h script beside files round p a =
-    sym (ap (λ x. length (turns_on_line round x)) a.is
-    ∙ count-on-line (wire_at script h.dlci beside) round a.ts a.ends a.end a.left a.ended.before)
-
 -- ---- what its part of a round comes to
-
--- its slots are heard well
-pub has-idled : (h : Half) (l m : Lines) (script : ScriptValue) (beside : Role → ℕ → Option Signal) (links : ℕ)
-    (streams : Both (List Carried)) (f : FolderState) (n : Written) (files : Both (List ℕ)) (round : ℕ) (p : Progress) (checks : Both Check)
-    (heard : Both Heard) (a : AtEnd h script beside files round p) → h.modems.dlci ≡ h.dlci → KnowsFiles f n files → HoldLeft f n p
-    → checks ≡ h.modems.heard_by
-    → ArrivesBoth (HaveArrived m (wire_at script h.dlci beside) links streams) (wire_at script h.dlci beside) (turns_on_line round p) checks
-    heard
-    → LinesWait l (wire_at script h.dlci beside) links (and_sent streams h.dlci idle_turn)
-    → HasCome h l (wire_at script h.dlci beside) links streams f n round p
-has-idled h l m script beside links streams f n files round p checks heard a channel knows holds same arrives waits =
-    subst (λ x. HasCome h l c links streams f n round x) (sym a.is) (record {
-      others = files;
-      next = Ended a.ts a.ends a.end a.left;
-      sent = idle_turn;
-      lasts = record {
-        ran = a.ended.ran;
-        turns_are = a.ended.turns_are;
-        ends_are = a.ended.ends_are;
-        by_link = a.ended.by_link;
-        before = omega (arith, a.ended.before);
-        idles = subst (λ k. IdlesFor c a.ends k a.ts) (sym more) (idly, a.ended.idles);
-      };
-      stands = subst (λ o. StandsFor o h.modems files (Ended a.ts a.ends a.end a.left)) (sym a.found_is) a.stopped;
-      channel = channel;
-      follows = refl;
-      on_line = ap (λ k. lasting k a.ts) one-more;
-      waits = waits;
-      knows = knows;
-      holds = subst (HoldLeft f n) a.is holds;
-    })
-  where
-    c : Wire
-    c = wire_at script h.dlci beside
-
-    more : suc round - suc (length a.ts) ≡ suc (round - suc (length a.ts))
-    more = omega (arith, a.ended.before)
-
-    one-more : suc round - length a.ts ≡ suc (round - length a.ts)
-    one-more = omega (arith, a.ended.before)
-
-    behind : round - length a.ts ≡ suc (round - suc (length a.ts))
-    behind = omega (arith, a.ended.before)
-
-    at : ArrivesBoth (HaveArrived m c links streams) c (lasting (round - length a.ts) a.ts) checks heard
-    at = subst (λ x. ArrivesBoth (HaveArrived m c links streams) c (turns_on_line round x) checks heard) a.is arrives
-
-    idly : HearsIdly c (lasting (suc (round - suc (length a.ts))) a.ts) a.ends
-    idly role = record {
-      heard = of role heard;
-      is = subst (λ k. IsHeardOf c (other role) (lasting k a.ts) (check_of (of role a.ends)) (of role heard)) behind
-          (subst (λ x. IsHeardOf c (other role) (lasting (round - length a.ts) a.ts) x (of role heard))
-          (ap (of role) same ∙ a.stopped.checks role) (at.heard_of role));
-      well = at.well role;
-    }
 
 -- the line ends the pair, by the checks that both ends had last
 by-ends : (c : Wire) (ts : List Turn) (checks : Both Check) (ends : Accounts) (end : LineEnd)
@@ -171,100 +89,176 @@ by-ends c ts checks ends (lines.ChanceMatch Answerer) same h = (
   subst (λ x. IsHeardOf c Originator ts x Chance) (same Answerer) h.1,
 )
 
-ends-of : (h : Half) (script : ScriptValue) (beside : Role → ℕ → Option Signal) (files : Both (List ℕ)) (round : ℕ) (p : Progress)
-    (checks : Both Check) (end : LineEnd) (a : AtEnd h script beside files round p) → checks ≡ h.modems.heard_by
-    → EndsLineBy (wire_at script h.dlci beside) (turns_on_line round p) (λ role. of role checks) end
-    → EndsLine (wire_at script h.dlci beside) (turns_on_line round (Ended a.ts a.ends a.end a.left)) a.ends end
-ends-of h script beside files round p checks end a same e =
-    by-ends (wire_at script h.dlci beside) (turns_on_line round (Ended a.ts a.ends a.end a.left)) checks a.ends end
-    (λ role. ap (of role) same ∙ a.stopped.checks role)
-    (subst (λ x. EndsLineBy (wire_at script h.dlci beside) (turns_on_line round x) (λ role. of role checks) end) a.is e)
+module _ (h : Half) (script : ScriptValue) (beside : Role → ℕ → Option Signal) (files : Both (List ℕ)) (round : ℕ) (p : Progress) where
+  pub at-end : is_some h.ended ≡ true → StandsFor h.ended h.modems files p
+      → Lasts (wire_at script h.dlci beside) (link_of script files) round p → AtEnd h script beside files round p
+  at-end some stands = by h.ended refl p (subst (λ o. StandsFor o h.modems files p) refl stands)
+    where
+      by : (o : Option LinkEnd) → h.ended ≡ o → (p : Progress) → StandsFor o h.modems files p
+          → Lasts (wire_at script h.dlci beside) (link_of script files) round p → AtEnd h script beside files round p
+      by None e p s l = absurd (false≢true (sym (ap is_some e) ∙ some))
+      by (Some found) e (Ended ts ends end left) s l = record {
+        ts = ts;
+        ends = ends;
+        end = end;
+        left = left;
+        found = found;
+        is = refl;
+        found_is = e;
+        stopped = s;
+        ended = l;
+      }
+      by (Some found) e (Goes ts ends) s l = absurd s
 
-pub lost-idly : (h : Half) (script : ScriptValue) (beside : Role → ℕ → Option Signal) (f : FolderState) (n : Written)
-    (files : Both (List ℕ)) (round : ℕ) (p : Progress) (checks : Both Check) (role : Role) (symbol : ℕ)
-    (a : AtEnd h script beside files round p) → KnowsFiles f n files → HoldLeft f n p → checks ≡ h.modems.heard_by
-    → EndsLineBy (wire_at script h.dlci beside) (turns_on_line round p) (λ side. of side checks) (lines.LineLost role symbol)
-    → IsEndedByLine (wire_at script h.dlci beside) f n files round p (lines.LineLost role symbol)
-lost-idly h script beside f n files round p checks role symbol a knows holds same e =
-    subst (λ x. IsEndedByLine (wire_at script h.dlci beside) f n files round x (lines.LineLost role symbol)) (sym a.is) (record {
-      is = ends-of h script beside files round p checks (lines.LineLost role symbol) a same e;
-      knows = knows;
-      left = record { got = a.left.got; trace = a.left.trace ++ [] };
-      leaves = (refl, refl);
-      holds = (held.0, (held.1.0, (subst (Holds f n.trace) (sym (append-nil a.left.trace)) held.1.1.0, tt)));
-    })
-  where
-    held : HoldEach f (outputs_of n) (held_of a.left)
-    held = subst (HoldLeft f n) a.is holds
+  pub count-at : AtEnd h script beside files round p → round ≡ length (turns_on_line round p)
+  count-at a =
+      sym (ap (λ x. length (turns_on_line round x)) a.is
+      ∙ count-on-line (wire_at script h.dlci beside) round a.ts a.ends a.end a.left a.ended.before)
 
--- by a chance match, whose line is written,
-pub met-idly : (h : Half) (script : ScriptValue) (beside : Role → ℕ → Option Signal) (old new : FolderState) (n : Written)
-    (files : Both (List ℕ)) (round : ℕ) (p : Progress) (checks : Both Check) (role : Role) (a : AtEnd h script beside files round p)
-    → IsApart n → KnowsFiles old n files → HoldLeft old n p → checks ≡ h.modems.heard_by → OnlyWrites old new n.trace
-    → Appended old new n.trace (chance_line round role)
-    → EndsLineBy (wire_at script h.dlci beside) (turns_on_line round p) (λ side. of side checks) (lines.ChanceMatch role)
-    → IsEndedByLine (wire_at script h.dlci beside) new n files round p (lines.ChanceMatch role)
-met-idly h script beside old new n files round p checks role a apart knows holds same only put e =
-    subst (λ x. IsEndedByLine (wire_at script h.dlci beside) new n files round x (lines.ChanceMatch role)) (sym a.is) (record {
-      is = ends-of h script beside files round p checks (lines.ChanceMatch role) a same e;
-      knows = knows-later old new n files apart (lines-only old new n only) knows;
-      left = record { got = a.left.got; trace = a.left.trace ++ chance_line round role };
-      leaves = (refl, refl);
-      holds = (
-        Holds-kept old new n.got_o _ only.goes_on held.0 kept.0,
-        (
-          Holds-kept old new n.got_a _ only.goes_on held.1.0 kept.1.0,
-          (Holds-more old new n.trace a.left.trace (chance_line round role) only.goes_on held.1.1.0 put, tt),
-        ),
-      );
-    })
-  where
-    held : HoldEach old (outputs_of n) (held_of a.left)
-    held = subst (HoldLeft old n) a.is holds
-
-    kept : KeepsEach old new (received_of n)
-    kept = receives-none old new n apart only
-
--- or isn't
-pub stopped-idly : (h : Half) (script : ScriptValue) (beside : Role → ℕ → Option Signal) (old new : FolderState) (n : Written)
-    (files : Both (List ℕ)) (round : ℕ) (p : Progress) (checks : Both Check) (role : Role) (a : AtEnd h script beside files round p)
-    → IsApart n → KnowsFiles old n files → HoldLeft old n p → checks ≡ h.modems.heard_by → OnlyWrites old new n.trace
-    → PartlyAppended old new n.trace (chance_line round role)
-    → EndsLineBy (wire_at script h.dlci beside) (turns_on_line round p) (λ side. of side checks) (lines.ChanceMatch role)
-    → IsStopped LinkStops (wire_at script h.dlci beside) new n round p
-stopped-idly h script beside old new n files round p checks role a apart knows holds same only put e =
-    subst (λ x. IsStopped LinkStops (wire_at script h.dlci beside) new n round x) (sym a.is) (record {
-      others = files;
-      knows = knows-later old new n files apart (lines-only old new n only) knows;
-      lasts = a.ended;
-      stops = record {
-        more = record { got = none_got; trace = chance_line round role };
-        adds = record {
-          role = role;
-          is = ends-of h script beside files round p checks (lines.ChanceMatch role) a same e;
-          got_is = none;
-          trace_is = ap (λ k. chance_line k role)
-              (sym (count-on-line (wire_at script h.dlci beside) round a.ts a.ends a.end a.left a.ended.before));
+  -- its slots are heard well
+  pub has-idled : (l m : Lines) (links : ℕ) (streams : Both (List Carried)) (f : FolderState) (n : Written) (checks : Both Check)
+      (heard : Both Heard) (a : AtEnd h script beside files round p)
+      → h.modems.dlci ≡ h.dlci → KnowsFiles f n files → HoldLeft f n p → checks ≡ h.modems.heard_by
+      → ArrivesBoth (HaveArrived m (wire_at script h.dlci beside) links streams) (wire_at script h.dlci beside)
+      (turns_on_line round p) checks heard
+      → LinesWait l (wire_at script h.dlci beside) links (and_sent streams h.dlci idle_turn)
+      → HasCome h l (wire_at script h.dlci beside) links streams f n round p
+  has-idled l m links streams f n checks heard a channel knows holds same arrives waits =
+      subst (λ x. HasCome h l c links streams f n round x) (sym a.is) (record {
+        others = files;
+        next = Ended a.ts a.ends a.end a.left;
+        sent = idle_turn;
+        lasts = record {
+          ran = a.ended.ran;
+          turns_are = a.ended.turns_are;
+          ends_are = a.ended.ends_are;
+          by_link = a.ended.by_link;
+          before = omega (arith, a.ended.before);
+          idles = subst (λ k. IdlesFor c a.ends k a.ts) (sym more) (idly, a.ended.idles);
         };
-        holds = inr (
-          kept-none old new n.got_o _ only.goes_on held.0 kept.0,
-          inr (
-            kept-none old new n.got_a _ only.goes_on held.1.0 kept.1.0,
-            inl (HoldsPart-more old new n.trace a.left.trace (chance_line round role) only.goes_on held.1.1.0 put, tt),
+        stands = subst (λ o. StandsFor o h.modems files (Ended a.ts a.ends a.end a.left)) (sym a.found_is) a.stopped;
+        channel = channel;
+        follows = refl;
+        on_line = ap (λ k. lasting k a.ts) one-more;
+        waits = waits;
+        knows = knows;
+        holds = subst (HoldLeft f n) a.is holds;
+      })
+    where
+      c : Wire
+      c = wire_at script h.dlci beside
+
+      more : suc round - suc (length a.ts) ≡ suc (round - suc (length a.ts))
+      more = omega (arith, a.ended.before)
+
+      one-more : suc round - length a.ts ≡ suc (round - length a.ts)
+      one-more = omega (arith, a.ended.before)
+
+      behind : round - length a.ts ≡ suc (round - suc (length a.ts))
+      behind = omega (arith, a.ended.before)
+
+      at : ArrivesBoth (HaveArrived m c links streams) c (lasting (round - length a.ts) a.ts) checks heard
+      at = subst (λ x. ArrivesBoth (HaveArrived m c links streams) c (turns_on_line round x) checks heard) a.is arrives
+
+      idly : HearsIdly c (lasting (suc (round - suc (length a.ts))) a.ts) a.ends
+      idly role = record {
+        heard = of role heard;
+        is = subst (λ k. IsHeardOf c (other role) (lasting k a.ts) (check_of (of role a.ends)) (of role heard)) behind
+            (subst (λ x. IsHeardOf c (other role) (lasting (round - length a.ts) a.ts) x (of role heard))
+            (ap (of role) same ∙ a.stopped.checks role) (at.heard_of role));
+        well = at.well role;
+      }
+
+  ends-of : (checks : Both Check) (end : LineEnd) (a : AtEnd h script beside files round p) → checks ≡ h.modems.heard_by
+      → EndsLineBy (wire_at script h.dlci beside) (turns_on_line round p) (λ role. of role checks) end
+      → EndsLine (wire_at script h.dlci beside) (turns_on_line round (Ended a.ts a.ends a.end a.left)) a.ends end
+  ends-of checks end a same e =
+      by-ends (wire_at script h.dlci beside) (turns_on_line round (Ended a.ts a.ends a.end a.left)) checks a.ends end
+      (λ role. ap (of role) same ∙ a.stopped.checks role)
+      (subst (λ x. EndsLineBy (wire_at script h.dlci beside) (turns_on_line round x) (λ role. of role checks) end) a.is e)
+
+  pub lost-idly : (f : FolderState) (n : Written) (checks : Both Check) (role : Role) (symbol : ℕ) (a : AtEnd h script beside files round p)
+      → KnowsFiles f n files → HoldLeft f n p → checks ≡ h.modems.heard_by
+      → EndsLineBy (wire_at script h.dlci beside) (turns_on_line round p) (λ side. of side checks) (lines.LineLost role symbol)
+      → IsEndedByLine (wire_at script h.dlci beside) f n files round p (lines.LineLost role symbol)
+  lost-idly f n checks role symbol a knows holds same e =
+      subst (λ x. IsEndedByLine (wire_at script h.dlci beside) f n files round x (lines.LineLost role symbol)) (sym a.is) (record {
+        is = ends-of checks (lines.LineLost role symbol) a same e;
+        knows = knows;
+        left = record { got = a.left.got; trace = a.left.trace ++ [] };
+        leaves = (refl, refl);
+        holds = (held.0, (held.1.0, (subst (Holds f n.trace) (sym (append-nil a.left.trace)) held.1.1.0, tt)));
+      })
+    where
+      held : HoldEach f (outputs_of n) (held_of a.left)
+      held = subst (HoldLeft f n) a.is holds
+
+  -- by a chance match, whose line is written,
+  pub met-idly : (old new : FolderState) (n : Written) (checks : Both Check) (role : Role) (a : AtEnd h script beside files round p)
+      → IsApart n → KnowsFiles old n files → HoldLeft old n p → checks ≡ h.modems.heard_by → OnlyWrites old new n.trace
+      → Appended old new n.trace (chance_line round role)
+      → EndsLineBy (wire_at script h.dlci beside) (turns_on_line round p) (λ side. of side checks) (lines.ChanceMatch role)
+      → IsEndedByLine (wire_at script h.dlci beside) new n files round p (lines.ChanceMatch role)
+  met-idly old new n checks role a apart knows holds same only put e =
+      subst (λ x. IsEndedByLine (wire_at script h.dlci beside) new n files round x (lines.ChanceMatch role)) (sym a.is) (record {
+        is = ends-of checks (lines.ChanceMatch role) a same e;
+        knows = knows-later old new n files apart (lines-only old new n only) knows;
+        left = record { got = a.left.got; trace = a.left.trace ++ chance_line round role };
+        leaves = (refl, refl);
+        holds = (
+          Holds-kept old new n.got_o _ only.goes_on held.0 kept.0,
+          (
+            Holds-kept old new n.got_a _ only.goes_on held.1.0 kept.1.0,
+            (Holds-more old new n.trace a.left.trace (chance_line round role) only.goes_on held.1.1.0 put, tt),
           ),
         );
-      };
-    })
-  where
-    held : HoldEach old (outputs_of n) (held_of a.left)
-    held = subst (HoldLeft old n) a.is holds
+      })
+    where
+      held : HoldEach old (outputs_of n) (held_of a.left)
+      held = subst (HoldLeft old n) a.is holds
 
-    kept : KeepsEach old new (received_of n)
-    kept = receives-none old new n apart only
+      kept : KeepsEach old new (received_of n)
+      kept = receives-none old new n apart only
 
-    none : (side : Role) → of side none_got ≡ []
-    none Originator = refl
-    none Answerer = refl
+  -- or isn't
+  pub stopped-idly : (old new : FolderState) (n : Written) (checks : Both Check) (role : Role) (a : AtEnd h script beside files round p)
+      → IsApart n → KnowsFiles old n files → HoldLeft old n p → checks ≡ h.modems.heard_by → OnlyWrites old new n.trace
+      → PartlyAppended old new n.trace (chance_line round role)
+      → EndsLineBy (wire_at script h.dlci beside) (turns_on_line round p) (λ side. of side checks) (lines.ChanceMatch role)
+      → IsStopped LinkStops (wire_at script h.dlci beside) new n round p
+  stopped-idly old new n checks role a apart knows holds same only put e =
+      subst (λ x. IsStopped LinkStops (wire_at script h.dlci beside) new n round x) (sym a.is) (record {
+        others = files;
+        knows = knows-later old new n files apart (lines-only old new n only) knows;
+        lasts = a.ended;
+        stops = record {
+          more = record { got = none_got; trace = chance_line round role };
+          adds = record {
+            role = role;
+            is = ends-of checks (lines.ChanceMatch role) a same e;
+            got_is = none;
+            trace_is = ap (λ k. chance_line k role)
+                (sym (count-on-line (wire_at script h.dlci beside) round a.ts a.ends a.end a.left a.ended.before));
+          };
+          holds = inr (
+            kept-none old new n.got_o _ only.goes_on held.0 kept.0,
+            inr (
+              kept-none old new n.got_a _ only.goes_on held.1.0 kept.1.0,
+              inl (HoldsPart-more old new n.trace a.left.trace (chance_line round role) only.goes_on held.1.1.0 put, tt),
+            ),
+          );
+        };
+      })
+    where
+      held : HoldEach old (outputs_of n) (held_of a.left)
+      held = subst (HoldLeft old n) a.is holds
+
+      kept : KeepsEach old new (received_of n)
+      kept = receives-none old new n apart only
+
+      none : (side : Role) → of side none_got ≡ []
+      none Originator = refl
+      none Answerer = refl
 
 -- so the folder ends the pair
 pub writes-ends : (c : Wire) (f : FolderState) (n : Written) (files : Both (List ℕ)) (round : ℕ) (p : Progress) (fault : RunFault)

@@ -1,6 +1,5 @@
 -- However a pair ends, each received file is as it was, or holds the beginning of the file of the other end of its link.
-use Rattle.std.proofs.Common.{◌≡◌, inl, inr, ℕ, suc, List, [], ◌∷◌, ◌++◌, Some, Result, Ok, Err, refl, sym, ◌∙◌, ap, subst}
-use Rattle.std.proofs.Common.{append-nil}
+use Rattle.std.proofs.Common.{◌≡◌, inl, inr, ℕ, suc, List, [], ◌∷◌, ◌++◌, Some, Result, Ok, Err, refl, sym, ◌∙◌, ap, subst, append-nil}
 use Rattle.std.proofs.lemmas.List.Folds.{concat-append}
 use Rattle.std.specs.List.{concat}
 use Rattle.shared_terms.specs.Prefix.{IsPrefixOf}
@@ -50,7 +49,7 @@ pub record HeadLaws : Type 0 where
   pub breaks : BreaksAreOctets
 
 -- the files of the link are those
-same-prefix : (script : ScriptValue) (files : Both (List ℕ)) (role : Role) (got : List ℕ)
+pub same-prefix : (script : ScriptValue) (files : Both (List ℕ)) (role : Role) (got : List ℕ)
     → IsPrefixOf got (of (other role) (link_of script files)).user.file → IsPrefixOf got (of (other role) files)
 same-prefix script files Originator got h = h
 same-prefix script files Answerer got h = h

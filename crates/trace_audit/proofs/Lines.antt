@@ -5,7 +5,7 @@ use Rattle.std.proofs.Math.Seq.{drop-append_seam}
 use Rattle.trace_audit.specs.Differences.{fed, text_of, GoesOnWith, LineDiffers, RestDiffers, FirstDiffers}
 use Rattle.trace_audit.specs.Compared.{HasLines, DiffersIn}
 use Rattle.shared_terms.specs.declared.audit_cause.AuditCause.{AuditCause}
-use Rattle.shared_terms.specs.declared.audit_cause.AuditCause.TheVariants.{End, Beyond, Spelling, Turn, Role, Arrived, Sent, Break}
+use Rattle.shared_terms.specs.declared.audit_cause.AuditCause.TheVariants.{End, Beyond}
 
 pub text_of-append : (a b : List (List ℕ)) → text_of (a ++ b) ≡ text_of a ++ text_of b
 text_of-append [] b = refl
@@ -165,13 +165,7 @@ nothing-behind a b c e = none c (omega (
 -- a text that goes on with a line doesn't differ from it
 pub no-difference : (line rest : List ℕ) (cause : AuditCause) → GoesOnWith line rest → LineDiffers line rest cause → ⊥
 no-difference line rest End g d = d.1 (nothing-behind (fed line) g.0 d.0 (ap (λ t. t ++ d.0) (sym g.1) ∙ d.2))
-no-difference line rest Beyond g d = d.other g
-no-difference line rest Spelling g d = d.other g
-no-difference line rest Turn g d = d.other g
-no-difference line rest Role g d = d.other g
-no-difference line rest Arrived g d = d.other g
-no-difference line rest Sent g d = d.other g
-no-difference line rest Break g d = d.other g
+no-difference line rest another g d = d.other g
 
 -- a text that has the lines up to one isn't first different before it
 pub not-before : (lines : List (List ℕ)) (text : List ℕ) (m n : ℕ) (c d : AuditCause) (a : FirstDiffers lines text m c)

@@ -50,9 +50,7 @@ parts-one a b Break Break p q = refl
 parts-one a b Break End p q = absurd q
 parts-one a b Break Beyond p q = absurd q
 parts-one a b Break Spelling p q = absurd q
-parts-one a b End d p q = absurd p
-parts-one a b Beyond d p q = absurd p
-parts-one a b Spelling d p q = absurd p
+parts-one a b other d p q = absurd p
 
 reads-one : (line own : List ℕ) (c d : AuditCause) → ReadsDiffer line own c → ReadsDiffer line own d → c ≡ d
 reads-one line own c d p q =
@@ -65,11 +63,7 @@ own-cases : (line own : List ℕ) (c : AuditCause) → OwnDiffers line own c →
 own-cases line own End p = absurd p
 own-cases line own Beyond p = absurd p
 own-cases line own Spelling p = inl (refl, p)
-own-cases line own Turn p = inr p
-own-cases line own Role p = inr p
-own-cases line own Arrived p = inr p
-own-cases line own Sent p = inr p
-own-cases line own Break p = inr p
+own-cases line own other p = inr p
 
 own-one : (line own : List ℕ) (c d : AuditCause) → OwnDiffers line own c → OwnDiffers line own d → c ≡ d
 own-one line own c d p q = elim (own-cases line own c p) [
@@ -85,13 +79,7 @@ own-one line own c d p q = elim (own-cases line own c p) [
 
 line-cases : (line rest : List ℕ) (c : AuditCause) → LineDiffers line rest c → ((c ≡ End) × StopsIn line rest) ⊎ Departs line rest c
 line-cases line rest End p = inl (refl, p)
-line-cases line rest Beyond p = inr p
-line-cases line rest Spelling p = inr p
-line-cases line rest Turn p = inr p
-line-cases line rest Role p = inr p
-line-cases line rest Arrived p = inr p
-line-cases line rest Sent p = inr p
-line-cases line rest Break p = inr p
+line-cases line rest other p = inr p
 
 line-one : (line rest : List ℕ) (c d : AuditCause) → LineDiffers line rest c → LineDiffers line rest d → c ≡ d
 line-one line rest c d p q = elim (line-cases line rest c p) [

@@ -1,5 +1,5 @@
 -- From the phases of an audit to how it ends.
-use Rattle.std.proofs.Common.{◌≡◌, inl, inr, ℕ, ◌<◌, ◌≤◌, IsTrue, List, [], ◌∷◌, length, Result, Ok, Err, refl, sym, ◌∙◌, ap, subst, take}
+use Rattle.std.proofs.Common.{◌≡◌, inl, inr, ℕ, ◌<◌, IsTrue, List, [], ◌∷◌, length, Result, Ok, Err, refl, sym, ◌∙◌, ap, subst, take}
 use Rattle.std.proofs.Common.{arith}
 use Rattle.std.proofs.lemmas.List.{take_all}
 use Rattle.outside_calls.specs.Folder.{FolderState, octets_at, OnlyReads, CountsStand}
@@ -51,15 +51,7 @@ refused-trace old mid new n script (stops.Own answer) are r stand h =
     }))
 refused-trace old mid new n script (stops.Read fault) are r stand h =
     inr (record { script = script; are_open = are; fails = inl (stop-earlier old mid new (n.trace ∷ []) [] (stops.Read fault) stand h) })
-refused-trace old mid new n script (stops.Write fault) are r stand h = absurd h
-refused-trace old mid new n script (stops.Say fault) are r stand h = absurd h
-refused-trace old mid new n script stops.NoMemory are r stand h = absurd h
-
--- the trace is within its limit
-pub within-earlier : (old mid : FolderState) (name : List ℕ) (limit : ℕ) → OnlyReads old mid → IsWithin mid name limit
-    → IsWithin old name limit
-within-earlier old mid name limit r h told =
-    subst (λ (o : List ℕ). length o ≤ limit) (octets-kept old mid name (r.names name) told) (h (told_later r.goes_on name told))
+refused-trace old mid new n script other are r stand h = absurd h
 
 -- ---- what is counted
 
@@ -71,10 +63,7 @@ counts-first a b n (stops.Read folder.Failed) (inl o) = inl o
 counts-first a b n (stops.Read folder.Failed) (inr (inl w)) = inr (inl w)
 counts-first a b n (stops.Read folder.Failed) (inr (inr (inl s))) = inr (inr (inl s))
 counts-first a b n (stops.Read folder.Failed) (inr (inr (inr never))) = absurd never
-counts-first a b n (stops.Read folder.NoMemory) h = h
-counts-first a b n (stops.Write fault) h = h
-counts-first a b n (stops.Say fault) h = h
-counts-first a b n stops.NoMemory h = h
+counts-first a b n other h = h
 
 -- of the trace
 pub counts-trace : (a b : FolderState) (n : AuditNames) (stop : Stop) → IsNotWithin a b n.trace 16777216 4 stop
@@ -82,9 +71,7 @@ pub counts-trace : (a b : FolderState) (n : AuditNames) (stop : Stop) → IsNotW
 counts-trace a b n (stops.Own answer) h = subst (λ (s : Status). StopCounts a b (inputs_of n) [] (stops.Own s)) (sym h.0) (tt, h.2)
 counts-trace a b n (stops.Read folder.Failed) h = inr (inr (inr h))
 counts-trace a b n (stops.Read folder.NoMemory) h = h
-counts-trace a b n (stops.Write fault) h = absurd h
-counts-trace a b n (stops.Say fault) h = absurd h
-counts-trace a b n stops.NoMemory h = absurd h
+counts-trace a b n other h = absurd h
 
 -- of the turns
 pub counts-turns : (a b : FolderState) (n : AuditNames) (stop : Stop) → StopCounts a b (n.orig ∷ n.answ ∷ n.trace ∷ []) [] stop
@@ -93,10 +80,7 @@ counts-turns a b n (stops.Own answer) h = h
 counts-turns a b n (stops.Read folder.Failed) (inl o) = inl o
 counts-turns a b n (stops.Read folder.Failed) (inr (inl w)) = inr (inl w)
 counts-turns a b n (stops.Read folder.Failed) (inr (inr t)) = inr (inr (inr t))
-counts-turns a b n (stops.Read folder.NoMemory) h = h
-counts-turns a b n (stops.Write fault) h = h
-counts-turns a b n (stops.Say fault) h = h
-counts-turns a b n stops.NoMemory h = h
+counts-turns a b n other h = h
 
 pub end-turns : (a b : FolderState) (n : AuditNames) (end : Result ℕ Stop) → EndCounts a b (n.orig ∷ n.answ ∷ n.trace ∷ []) [] end
     → EndCounts a b (inputs_of n) [] end
@@ -158,9 +142,7 @@ module _ (begin now new : FolderState) (n : AuditNames) (m : Written) (script : 
   ends-so (Err (stops.Read fault)) r k =
       inr (fails fault (stop-earlier begin now new (n.orig ∷ n.answ ∷ n.trace ∷ []) [] (stops.Read fault) b.stand k))
   ends-so (Err stops.NoMemory) r k = b.are_open.opens.reads.within
-  ends-so (Err (stops.Write fault)) r k = absurd r
-  ends-so (Err (stops.Say fault)) r k = absurd r
-  ends-so (Err (stops.Own answer)) r k = absurd r
+  ends-so other r k = absurd r
 
 -- memory was not found
 pub no-memory : (begin now : FolderState) (n : AuditNames) (script : ScriptValue) → IsBegun begin now n script

@@ -1,7 +1,6 @@
 -- Both lines of a turn are lines that are read.
 use Rattle.std.proofs.Common.{◌≡◌, ℕ, ◌<◌, ◌≤◌, ◌^◌, Bool, true, false, cond, nat_lt, List, [], ◌∷◌, length, slice_index_or, arith, refl}
-use Rattle.std.proofs.Common.{sym}
-use Rattle.std.proofs.Common.{◌∙◌, subst, Option, Some, None}
+use Rattle.std.proofs.Common.{sym, ◌∙◌, subst, Option, Some, None}
 use Rattle.std.specs.Prelude.{IfSome, unwrap_or}
 use Rattle.std.specs.Option.{option_map}
 use Rattle.frame_check.specs.declared.sizes.TheConstants.{INFO}
@@ -9,14 +8,12 @@ use Rattle.shared_terms.specs.declared.role.Role.{Role}
 use Rattle.shared_terms.specs.Role.{other}
 use Rattle.shared_terms.specs.Both.{Both, of}
 use Rattle.lapm_frames.specs.declared.frame.Frame.{Frame}
-use Rattle.lapm_frames.specs.declared.frame.Frame.TheVariants as frames
 use Rattle.lapm_frames.specs.Frame.{information_of}
 use Rattle.lapm_frames.specs.Parts.{parts_of}
 use Rattle.lapm_frames.specs.declared.sent.Sent.{Sent}
 use Rattle.lapm_frames.specs.declared.sent.Sent.TheVariants as slots
 use Rattle.lapm_frames.specs.declared.heard.Heard.{Heard}
 use Rattle.lapm_frames.specs.declared.heard.Heard.TheVariants.{Nothing, Passed, Lost, Chance}
-use Rattle.break_signals.specs.Words.{word_in}
 use Rattle.noise_script.specs.Script.{ScriptValue, IsInLimits, delay_of}
 use Rattle.link_account.specs.Account.{Account, is_connected, given_break}
 use Rattle.link_run.specs.Run.{Accounts, Spoken, Turn}
@@ -24,11 +21,10 @@ use Rattle.link_run.specs.Carried.{sent_ago, has_message, Crosses, Carries}
 use Rattle.link_run.specs.Outcomes.{Outcome, Going, Done, Broken, TurnIs}
 use Rattle.line_run.specs.Sampled.{HeardIn, LineRun}
 use Rattle.line_run.specs.Scripted.{wire_of, link_of}
-use Rattle.line_texts.specs.FrameText.{break_in}
 use Rattle.line_texts.specs.LineText.{is_chance}
-use Rattle.trace_audit.specs.Grammar.{IsBreak, count_bound}
+use Rattle.trace_audit.specs.Grammar.{count_bound}
 use Rattle.trace_audit.specs.Written.{IsReadableFrame, IsReadableSent, IsReadableSignal, IsReadableHeard, IsReadable}
-use Rattle.trace_audit.proofs.Written.{read-break}
+use Rattle.trace_audit.proofs.Written.{breaks}
 use Rattle.line_ends.specs.Plain.{InOctets, IsPlain, IsPlainSent, AsksInOctets}
 use Rattle.trace_audit.specs.Readable.{line_of, LinesAreRead}
 use Rattle.line_run.proofs.Slots.{SentAgo, sent-ago}
@@ -43,34 +39,16 @@ few : (o : Option (List ℕ)) → length (unwrap_or o []) ≤ INFO → IfSome o 
 few None h = tt
 few (Some info) h = omega (arith, h)
 
-breaks : (f : Frame) → InOctets f → IfSome (break_in f) IsBreak
-breaks (frames.Ui command pf info) h = read-break info (word_in info) refl h
-breaks (frames.I ns nr pf info) h = tt
-breaks (frames.Rr command nr pf) h = tt
-breaks (frames.Rnr command nr pf) h = tt
-breaks (frames.Rej command nr pf) h = tt
-breaks (frames.Srej command nr pf) h = tt
-breaks (frames.Sabme pf) h = tt
-breaks (frames.Disc pf) h = tt
-breaks (frames.Ua pf) h = tt
-breaks (frames.Dm pf) h = tt
-breaks (frames.Frmr pf info) h = tt
-breaks (frames.Xid command pf info) h = tt
-breaks (frames.Test command pf info) h = tt
-
 frame-read : (f : Frame) → IsPlain f → length (information_of f) ≤ INFO → IsReadableFrame f
-frame-read f p l = (p.ns, p.nr, few (parts_of f).info l, breaks f p.octets)
+frame-read f p l = (p.ns, p.nr, few (parts_of f).info l, breaks f (λ command pf info e. subst InOctets e p.octets))
 
 -- a slot whose frame has few octets
 abbrev IsShort : Sent → Type 0
 IsShort s = (frame : Frame) → s ≡ slots.Frame frame → length (information_of frame) ≤ INFO
 
 sent-read : (s : Sent) → IsPlainSent s → IsShort s → IsReadableSent s
-sent-read slots.Mark p f = tt
-sent-read slots.Odp p f = tt
-sent-read slots.Adp p f = tt
-sent-read slots.Flags p f = tt
 sent-read (slots.Frame frame) p f = frame-read frame p (f frame refl)
+sent-read other p f = tt
 
 signal-read : (s : Sent) → has_message s ≡ true → IsPlainSent s → IsShort s → IsReadableSignal s
 signal-read slots.Mark m p f = absurd cc

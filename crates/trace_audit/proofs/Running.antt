@@ -128,10 +128,7 @@ pub trace-counts : (a b : FolderState) (n : Written) (trace : List ℕ) (stop : 
     → StopCounts a b (audit_inputs n trace) [] stop
 trace-counts a b n trace (stops.Own answer) h = h
 trace-counts a b n trace (stops.Read folder.Failed) h = inr (inr h)
-trace-counts a b n trace (stops.Read folder.NoMemory) h = h
-trace-counts a b n trace (stops.Write fault) h = h
-trace-counts a b n trace (stops.Say fault) h = h
-trace-counts a b n trace stops.NoMemory h = h
+trace-counts a b n trace other h = h
 
 -- so are the files
 pub files-counts : (a b : FolderState) (n : Written) (trace : List ℕ) (stop : Stop) → StopCounts a b (inputs_of n) [] stop
@@ -140,10 +137,7 @@ files-counts a b n trace (stops.Own answer) h = h
 files-counts a b n trace (stops.Read folder.Failed) (inl orig) = inl orig
 files-counts a b n trace (stops.Read folder.Failed) (inr (inl answ)) = inr (inl answ)
 files-counts a b n trace (stops.Read folder.Failed) (inr (inr never)) = absurd never
-files-counts a b n trace (stops.Read folder.NoMemory) h = h
-files-counts a b n trace (stops.Write fault) h = h
-files-counts a b n trace (stops.Say fault) h = h
-files-counts a b n trace stops.NoMemory h = h
+files-counts a b n trace other h = h
 
 pub found-counts : (a b : FolderState) (inputs : List (List ℕ)) (found : Result ℕ Difference) → CountsStand a b
     → EndCounts a b inputs [] (found_end found)
@@ -202,11 +196,9 @@ module _ (v : World) (mid new : FolderState) (n : Written) (trace : List ℕ) (c
 -- what stops an audit before anything is found
 pub stops-so : (script : ScriptValue) (f : FolderState) (n : Written) (trace : List ℕ) (stop : Stop) → IsReading stop
     → RunIs script f n trace (Err stop)
-stops-so script f n trace (stops.Own answer) h = absurd h
 stops-so script f n trace (stops.Read fault) h = tt
-stops-so script f n trace (stops.Write fault) h = absurd h
-stops-so script f n trace (stops.Say fault) h = absurd h
 stops-so script f n trace stops.NoMemory h = tt
+stops-so script f n trace other h = absurd h
 
 -- ---- whether a turn has stopped the audit
 

@@ -11,8 +11,7 @@ use Rattle.trace_audit.specs.Cutting.{behind, first_of, behind_number, behind_la
 use Rattle.trace_audit.specs.Pieces.{behind_direction, behind_poll, behind_count, behind_break, behind_labelled_break, behind_information}
 use Rattle.trace_audit.specs.Pieces.{behind_shape}
 use Rattle.trace_audit.specs.Grammar.{Shape, Numbered, Supervisory, Commanding, Responding, Rejecting, Exchanging, Unnumbered, number_bound}
-use Rattle.trace_audit.specs.Grammar.{count_bound}
-use Rattle.trace_audit.specs.Grammar.{FrameWords, AreInRange, IsBreak, count_word, information_word, shape_text}
+use Rattle.trace_audit.specs.Grammar.{count_bound, FrameWords, AreInRange, IsBreak, count_word, information_word, shape_text}
 use Rattle.trace_audit.proofs.Fronts.{chained, either, behind-reads, behind-is, begins, chain2, chain3, chain4, join2, join3, join4}
 use Rattle.trace_audit.proofs.Numbers.{behind-number-reads, behind-number-is, labelled-reads, labelled-is}
 

@@ -21,8 +21,7 @@ use Rattle.line_texts.specs.LineText.{line_begins, break_word}
 use Rattle.trace_audit.specs.declared.line.LineText.{LineText}
 use Rattle.trace_audit.specs.Grammar.{Shape, Numbered, Supervisory, Commanding, Responding, Rejecting, Exchanging, Unnumbered, count_bound}
 use Rattle.trace_audit.specs.Grammar.{FrameWords, AreInRange, IsBreak, count_word, information_word, shape_text, IsFrameText, IsSignal, odp}
-use Rattle.trace_audit.specs.Grammar.{adp, frame}
-use Rattle.trace_audit.specs.Grammar.{IsHeard, nothing, lost, passed, IsSent, mark, flags, none, signal, HasParts}
+use Rattle.trace_audit.specs.Grammar.{adp, frame, IsHeard, nothing, lost, passed, IsSent, mark, flags, none, signal, HasParts}
 use Rattle.trace_audit.proofs.Frames.{at-names}
 use Rattle.trace_audit.specs.Cutting.{is_no_feed}
 

@@ -1,8 +1,7 @@
 -- What the octets that a text begins with tell of it.
 use Rattle.std.proofs.Common.{◌≡◌, ◌≢◌, ℕ, zero, suc, ◌+◌, ◌-◌, ◌<◌, ◌≤◌, Bool, true, false, not, ◌&&◌, cond, eqb, List, [], ◌∷◌, ◌++◌}
-use Rattle.std.proofs.Common.{length, take, drop}
-use Rattle.std.proofs.Common.{refl, sym, ap, subst, ◌∙◌, arith, append_assoc, ◌⊎◌, inl, inr, length-append, append-nil, take-append-drop}
-use Rattle.std.proofs.Common.{length-take}
+use Rattle.std.proofs.Common.{length, take, drop, refl, sym, ap, subst, ◌∙◌, arith, append_assoc, ◌⊎◌, inl, inr, length-append, append-nil}
+use Rattle.std.proofs.Common.{take-append-drop, length-take}
 use Rattle.std.specs.Prelude.{◌==◌}
 use Rattle.std.specs.List.{list_all}
 use Rattle.std.specs.Str.{bytes_eq}
@@ -29,11 +28,7 @@ unnot true e = refl
 unnot false e = absurd cc
 
 pub differ : (a b : List ℕ) → not (bytes_eq a b) ≡ true → a ≢ b
-differ a b e s = go (bytes_eq a b) e ((bytes_eq-Decides a b).1 s)
-  where
-    go : (t : Bool) → not t ≡ true → t ≡ true → ⊥
-    go true e f = cc
-    go false e f = cc
+differ a b e same = cc (sym e ∙ ap not ((bytes_eq-Decides a b).1 same))
 
 pub same-octets : (a b : List ℕ) → not (bytes_eq a b) ≡ false → a ≡ b
 same-octets a b e = (bytes_eq-Decides a b).0 (unnot (bytes_eq a b) e)
@@ -258,11 +253,7 @@ module _ (line window rest : List ℕ) (whole : IsWhole line) (short : length li
       go long_own long_front End d = absurd d
       go long_own long_front Beyond d = absurd d
       go long_own long_front Spelling d = λ r. unread (own_line rest) long_own r.0 r.1
-      go long_own long_front Turn d = absurd (unread (front_of is_no_feed window) long_front d.other d.other_is)
-      go long_own long_front Role d = absurd (unread (front_of is_no_feed window) long_front d.other d.other_is)
-      go long_own long_front Arrived d = absurd (unread (front_of is_no_feed window) long_front d.other d.other_is)
-      go long_own long_front Sent d = absurd (unread (front_of is_no_feed window) long_front d.other d.other_is)
-      go long_own long_front Break d = absurd (unread (front_of is_no_feed window) long_front d.other d.other_is)
+      go long_own long_front another d = absurd (unread (front_of is_no_feed window) long_front d.other d.other_is)
 
   -- the text has another line in the place of this one
   pub departs : (cause : AuditCause) → OwnDiffers line (front_of is_no_feed window) cause → (line ≡ front_of is_no_feed window → ⊥)
@@ -276,11 +267,10 @@ module _ (line window rest : List ℕ) (whole : IsWhole line) (short : length li
       other g = apart (sym (went-on g))
 
       go : (cause : AuditCause) → OwnDiffers line (front_of is_no_feed window) cause → LineDiffers line rest cause
-      go End d = absurd d
-      go Beyond d = absurd d
       go Spelling d = record { stays = stays; other = other; own = own-differs Spelling d }
       go Turn d = record { stays = stays; other = other; own = own-differs Turn d }
       go Role d = record { stays = stays; other = other; own = own-differs Role d }
       go Arrived d = record { stays = stays; other = other; own = own-differs Arrived d }
       go Sent d = record { stays = stays; other = other; own = own-differs Sent d }
       go Break d = record { stays = stays; other = other; own = own-differs Break d }
+      go other d = absurd d

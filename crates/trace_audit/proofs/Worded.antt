@@ -5,7 +5,7 @@ use Rattle.shared_terms.specs.declared.role.Role.{Role}
 use Rattle.shared_terms.specs.declared.role.Role.TheVariants.{Originator, Answerer}
 use Rattle.shared_terms.specs.Both.{of}
 use Rattle.lapm_frames.specs.declared.heard.Heard.{Heard}
-use Rattle.lapm_frames.specs.declared.heard.Heard.TheVariants.{Nothing, Passed, Lost, Chance}
+use Rattle.lapm_frames.specs.declared.heard.Heard.TheVariants.{Chance}
 use Rattle.link_run.specs.Run.{Side}
 use Rattle.line_texts.specs.LineText.{is_chance}
 use Rattle.line_texts.specs.declared.trace_line.TraceLine.{TraceLine}
@@ -25,10 +25,8 @@ abbrev pub ReadIsWhole : Type 0
 ReadIsWhole = (line : List ℕ) (text : LineText) → HasParts line text → list_all is_no_feed line ≡ true
 
 plain : (heard : Heard) → heard ≢ Chance → is_chance heard ≡ false
-plain Nothing h = refl
-plain (Passed s) h = refl
-plain (Lost s) h = refl
 plain Chance h = absurd (h refl)
+plain other h = refl
 
 -- the line of an end in a turn
 side-text : (turn : ℕ) (role : Role) (s : Side) → is_chance s.heard ≡ false → text_of_line (line_of turn role s) ≡ side_words turn role s

@@ -142,38 +142,29 @@ frame-is-text (frames.Xid command pf info) h =
 frame-is-text (frames.Test command pf info) h =
     informed Exchanging (codes "test") command pf (length info) None (count_word (length info)) refl h.2 tt refl
 
+-- what a frame says of a break, where a UI frame's information is octets
+pub breaks : (f : Frame) → ((command pf : Bool) (info : List ℕ) → f ≡ frames.Ui command pf info → AreOctets info)
+    → IfSome (break_in f) IsBreak
+breaks (frames.Ui command pf info) h = read-break info (word_in info) refl (h command pf info refl)
+breaks other h = tt
+
 -- a frame whose numbers are below 128 and whose information is octets, at most INFO of them, is one that is read back
 pub octets-are-read : (f : Frame) → IfSome (parts_of f).ns (λ ns. ns < number_bound) → IfSome (parts_of f).nr (λ nr. nr < number_bound)
     → IfSome (parts_of f).info IsInformation → IsReadableFrame f
-octets-are-read f ns nr info = (ns, nr, few (parts_of f).info info, breaks f info)
+octets-are-read f ns nr info =
+    (ns, nr, few (parts_of f).info info, breaks f (λ command pf octets e. (subst (λ x. IfSome (parts_of x).info IsInformation) e info).1))
   where
     few : (o : Option (List ℕ)) → IfSome o IsInformation → IfSome o (λ info. length info < count_bound)
     few None h = tt
     few (Some xs) h = omega (arith, h.0)
 
-    breaks : (f : Frame) → IfSome (parts_of f).info IsInformation → IfSome (break_in f) IsBreak
-    breaks (frames.Ui command pf info) h = read-break info (word_in info) refl h.1
-    breaks (frames.I ns nr pf info) h = tt
-    breaks (frames.Rr command nr pf) h = tt
-    breaks (frames.Rnr command nr pf) h = tt
-    breaks (frames.Rej command nr pf) h = tt
-    breaks (frames.Srej command nr pf) h = tt
-    breaks (frames.Sabme pf) h = tt
-    breaks (frames.Disc pf) h = tt
-    breaks (frames.Ua pf) h = tt
-    breaks (frames.Dm pf) h = tt
-    breaks (frames.Frmr pf info) h = tt
-    breaks (frames.Xid command pf info) h = tt
-    breaks (frames.Test command pf info) h = tt
-
 -- ---- lines
 
 signal-is-text : (s : Sent) → IsReadableSignal s → IsSignal (slot_word s)
-signal-is-text slots.Mark h = absurd h
 signal-is-text slots.Odp h = odp refl
 signal-is-text slots.Adp h = adp refl
-signal-is-text slots.Flags h = absurd h
 signal-is-text (slots.Frame f) h = frame (frame-is-text f h)
+signal-is-text other h = absurd h
 
 heard-is-text : (heard : Heard) → IsReadableHeard heard → is_chance heard ≡ false → IsHeard (heard_word heard)
 heard-is-text Nothing h c = nothing refl

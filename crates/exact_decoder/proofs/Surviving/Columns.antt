@@ -1,6 +1,6 @@
 -- The sums and paths of all states, sample by sample.
-use Rattle.std.proofs.Common.{◌≡◌, ℕ, ◌+◌, ◌-◌, ◌<◌, ◌≤◌, ◌⊎◌, inl, inr, Bool, true, false, if◌then◌else◌, List, [], ◌∷◌, ◌++◌, length}
-use Rattle.std.proofs.Common.{arith, refl, sym, ◌∙◌, ap, subst, Option, Some, None, option_map}
+use Rattle.std.proofs.Common.{◌≡◌, ℕ, ◌+◌, ◌<◌, ◌≤◌, ◌⊎◌, inl, inr, Bool, true, false, if◌then◌else◌, List, [], ◌∷◌, ◌++◌, length}
+use Rattle.std.proofs.Common.{arith, refl, sym, ◌∙◌, ap, subst, Option, Some, None}
 use Rattle.std.proofs.lemmas.Bool.{false≢true}
 use Rattle.std.proofs.Math.Nat.{eq-or-lt_of_le}
 use Rattle.trellis_tables.specs.Sequences.{cost}
@@ -104,14 +104,3 @@ Keeps-start {X} c sums paths empty starts =
       ap (λ l. cost c.distance l []) (empty s),
     )
     each s false e = λ labels q. none labels s e (nothing labels q.same_length) q
-
--- the sums are made smaller by one number
-pub Keeps-lowered : {X : Type 0} (c : Trellis X) (samples : List X) (base least : ℕ) (sums : ℕ → Option ℕ) (paths : ℕ → List ℕ)
-    → ((s n : ℕ) → sums s ≡ Some n → least ≤ n) → Keeps c samples base sums paths
-    → Keeps c samples (base + least) (λ s. option_map (λ n. n - least) (sums s)) paths
-Keeps-lowered {X} c samples base least sums paths low k = record { knows = λ s. each s (sums s) refl (k.knows s) }
-  where
-    each : (s : ℕ) (o : Option ℕ) → sums s ≡ o → KnowsState c samples base paths s o
-        → KnowsState c samples (base + least) paths s (option_map (λ n. n - least) o)
-    each s None e h = h
-    each s (Some n) e h = (h.0, omega (arith, h.1, low s n e))

@@ -1,10 +1,9 @@
 -- A state has one survivor; a prefix of two lists that part is a prefix of what they share.
-use Rattle.std.proofs.Common.{◌≡◌, ◌≢◌, ℕ, ◌≤◌, ◌⊎◌, inl, inr, List, [], ◌∷◌, ◌++◌, arith, refl, sym, ◌∙◌, ap, subst, Option, Some}
-use Rattle.std.proofs.lemmas.List.{append-nil}
+use Rattle.std.proofs.Common.{◌≡◌, ◌≢◌, ℕ, ◌≤◌, ◌⊎◌, inl, inr, List, [], ◌∷◌, ◌++◌, arith, refl, sym, ◌∙◌, ap, subst}
 use Rattle.shared_terms.specs.Prefix.{IsPrefixOf}
 use Rattle.exact_decoder.specs.Surviving.Orders.{LessFromLast, Beats}
 use Rattle.exact_decoder.specs.Surviving.Trellises.{Trellis}
-use Rattle.exact_decoder.specs.Surviving.Survivors.{IsSurvivor, IsReleased, IsFirstLeast}
+use Rattle.exact_decoder.specs.Surviving.Survivors.{IsSurvivor, IsFirstLeast}
 
 not_less-self : (a : List ℕ) → LessFromLast a a → ⊥
 not_less-self [] h = h
@@ -51,27 +50,3 @@ prefix-parted (z ∷ other) (w ∷ front) a b x y apart (r, e) (s, f) =
     let same : w ≡ z = cc in
     let p = prefix-parted other front a b x y apart (r, tail_e) (s, tail_f) in
     (p.0, ap (λ l. l ∷ (other ++ p.0)) (sym same) ∙ ap (λ l. w ∷ l) p.1)
-
--- the tails of the survivors behind what is released
-pub record KeepsTails {X : Type 0} (c : Trellis X) (samples : List X) (front : List ℕ) (kept : ℕ → Option (List ℕ)) : Type 0 where
-  pub stands : (s : ℕ) (tail : List ℕ) → kept s ≡ Some tail → IsSurvivor c samples (front ++ tail) s
-  pub each : (s : ℕ) (labels : List ℕ) → IsSurvivor c samples labels s → (tail : List ℕ) × (kept s ≡ Some tail)
-
--- nothing more is common to all tails: one is empty, or two begin with different labels
-pub data Parts (kept : ℕ → Option (List ℕ)) : Type 0 where
-  Empty : (s : ℕ) → kept s ≡ Some [] → Parts kept
-  Apart : (s t x y : ℕ) (a b : List ℕ) → kept s ≡ Some (x ∷ a) → kept t ≡ Some (y ∷ b) → x ≢ y → Parts kept
-
-pub released-exact : {X : Type 0} (c : Trellis X) (samples : List X) (front : List ℕ) (kept : ℕ → Option (List ℕ))
-    → KeepsTails c samples front kept → Parts kept → IsReleased c samples front
-released-exact c samples front kept h parts = record {
-  common = λ s labels v. let t = h.each s labels v in (t.0, survivor-one c samples (front ++ t.0) labels s (h.stands s t.0 t.1) v);
-  longest = λ other every. longest other every parts;
-}
-  where
-    longest : (other : List ℕ) → ((state : ℕ) (labels : List ℕ) → IsSurvivor c samples labels state → IsPrefixOf other labels) → Parts kept
-        → IsPrefixOf other front
-    longest other every (Empty s e) = subst (IsPrefixOf other) (append-nil front) (every s (front ++ []) (h.stands s [] e))
-    longest other every (Apart s t x y a b e f apart) =
-        prefix-parted other front a b x y apart (every s (front ++ x ∷ a) (h.stands s (x ∷ a) e))
-        (every t (front ++ y ∷ b) (h.stands t (y ∷ b) f))

@@ -1,12 +1,11 @@
 -- As an end hears it gives its link up for its peer's faults alone, and as it is to speak for none of these.
-use Rattle.std.proofs.Common.{◌≡◌, ◌&&◌, ℕ, Bool, true, false, if◌then◌else◌, nat_eq, nat_le, Option, Some, None, Result, Ok, Err}
-use Rattle.std.proofs.Common.{subst}
+use Rattle.std.proofs.Common.{◌≡◌, ◌&&◌, ℕ, Bool, true, false, if◌then◌else◌, nat_eq, nat_le, Option, Some, None, Result, Ok, Err, subst}
 use Rattle.std.specs.Option.{option_map}
 use Rattle.shared_terms.specs.declared.role.Role.{Role}
 use Rattle.shared_terms.specs.declared.role.Role.TheVariants.{Originator, Answerer}
 use Rattle.shared_terms.specs.Role.{is_originator}
 use Rattle.lapm_frames.specs.declared.frame.Frame.{Frame}
-use Rattle.lapm_frames.specs.declared.frame.Frame.TheVariants.{I, Rr, Rnr, Rej, Srej, Sabme, Disc, Ua, Dm, Frmr, Ui, Xid}
+use Rattle.lapm_frames.specs.declared.frame.Frame.TheVariants.{I, Rr, Rnr, Rej, Srej, Sabme, Disc, Ua, Dm, Xid}
 use Rattle.xid_params.specs.Offers.{written}
 use Rattle.shared_terms.specs.Timer.{expires, wait}
 use Rattle.lapm_sender.specs.Outgoing.{Outgoing, acknowledged, rejected, replied, selected, paused_at, resumed, expired}
@@ -19,9 +18,8 @@ use Rattle.link_account.specs.declared.phase.Phase.{Phase}
 use Rattle.link_account.specs.declared.phase.Phase.TheVariants.{Detecting, Negotiating, Establishing, Connected, Releasing, Closed}
 use Rattle.link_account.specs.declared.answer.Answer.TheVariants as answers
 use Rattle.link_account.specs.Account.{Account}
-use Rattle.link_account.specs.Hear.{hear, on_frame, on_detecting, on_negotiating, on_establishing, on_releasing, on_closed}
-use Rattle.link_account.specs.Hear.{on_connected, on_number, on_disc, then_in, taking, replying, hurrying, pausing, ends_wait}
-use Rattle.link_account.specs.Hear.{owing, peer_reset, trying}
+use Rattle.link_account.specs.Hear.{hear, on_frame, on_detecting, on_negotiating, on_establishing, on_releasing, on_closed, on_connected}
+use Rattle.link_account.specs.Hear.{on_number, on_disc, then_in, taking, replying, hurrying, pausing, ends_wait, owing, peer_reset, trying}
 use Rattle.link_account.specs.Speak.{Said, speak, speak_in, speak_detecting, speak_negotiating, speak_connected, speak_linked}
 use Rattle.link_account.specs.Speak.{speak_releasing, u_try, spent, tries_frame, trying_again, polling, breaking, on_timer}
 use Rattle.link_account.specs.Speak.{timer_expires, then_tries, after_timers, says}
@@ -91,10 +89,7 @@ linked (Rej command nr pf) turn a =
 linked (Srej command nr pf) turn a = numbered turn nr (selected nr a.outgoing) a
 linked (Sabme pf) turn a = sabme _ pf a
 linked (Disc pf) turn a = disc a.setup.role pf a
-linked (Dm pf) turn a = tt
-linked (Frmr pf info) turn a = tt
-linked (Ui command pf info) turn a = tt
-linked frame turn a = tt
+linked other turn a = tt
 
 framed : (p : Phase) (frame : Frame) (turn : ℕ) (a : Account) → IfPeers (on_frame p frame turn a)
 framed Detecting frame turn a = detecting a.setup.role frame turn a
@@ -105,9 +100,8 @@ framed Releasing frame turn a = releasing frame a
 framed Closed frame turn a = closed frame a
 
 hearing : (turn : ℕ) (arrived : Arrived) (a : Account) → IfPeers (hear turn arrived a)
-hearing turn arrivals.Nothing a = tt
-hearing turn (arrivals.Pattern seen) a = tt
 hearing turn (arrivals.Frame frame) a = framed a.phase frame turn a
+hearing turn other a = tt
 
 pub hears-peers : (turn : ℕ) (arrived : Arrived) (a : Account) (fault : LinkFault) → hear turn arrived a ≡ Err fault → IsPeers fault
 hears-peers turn arrived a fault e = subst IfPeers e (hearing turn arrived a)

@@ -3,8 +3,7 @@ use Rattle.std.proofs.Common.{◌≡◌, inl, inr, ◌∙◌, ℕ, ◌+◌, ◌-
 use Rattle.std.proofs.Common.{nat_eq, bit_and}
 use Rattle.std.proofs.Common.{Option, None, Some, replicate, refl, sym, ap, subst, arith, append_assoc, append-nil, length-append}
 use Rattle.std.specs.Option.{option_map_or}
-use Rattle.std.proofs.lemmas.List.{take_more, take_all, take-append-le, get_or_append_left, get_or-append_right, length-replicate}
-use Rattle.std.proofs.lemmas.List.{get_or-replicate}
+use Rattle.std.proofs.lemmas.List.{take_more, take_all, take-append-le, length-replicate}
 use Rattle.std.proofs.lemmas.Bool.{cases_lt}
 use Rattle.std.proofs.lemmas.Nat.{and_mask}
 use Rattle.frame_check.specs.Bits.{octet_bits, bits_of}
@@ -193,14 +192,6 @@ filled-length slot short =
       length-replicate {A = ℕ}
           (slot_octets - length slot) 0xff,
     )
-
-pub own-octet : (slot : List ℕ) (place : ℕ) → place < length slot → get_or (filled slot) place 0 ≡ get_or slot place 0
-own-octet slot place low = get_or_append_left slot (replicate (slot_octets - length slot) 0xff) 0 place low
-
-pub filling-octet : (slot : List ℕ) (place : ℕ) → length slot ≤ place → place < slot_octets → get_or (filled slot) place 0 ≡ 0xff
-filling-octet slot place from low =
-    get_or-append_right slot (replicate (slot_octets - length slot) 0xff) (length slot) place 0 refl from
-    ∙ get_or-replicate {A = ℕ} (slot_octets - length slot) (place - length slot) 0xff 0 (omega (arith, from, low))
 
 pub append-again : (a b d : List Bool) → (a ++ b) ++ d ≡ a ++ (b ++ d)
 append-again a b d = append_assoc a b d

@@ -26,7 +26,7 @@ use Rattle.link_run.specs.Run.{spoken}
 use Rattle.link_run.specs.Alone.{LoneTurn, LoneGoing, LoneNext, Goes_on, Is_last, Is_faulty, Is_broken, hangs_up, lone_served}
 use Rattle.link_run.specs.Alone.{LoneRunsByWhatIsReadOn, LoneRunsKeepTheirSetup, EachLoneTurnIsMade}
 use Rattle.line_world.specs.declared.station.Station.{Station}
-use Rattle.line_world.specs.Station.{Stands, HearsAs, SpeaksAs, Supplies, IsCounted}
+use Rattle.line_world.specs.Station.{Stands, HearsAs, SpeaksAs, Supplies}
 use Rattle.line_texts.specs.LineText.{trace_line}
 use Rattle.line_world.specs.OneEnd.Heard.{IsHeard, stream, slot_bits}
 use Rattle.detection.specs.Ear.{HasHeard}
@@ -82,9 +82,6 @@ pub hangs-answerer : LoneRunsKeepTheirSetup → (s : Single) (p : Past) (slot : 
 hangs-answerer law s p slot arrived mid h role =
     let is : is_originator mid.setup.role ≡ false = role-kept law s p slot arrived mid (handed mid) h ∙ ap is_originator role in
     sym (ap (λ (b : Bool). b && is_closed mid.phase) is)
-
-pub counted-later : (s : Station) (heard asked : ℕ) → IsCounted s heard asked → IsCounted s heard (asked + 1)
-counted-later s heard asked h = record { segments = omega (arith, h.segments); breaks = omega (arith, h.breaks) }
 
 -- ---- the file is read on
 
@@ -153,11 +150,6 @@ pub said-well : (r : Result Said LinkFault) (file : List ℕ) (sent : Sent) (s :
     → SaidWell r file sent s
 said-well (Ok said) file sent s done h = record { said = said; says = refl; sent_is = h.0; stands = h.1 }
 said-well (Err fault) file sent s done h = absurd h
-
-pub said-badly : (r : Result Said LinkFault) (file : List ℕ) (sent : Sent) (s : Station) (broken : LinkFault)
-    → SpeaksAs r file sent s (Err broken) → r ≡ Err broken
-said-badly (Ok said) file sent s broken h = absurd h
-said-badly (Err fault) file sent s broken h = ap (λ f. Err f) (sym h)
 
 -- a turn with these in it
 abbrev pub going-turn : Arrived → Said → Option ℕ → LoneTurn
@@ -260,8 +252,7 @@ pub ends-part : (s : Single) (old new : FolderState) (trace : List ℕ) (p : Pas
     → EndsLine s old new trace p slot octets fault
 ends-part s old new trace p slot octets faults.WriteFault w a = a
 ends-part s old new trace p slot octets faults.NoMemory w a = a
-ends-part s old new trace p slot octets faults.ReadFault w a = absurd w
-ends-part s old new trace p slot octets (faults.Link fault) w a = absurd w
+ends-part s old new trace p slot octets other w a = absurd w
 
 pub adds-line : (s : Single) (old new : FolderState) (trace : List ℕ) (p : Past) (slot octets : List ℕ) (outcome : Outcome) (t : LoneTurn)
     (sent : Option Sent) → s.turn ≡ length p.turns
@@ -289,66 +280,50 @@ spoke now s = record { role = s.role; station = now; ear = s.ear; turn = s.turn 
 abbrev pub moved : Station → Single → Single
 moved now s = record { role = s.role; station = now; ear = s.ear; turn = s.turn + 1 }
 
-pub gone : (s : Single) (now : Station) (old new : FolderState) (trace : List ℕ) (p : Past) (slot : List ℕ) (arrived : Arrived)
-    (mid : Account) (given : Option ℕ) (sent : Sent)
-    → InTurn s p slot arrived mid (served_with p.file mid) → hangs_up mid ≡ false → given ≡ given_break mid
-    → SaidWell (speak s.turn (finishes s.turn (served_with p.file mid)) (served_with p.file mid)) p.file sent now
-    → Appended old new trace (trace_line s.turn s.role (heard_as arrived) (Some sent) given)
-    → HasGone (moved now s) old new trace p slot (concat (deliveries mid))
-gone s now old new trace p slot arrived mid given sent h up g w text =
-    let t = going-turn arrived w.said given in
-    record {
-      adds = record {
-        turn = t;
-        is = record { run = h.run; hears = h.heard; is = (w.said.account, going, refl) };
-        line = subst (λ (l : List ℕ). Appended old new trace l) (line-is s p t (Some sent) h.turn (ap Some w.sent_is)) text;
-      };
-      single = record {
-        run = record { run = (p.account, h.run.run, going); hears = (h.heard, h.run.hears) };
-        station = w.stands;
-        ear = h.ear;
-        turn = omega (arith, h.turn);
-      };
-    }
-  where
-    going : LoneGoing (party_of s.role p.file) p.turns p.account (going-turn arrived w.said given) w.said.account
-    going = record {
-      mid = mid;
-      hears = h.hears;
-      going = up;
-      said = w.said;
-      says = says-so s.role p.file (length p.turns) mid
-          ∙ subst (λ n. speak n (finishes n (served_with p.file mid)) (served_with p.file mid) ≡ Ok w.said) h.turn w.says;
-      sent = refl;
-      given = g;
-      after_is = refl;
-    }
+module _ (s : Single) (now : Station) (old new : FolderState) (trace : List ℕ) (p : Past) (slot : List ℕ) (arrived : Arrived)
+    (mid : Account) (given : Option ℕ) (sent : Sent) (h : InTurn s p slot arrived mid (served_with p.file mid)) (up : hangs_up mid ≡ false)
+    (g : given ≡ given_break mid) (w : SaidWell (speak s.turn (finishes s.turn (served_with p.file mid))
+    (served_with p.file mid)) p.file sent now) where
+  abbrev going : LoneGoing (party_of s.role p.file) p.turns p.account (going-turn arrived w.said given) w.said.account
+  going = record {
+    mid = mid;
+    hears = h.hears;
+    going = up;
+    said = w.said;
+    says = says-so s.role p.file (length p.turns) mid
+        ∙ subst (λ n. speak n (finishes n (served_with p.file mid)) (served_with p.file mid) ≡ Ok w.said) h.turn w.says;
+    sent = refl;
+    given = g;
+    after_is = refl;
+  }
 
--- it has spoken, but the line isn't written whole
-pub gone-part : (s : Single) (now : Station) (old new : FolderState) (trace : List ℕ) (p : Past) (slot : List ℕ) (arrived : Arrived)
-    (mid : Account) (given : Option ℕ) (sent : Sent) (fault : SingleFault)
-    → InTurn s p slot arrived mid (served_with p.file mid) → hangs_up mid ≡ false → given ≡ given_break mid
-    → SaidWell (speak s.turn (finishes s.turn (served_with p.file mid)) (served_with p.file mid)) p.file sent now → IsWriting fault
-    → PartlyAppended old new trace (trace_line s.turn s.role (heard_as arrived) (Some sent) given)
-    → EndsLine (spoke now s) old new trace p slot (concat (deliveries mid)) fault
-gone-part s now old new trace p slot arrived mid given sent fault h up g w i text =
-    ends-part (spoke now s) old new trace p slot (concat (deliveries mid)) fault i
-    (adds-part (spoke now s) old new trace p slot (concat (deliveries mid)) Going (going-turn arrived w.said given) (Some sent) h.turn
-    (ap Some w.sent_is)
-    (record { run = h.run; hears = h.heard; is = (w.said.account, going, refl) }) text)
-  where
-    going : LoneGoing (party_of s.role p.file) p.turns p.account (going-turn arrived w.said given) w.said.account
-    going = record {
-      mid = mid;
-      hears = h.hears;
-      going = up;
-      said = w.said;
-      says = says-so s.role p.file (length p.turns) mid
-          ∙ subst (λ n. speak n (finishes n (served_with p.file mid)) (served_with p.file mid) ≡ Ok w.said) h.turn w.says;
-      sent = refl;
-      given = g;
-      after_is = refl;
-    }
+  pub gone : Appended old new trace (trace_line s.turn s.role (heard_as arrived) (Some sent) given)
+      → HasGone (moved now s) old new trace p slot (concat (deliveries mid))
+  gone text =
+      let t = going-turn arrived w.said given in
+      record {
+        adds = record {
+          turn = t;
+          is = record { run = h.run; hears = h.heard; is = (w.said.account, going, refl) };
+          line = subst (λ (l : List ℕ). Appended old new trace l) (line-is s p t (Some sent) h.turn (ap Some w.sent_is)) text;
+        };
+        single = record {
+          run = record { run = (p.account, h.run.run, going); hears = (h.heard, h.run.hears) };
+          station = w.stands;
+          ear = h.ear;
+          turn = omega (arith, h.turn);
+        };
+      }
+
+  -- it has spoken, but the line isn't written whole
+  pub gone-part : (fault : SingleFault) → IsWriting fault
+      → PartlyAppended old new trace (trace_line s.turn s.role (heard_as arrived) (Some sent) given)
+      → EndsLine (spoke now s) old new trace p slot (concat (deliveries mid)) fault
+  gone-part fault i text =
+      ends-part (spoke now s) old new trace p slot (concat (deliveries mid)) fault i
+      (adds-part (spoke now s) old new trace p slot (concat (deliveries mid)) Going (going-turn arrived w.said given) (Some sent) h.turn
+      (ap Some w.sent_is)
+      (record { run = h.run; hears = h.heard; is = (w.said.account, going, refl) }) text)
 
 -- ---- hearing
 
@@ -362,91 +337,71 @@ pub heard-well : (r : Result Account LinkFault) (file : List ℕ) (s : Station) 
 heard-well (Ok mid) file s done h = record { mid = mid; hears = refl; stands = h }
 heard-well (Err fault) file s done h = absurd h
 
-pub heard-badly : (r : Result Account LinkFault) (file : List ℕ) (s : Station) (broken : LinkFault) → HearsAs r file s (Err broken)
-    → r ≡ Err broken
-heard-badly (Ok mid) file s broken h = absurd h
-heard-badly (Err fault) file s broken h = ap (λ f. Err f) (sym h)
-
 -- ---- the whole turn
-
--- the line stands behind what was handed over
-pub made : (s : Single) (a b z : FolderState) (n : PeerNames) (p : Past) (slot octets others : List ℕ) (outcome : Outcome) → IsApart n
-    → GoesOn a b → AddEach a b (outputs_of n) (octets ∷ [])
-    → OnlyWrites b z n.trace → StaysKnown a z n.file p.file others → AddsLine s b z n.trace (over others p) slot octets outcome
-    → Makes s.role a z n p slot outcome
-made s a b z n p slot octets others outcome apart g d w known l =
-    record {
-      others = others;
-      known = known;
-      turn = l.turn;
-      octets = octets;
-      is = l.is;
-      writes = AddEach-next a b z (n.got ∷ []) n.trace [] (octets ∷ []) _ tt apart.0 g d w (inr l.line);
-    }
-
--- or a part of it
-stopped : (s : Single) (a b z : FolderState) (n : PeerNames) (p : Past) (slot octets others : List ℕ) → IsApart n → GoesOn a b
-    → AddEach a b (outputs_of n) (octets ∷ [])
-    → OnlyWrites b z n.trace → StaysKnown a z n.file p.file others → AddsPart s b z n.trace (over others p) slot octets
-    → Stops s.role a z n p slot
-stopped s a b z n p slot octets others apart g d w known l = record {
-  others = others;
-  known = known;
-  turn = l.turn;
-  octets = octets;
-  outcome = l.outcome;
-  is = l.is;
-  writes = AddPart-next a b z (n.got ∷ []) n.trace [] (octets ∷ []) _ tt apart.0 g d w l.line;
-}
 
 pub writing-ends : (role : Role) (a b : FolderState) (n : PeerNames) (p : Past) (slot : List ℕ) (fault : SingleFault) → IsWriting fault
     → Stops role a b n p slot → EndsBy role a b n p slot fault
 writing-ends role a b n p slot faults.WriteFault w s = s
 writing-ends role a b n p slot faults.NoMemory w s = s
-writing-ends role a b n p slot faults.ReadFault w s = absurd w
-writing-ends role a b n p slot (faults.Link fault) w s = absurd w
+writing-ends role a b n p slot other w s = absurd w
 
-pub stopped-so : (s : Single) (a b z : FolderState) (n : PeerNames) (p : Past) (slot octets others : List ℕ) (fault : SingleFault)
-    → IsApart n → GoesOn a b → AddEach a b (outputs_of n) (octets ∷ [])
-    → OnlyWrites b z n.trace → StaysKnown a z n.file p.file others → IsWriting fault → AddsPart s b z n.trace (over others p) slot octets
-    → EndsBy s.role a z n p slot fault
-stopped-so s a b z n p slot octets others fault apart g d w known i l =
-    writing-ends s.role a z n p slot fault i (stopped s a b z n p slot octets others apart g d w known l)
+module _ (s : Single) (a b z : FolderState) (n : PeerNames) (p : Past) (slot octets others : List ℕ) (apart : IsApart n) (g : GoesOn a b)
+    (d : AddEach a b (outputs_of n) (octets ∷ [])) (w : OnlyWrites b z n.trace) (known : StaysKnown a z n.file p.file others) where
+  -- the line stands behind what was handed over
+  pub made : (outcome : Outcome) → AddsLine s b z n.trace (over others p) slot octets outcome → Makes s.role a z n p slot outcome
+  made outcome l =
+      record {
+        others = others;
+        known = known;
+        turn = l.turn;
+        octets = octets;
+        is = l.is;
+        writes = AddEach-next a b z (n.got ∷ []) n.trace [] (octets ∷ []) _ tt apart.0 g d w (inr l.line);
+      }
 
-pub ended : (s : Single) (a b z : FolderState) (n : PeerNames) (p : Past) (slot octets others : List ℕ) (fault : SingleFault) → IsApart n
-    → GoesOn a b → AddEach a b (outputs_of n) (octets ∷ [])
-    → OnlyWrites b z n.trace → StaysKnown a z n.file p.file others → EndsLine s b z n.trace (over others p) slot octets fault
-    → EndsBy s.role a z n p slot fault
-ended s a b z n p slot octets others (faults.Link fault) apart g d w known l =
-    made s a b z n p slot octets others (Broken fault) apart g d w known l
-ended s a b z n p slot octets others faults.WriteFault apart g d w known l = stopped s a b z n p slot octets others apart g d w known l
-ended s a b z n p slot octets others faults.NoMemory apart g d w known l = stopped s a b z n p slot octets others apart g d w known l
-ended s a b z n p slot octets others faults.ReadFault apart g d w known l = absurd l
-
--- the run goes on
-pub gone-on : (s : Single) (a b z : FolderState) (n : PeerNames) (p : Past) (slot octets others : List ℕ) → IsApart n → GoesOn a b
-    → AddEach a b (outputs_of n) (octets ∷ [])
-    → OnlyWrites b z n.trace → StaysKnown a z n.file p.file others → HasGone s b z n.trace (over others p) slot octets
-    → GoesOnBy s a z n p slot
-gone-on s a b z n p slot octets others apart g d w known h = record {
-  makes = record {
+  -- or a part of it
+  stopped : AddsPart s b z n.trace (over others p) slot octets → Stops s.role a z n p slot
+  stopped l = record {
     others = others;
     known = known;
-    turn = h.adds.turn;
+    turn = l.turn;
     octets = octets;
-    is = h.adds.is;
-    writes = AddEach-next a b z (n.got ∷ []) n.trace [] (octets ∷ []) _ tt apart.0 g d w (inr h.adds.line);
-  };
-  single = h.single;
-}
+    outcome = l.outcome;
+    is = l.is;
+    writes = AddPart-next a b z (n.got ∷ []) n.trace [] (octets ∷ []) _ tt apart.0 g d w l.line;
+  }
+
+  pub stopped-so : (fault : SingleFault) → IsWriting fault → AddsPart s b z n.trace (over others p) slot octets
+      → EndsBy s.role a z n p slot fault
+  stopped-so fault i l = writing-ends s.role a z n p slot fault i (stopped l)
+
+  pub ended : (fault : SingleFault) → EndsLine s b z n.trace (over others p) slot octets fault → EndsBy s.role a z n p slot fault
+  ended (faults.Link fault) l = made (Broken fault) l
+  ended faults.WriteFault l = stopped l
+  ended faults.NoMemory l = stopped l
+  ended faults.ReadFault l = absurd l
+
+  -- the run goes on
+  pub gone-on : HasGone s b z n.trace (over others p) slot octets → GoesOnBy s a z n p slot
+  gone-on h = record {
+    makes = record {
+      others = others;
+      known = known;
+      turn = h.adds.turn;
+      octets = octets;
+      is = h.adds.is;
+      writes = AddEach-next a b z (n.got ∷ []) n.trace [] (octets ∷ []) _ tt apart.0 g d w (inr h.adds.line);
+    };
+    single = h.single;
+  }
 
 -- nothing is handed over where the end breaks as it hears
 pub broke-off : (s : Single) (a z : FolderState) (n : PeerNames) (p : Past) (slot : List ℕ) (fault : SingleFault) → IsApart n
     → length p.file ≤ file_limit → OnlyWrites a z n.trace
     → EndsLine s a z n.trace p slot [] fault → EndsBy s.role a z n p slot fault
 broke-off s a z n p slot fault apart within w l =
-    ended s a a z n p slot [] p.file fault apart (GoesOn-refl a) (inl (refl, λ told. refl), (λ told. refl, tt)) w
-    (stays-known a z n p.file apart (trace-only a z n w) within) l
+    ended s a a z n p slot [] p.file apart (GoesOn-refl a) (inl (refl, λ told. refl), (λ told. refl, tt)) w
+    (stays-known a z n p.file apart (trace-only a z n w) within) fault l
 
 -- the folder doesn't take what is handed over
 pub not-handed : EachLoneTurnIsMade
@@ -497,8 +452,7 @@ pub reading-ends : (role : Role) (a d : FolderState) (n : PeerNames) (p : Past) 
     → EndsBy role a d n p slot fault
 reading-ends role a d n p slot faults.ReadFault w s = s
 reading-ends role a d n p slot faults.NoMemory w s = s.0
-reading-ends role a d n p slot faults.WriteFault w s = absurd w
-reading-ends role a d n p slot (faults.Link fault) w s = absurd w
+reading-ends role a d n p slot other w s = absurd w
 
 -- what a fault ends doesn't go on
 pub no-step : {A : Type 0} {fault : SingleFault} {step : SingleStep} → Err fault ≡ Ok step → A

@@ -1,7 +1,6 @@
 -- A link's turns depend on what went beside them by then, and on nothing that goes there later.
 use Rattle.std.proofs.Common.{◌≡◌, ℕ, zero, suc, ◌+◌, ◌-◌, ◌<◌, ◌≤◌, Bool, true, false, cond, nat_eq, List, [], ◌∷◌, ◌++◌, length, drop}
-use Rattle.std.proofs.Common.{arith}
-use Rattle.std.proofs.Common.{refl, sym, ◌∙◌, ap, subst, Option, Some, None}
+use Rattle.std.proofs.Common.{arith, refl, sym, ◌∙◌, ap, subst, Option, Some, None}
 use Rattle.std.proofs.lemmas.Bool.Decides.{nat_tests}
 use Rattle.std.proofs.lemmas.List.{length-drop}
 use Rattle.frame_check.specs.declared.check.Check.{Check}
@@ -16,8 +15,7 @@ use Rattle.link_account.specs.Account.{check_of}
 use Rattle.link_run.specs.Run.{Link, Accounts, Spoken, Turn}
 use Rattle.link_run.specs.Carried.{sent_ago}
 use Rattle.link_run.specs.Outcomes.{Outcome}
-use Rattle.line_run.specs.Sampled.{and_then, signal_in, signals, signals_before, ArrivesAs, IsHeardOf}
-use Rattle.line_run.specs.Sampled.{HeardIn, IsHeardOver, LineRun}
+use Rattle.line_run.specs.Sampled.{and_then, signal_in, signals, signals_before, ArrivesAs, IsHeardOf, HeardIn, IsHeardOver, LineRun}
 use Rattle.line_run.specs.Ends.{RunEnd, IsDone, LinkLost, NotDetected, Left, EndsInTurn, EndsBy}
 use Rattle.line_run.proofs.Slots.{SentAgo, sent-ago}
 use Rattle.link_pair.specs.Pairs.Beside.{signal_or_flags, slot_in, lasting}

@@ -1,6 +1,5 @@
 -- Whatever goes over the line, a slot of a link is lost, mistaken or heard; so each turn of a link is made, or the line ends the pair.
-use Rattle.std.proofs.Common.{◌≡◌, ◌⊎◌, inl, inr, ℕ, suc, ◌-◌, ◌<◌, ◌≤◌, true, false, List, ◌∷◌, length}
-use Rattle.std.proofs.Common.{arith, refl, sym, ◌∙◌, ap, subst}
+use Rattle.std.proofs.Common.{◌≡◌, ◌⊎◌, inl, inr, ℕ, suc, ◌-◌, ◌<◌, ◌≤◌, true, false, List, ◌∷◌, length, arith, refl, sym, ◌∙◌, ap, subst}
 use Rattle.std.proofs.lemmas.Bool.{false≢true}
 use Rattle.shared_terms.specs.declared.role.Role.{Role}
 use Rattle.shared_terms.specs.declared.role.Role.TheVariants.{Originator, Answerer}
@@ -15,13 +14,12 @@ use Rattle.link_run.specs.Outcomes.{Outcome, Going, Done, Broken, TurnIs}
 use Rattle.link_run.specs.Trace.{trace_text}
 use Rattle.link_run.specs.Laws.{EachEndIsNamed, IsNamed}
 use Rattle.line_run.specs.Sampled.{Wire, LineRun, LineEnd, EndsLine}
-use Rattle.line_run.specs.Scripted.{link_of, ScriptsMayPlay}
+use Rattle.line_run.specs.Scripted.{link_of, ScriptsMayPlay, wire_at}
 use Rattle.line_run.specs.Ends.{RunEnd, IsDone, LinkLost, NotDetected, Left, EndsInTurn, RunsTo}
 use Rattle.line_ends.specs.Causes.{MadeOver, HeardTurnsAreMade}
 use Rattle.line_ends.specs.EachEnds.{Becomes}
 use Rattle.line_ends.proofs.Becoming.{BecomeLaws, slot-becomes, line-or-heard}
 use Rattle.link_pair.specs.Pairs.Beside.{slot_in, lasting}
-use Rattle.line_run.specs.Scripted.{wire_at}
 use Rattle.link_pair.specs.Pairs.Pair.{Progress, Goes, Ended, turns_in, ends_in, turns_on_line, HearsIdly, IdlesFor, Lasts}
 use Rattle.link_pair.specs.Pairs.Ends.{is_going}
 use Rattle.link_pair.proofs.Pairs.Fitting.{AllFitting, fitting-lasting, BesideFits}
@@ -117,9 +115,7 @@ goes-on laws script files dlci beside rounds ts ends h l m = go m.outcome refl
         } in
         ended-now script dlci beside link ts ends l.run rounds l.count m.mid (NotDetected (length ts)) left r
         (record { ran = r; turns_are = refl; ends_are = refl; by_link = tt; before = before; idles = idle })
-    broken role (faults.BadAck nr va high) e n = absurd n
-    broken role (faults.PeerReset va vr) e n = absurd n
-    broken role faults.PeerRefused e n = absurd n
+    broken role other e n = absurd n
 
     go : (o : Outcome) → m.outcome ≡ o → NextOf script dlci beside link rounds (Goes ts ends)
     go Going e =

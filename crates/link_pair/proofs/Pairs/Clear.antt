@@ -23,15 +23,15 @@ use Rattle.line_run.proofs.Received.{as-expected}
 use Rattle.link_run.specs.Run.{Spoken, Turn}
 use Rattle.link_run.specs.Carried.{sent_ago}
 use Rattle.line_run.specs.Sampled.{Wire, signals_before, bits_of, Arrives, ArrivesAs, IsHeardOf, LosesLine}
-use Rattle.line_run.specs.Scripted.{slot_symbols, longest_of}
+use Rattle.line_run.specs.Scripted.{slot_symbols, longest_of, wire_at}
 use Rattle.line_ends.specs.Completes.{IsFaint}
 use Rattle.line_run.specs.Stream.{AllSendable}
 use Rattle.line_ends.proofs.Receiving.{lost-or-not}
 use Rattle.line_run.proofs.Bits.{signals-upto}
 use Rattle.line_ends.proofs.Becoming.{Sent_behind}
 use Rattle.line_run.proofs.Slots.{SentAgo, sent-ago}
-use Rattle.line_run.specs.Scripted.{wire_at}
 use Rattle.link_pair.proofs.Pairs.Fitting.{AllFit, all-fit, fit-and-one, AllFitting, fitting-dropped, BesideFits, before-fit}
+use Rattle.line_ends.proofs.Hearing.{slots-long as long}
 
 pub record ClearLaws : Type 0 where
   pub never_lost : FaintNeverLost
@@ -71,9 +71,6 @@ due_of script sender earlier (Some slot) = unhindered (loses script sender (leng
 
 abbrev pub due : ScriptValue → Role → List Turn → Heard
 due script sender ts = due_of script sender (drop (delay_of script sender) ts) (sent_ago (delay_of script sender) sender ts)
-
-long : (script : ScriptValue) → 215 < symbols_of script
-long script = omega arith
 
 low : (script : ScriptValue) → HEAD + TAIL < symbols_of script
 low script = omega arith

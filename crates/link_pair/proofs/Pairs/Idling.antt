@@ -15,12 +15,11 @@ use Rattle.link_run.specs.Carried.{sent_in, sent_ago}
 use Rattle.link_run.specs.Overheard.{JudgesOnceHeard}
 use Rattle.link_run.specs.Outcomes.{Outcome}
 use Rattle.line_run.specs.Sampled.{LineRun}
-use Rattle.line_run.specs.Scripted.{link_of}
+use Rattle.line_run.specs.Scripted.{link_of, wire_at}
 use Rattle.line_run.specs.LineLaws.{OneIsCarried}
 use Rattle.line_run.specs.Ends.{RunEnd, IsDone, LinkLost, NotDetected, Left, EndsInTurn, EndsBy}
 use Rattle.line_ends.proofs.Hearing.{agree-on}
 use Rattle.link_pair.specs.Pairs.Beside.{lasting}
-use Rattle.line_run.specs.Scripted.{wire_at}
 use Rattle.link_pair.specs.Pairs.Pair.{last_ends, IsByLink}
 use Rattle.link_pair.proofs.Pairs.Fitting.{idle-sends}
 use Rattle.link_pair.proofs.Pairs.Clear.{Beside, Agrees}
@@ -59,7 +58,7 @@ judges-in-turn : IsolationLaws → OneIsCarried → JudgesOnceHeard
     → (e : EndsInTurn (wire_at script dlci beside) (link_of script files) ts ends o turn left) → Judges ts e.mid
 judges-in-turn laws one heard script files dlci beside ts ends h r o turn left e =
     λ ago role slot frame p f. heard (link_of script files) (delay_of script) ts ends e.last e.mid
-    (over laws script dlci beside files ts ends h r)
+    (over laws script files dlci beside ts ends h r)
     (one (wire_at script dlci beside) ts e.last e.heard) (hearing-in script files ts ends e.last e.mid o e.is) ago role slot frame p f
 
 pub judges-last : IsolationLaws → OneIsCarried → JudgesOnceHeard

@@ -29,53 +29,11 @@ pub record IsolationLaws : Type 0 where
   pub octets : OctetsAreSendable
   pub judges : JudgesByItsCheck
 
--- the line of samples as any line
-pub over : IsolationLaws → (script : ScriptValue) (dlci : ℕ) (beside : Beside) (files : Both (List ℕ)) (ts : List Turn) (ends : Accounts)
-    → IsInLimits script → LineRun (wire_at script dlci beside) (link_of script files) ts ends
-    → RunsOver (link_of script files) (delay_of script) ts ends
-over laws script dlci beside files ts ends h r = record {
-  may_play = laws.play script files h;
-  delays = laws.delays script h;
-  carried = laws.carried (wire_at script dlci beside) ts r.heard;
-  run = r.run;
-}
-
 -- what a script and two users of it need: their slots fit, and those beside them
 pub record MaySend (script : ScriptValue) (files : Both (List ℕ)) : Type 0 where
   pub limits : IsInLimits script
   pub faint : IsFaint script
   pub octets : AreOfOctets script files
-
-pub fitting-on : IsolationLaws → (script : ScriptValue) (files : Both (List ℕ)) (dlci : ℕ) (beside : Beside) (ts : List Turn)
-    (ends : Accounts)
-    → IsInLimits script → AreOfOctets script files → LineRun (wire_at script dlci beside) (link_of script files) ts ends → (at : ℕ)
-    → at < 64 → AllFitting (bits_in script) at ts
-fitting-on laws script files dlci beside ts ends h o r at low =
-    fitting-run laws.codable (wire_at script dlci beside) files ts ends h r
-    (laws.octets (wire_at script dlci beside) files ts ends h o r) at low
-
--- a run's line is clear on any channel, beside whatever fits
-pub clear-on : IsolationLaws → (script : ScriptValue) (files : Both (List ℕ)) (dlci : ℕ) (beside : Beside) (ts : List Turn)
-    (ends : Accounts)
-    → MaySend script files → LineRun (wire_at script dlci beside) (link_of script files) ts ends
-    → (at : ℕ) (near : Beside) → at < 64 → BesideFits (bits_in script) near → IsClear script at near ts
-clear-on laws script files dlci beside ts ends m r at near low b = record {
-  delays = laws.delays script m.limits;
-  faint = m.faint;
-  sendable = laws.octets (wire_at script dlci beside) files ts ends m.limits m.octets r;
-  fits = fitting-on laws script files dlci beside ts ends m.limits m.octets r at low;
-  beside_fits = b;
-}
-
--- and both ends judge by the right check
-pub agrees-on : IsolationLaws → (script : ScriptValue) (files : Both (List ℕ)) (dlci : ℕ) (beside : Beside) (ts : List Turn)
-    (ends : Accounts)
-    → IsInLimits script → LineRun (wire_at script dlci beside) (link_of script files) ts ends → (role : Role)
-    → Agrees script (other role) ts (check_of (of role ends))
-agrees-on laws script files dlci beside ts ends h r role = λ slot e.
-    agree-on slot.check (check_of (of role ends)) slot.sent (λ frame f.
-    laws.judges (link_of script files) (delay_of script) ts ends (over laws script dlci beside files ts ends h r)
-    (delay_of script (other role)) role slot frame e f)
 
 -- another channel, and what goes beside it
 pub record Moves (script : ScriptValue) (dlci : ℕ) (beside : Beside) (at : ℕ) (near : Beside) : Type 0 where
@@ -84,31 +42,66 @@ pub record Moves (script : ScriptValue) (dlci : ℕ) (beside : Beside) (at : ℕ
   pub at_low : at < 64
   pub near_fits : BesideFits (bits_in script) near
 
--- What is heard in a turn is heard there too.
-pub heard-moves : IsolationLaws → (script : ScriptValue) (files : Both (List ℕ)) (dlci : ℕ) (beside : Beside) (at : ℕ) (near : Beside)
-    → MaySend script files → Moves script dlci beside at near
-    → (ts : List Turn) (ends : Accounts) → LineRun (wire_at script dlci beside) (link_of script files) ts ends
-    → (t : Turn) (mid : Accounts) → Hears (length ts) ends t mid
-    → HeardIn (wire_at script dlci beside) ts t → HeardIn (wire_at script at near) ts t
-heard-moves laws script files dlci beside at near m v ts ends r t mid h k role = record { heard_of = there; well = (k role).well }
-  where
-    sender : Role
-    sender = other role
+module _ (laws : IsolationLaws) (script : ScriptValue) (files : Both (List ℕ)) (dlci : ℕ) (beside : Beside) (ts : List Turn)
+    (ends : Accounts) where
+  -- the line of samples as any line
+  pub over : IsInLimits script → LineRun (wire_at script dlci beside) (link_of script files) ts ends
+      → RunsOver (link_of script files) (delay_of script) ts ends
+  over h r = record {
+    may_play = laws.play script files h;
+    delays = laws.delays script h;
+    carried = laws.carried (wire_at script dlci beside) ts r.heard;
+    run = r.run;
+  }
 
-    check-is : (of role t).check ≡ check_of (of role ends)
-    check-is = (h role).check_is
+  pub fitting-on : IsInLimits script → AreOfOctets script files → LineRun (wire_at script dlci beside) (link_of script files) ts ends
+      → (at : ℕ) → at < 64 → AllFitting (bits_in script) at ts
+  fitting-on h o r at low =
+      fitting-run laws.codable (wire_at script dlci beside) files ts ends h r
+      (laws.octets (wire_at script dlci beside) files ts ends h o r) at low
 
-    agrees : Agrees script sender ts (of role t).check
-    agrees = subst (Agrees script sender ts) (sym check-is) (agrees-on laws script files dlci beside ts ends m.limits r role)
+  -- a run's line is clear on any channel, beside whatever fits
+  pub clear-on : MaySend script files → LineRun (wire_at script dlci beside) (link_of script files) ts ends → (at : ℕ) (near : Beside)
+      → at < 64 → BesideFits (bits_in script) near → IsClear script at near ts
+  clear-on m r at near low b = record {
+    delays = laws.delays script m.limits;
+    faint = m.faint;
+    sendable = laws.octets (wire_at script dlci beside) files ts ends m.limits m.octets r;
+    fits = fitting-on m.limits m.octets r at low;
+    beside_fits = b;
+  }
 
-    is : (of role t).heard ≡ due script sender ts
-    is = heard-due laws.clear script dlci beside sender ts (of role t).check (of role t).heard
-        (clear-on laws script files dlci beside ts ends m r dlci beside v.low v.fits) agrees (k role).heard_of
+  -- and both ends judge by the right check
+  pub agrees-on : IsInLimits script → LineRun (wire_at script dlci beside) (link_of script files) ts ends → (role : Role)
+      → Agrees script (other role) ts (check_of (of role ends))
+  agrees-on h r role = λ slot e.
+      agree-on slot.check (check_of (of role ends)) slot.sent (λ frame f.
+      laws.judges (link_of script files) (delay_of script) ts ends (over h r)
+      (delay_of script (other role)) role slot frame e f)
 
-    there : IsHeardOf (wire_at script at near) sender ts (of role t).check (of role t).heard
-    there = subst (IsHeardOf (wire_at script at near) sender ts (of role t).check) (sym is)
-        (due-heard laws.clear script at near sender ts (of role t).check
-        (clear-on laws script files dlci beside ts ends m r at near v.at_low v.near_fits) agrees)
+  -- What is heard in a turn is heard there too.
+  pub heard-moves : (at : ℕ) (near : Beside) → MaySend script files → Moves script dlci beside at near
+      → LineRun (wire_at script dlci beside) (link_of script files) ts ends → (t : Turn) (mid : Accounts) → Hears (length ts) ends t mid
+      → HeardIn (wire_at script dlci beside) ts t → HeardIn (wire_at script at near) ts t
+  heard-moves at near m v r t mid h k role = record { heard_of = there; well = (k role).well }
+    where
+      sender : Role
+      sender = other role
+
+      check-is : (of role t).check ≡ check_of (of role ends)
+      check-is = (h role).check_is
+
+      agrees : Agrees script sender ts (of role t).check
+      agrees = subst (Agrees script sender ts) (sym check-is) (agrees-on m.limits r role)
+
+      is : (of role t).heard ≡ due script sender ts
+      is = heard-due laws.clear script dlci beside sender ts (of role t).check (of role t).heard
+          (clear-on m r dlci beside v.low v.fits) agrees (k role).heard_of
+
+      there : IsHeardOf (wire_at script at near) sender ts (of role t).check (of role t).heard
+      there = subst (IsHeardOf (wire_at script at near) sender ts (of role t).check) (sym is)
+          (due-heard laws.clear script at near sender ts (of role t).check
+          (clear-on m r at near v.at_low v.near_fits) agrees)
 
 -- so are all turns of a run,
 pub run-moves : IsolationLaws → (script : ScriptValue) (files : Both (List ℕ)) (dlci : ℕ) (beside : Beside) (at : ℕ) (near : Beside)
@@ -119,7 +112,7 @@ run-moves laws script files dlci beside at near m v [] ends r = record { run = r
 run-moves laws script files dlci beside at near m v (t ∷ ts) ends r =
     let before : LineRun (wire_at script dlci beside) (link_of script files) ts r.run.0 = record { run = r.run.1; heard = r.heard.1 } in
     let there = run-moves laws script files dlci beside at near m v ts r.run.0 before in
-    let now = heard-moves laws script files dlci beside at near m v ts r.run.0 before t r.run.2.mid r.run.2.hearing r.heard.0 in
+    let now = heard-moves laws script files dlci beside ts r.run.0 at near m v before t r.run.2.mid r.run.2.hearing r.heard.0 in
     record { run = r.run; heard = (now, there.heard) }
 
 pub hearing-in : (script : ScriptValue) (files : Both (List ℕ)) (ts : List Turn) (ends : Accounts) (t : Turn) (mid : Accounts) (o : Outcome)
@@ -139,8 +132,9 @@ last-moves laws script files dlci beside at near m v ts ends r o turn left e = r
   number = e.number;
   last = e.last;
   mid = e.mid;
-  heard = heard-moves laws script files dlci beside at near m v ts ends r e.last e.mid
-      (hearing-in script files ts ends e.last e.mid o e.is) e.heard;
+  heard =
+      heard-moves laws script files dlci beside ts ends at near m v r e.last e.mid (hearing-in script files ts ends e.last e.mid o e.is)
+      e.heard;
   is = e.is;
   leaves = e.leaves;
 }

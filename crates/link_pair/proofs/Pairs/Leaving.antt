@@ -9,25 +9,22 @@ use Rattle.shared_terms.specs.Prefix.{IsPrefixOf}
 use Rattle.noise_script.specs.Script.{ScriptValue, IsInLimits, delay_of}
 use Rattle.link_run.specs.Run.{Accounts, Turn}
 use Rattle.link_run.specs.Laws.{TakesPrefixes}
-use Rattle.line_run.specs.Sampled.{Wire, LineRun, LineEnd}
+use Rattle.line_run.specs.Sampled.{LineRun, LineEnd}
 use Rattle.line_run.specs.Sampled as lines
-use Rattle.line_run.specs.Scripted.{link_of, ScriptsMayPlay, ScriptsHaveDelays}
+use Rattle.line_run.specs.Scripted.{link_of, ScriptsMayPlay, ScriptsHaveDelays, wire_at}
 use Rattle.line_run.specs.Scripts.{LineRunsEndSoon, NoLineRunIsLong}
 use Rattle.line_run.specs.LineLaws.{SamplesAreCarried}
-use Rattle.line_run.specs.Ends.{RunEnd, IsDone, Left, Leaves, MayRun, RunsLeavePrefixes, DoneLeavesWhole}
+use Rattle.line_run.specs.Ends.{RunEnd, IsDone, Left, MayRun, RunsLeavePrefixes, DoneLeavesWhole}
 use Rattle.line_run.specs.Ends as runs
 use Rattle.line_ends.specs.Causes.{LostLinksWereStarved}
 use Rattle.link_pair.specs.Pairs.Beside.{first_dlci, second_dlci, after_second, after_first, first_wire, second_wire}
-use Rattle.line_run.specs.Scripted.{wire_at}
 use Rattle.link_pair.specs.Pairs.Pair.{Progress, Goes, Ended, turns_in, Lasts}
-use Rattle.link_pair.specs.Pairs.Ends.{Which, First, Second, PairEnd, BothDone, end_of, line_end, is_going, LeavesOf, BothEnd, LineEnds}
-use Rattle.link_pair.specs.Pairs.Ends.{PairRunsTo}
-use Rattle.link_pair.specs.Pairs.Ends.{by_links, by_line}
+use Rattle.link_pair.specs.Pairs.Ends.{PairEnd, BothDone, end_of, line_end, is_going, LeavesOf, by_links, by_line}
 use Rattle.link_pair.specs.Pairs.Ends as pairs
 use Rattle.link_pair.specs.Pairs.Laws.{ArePrefixes, PairsLeavePrefixes, AreWhole, DonePairsAreWhole, PairedLinksWereStarved, IsRunOver}
-use Rattle.link_pair.specs.Pairs.Laws.{PairedLinksRun}
-use Rattle.link_pair.specs.Pairs.Laws.{AreFewRounds, AreShort, PairsHaveFewRounds}
+use Rattle.link_pair.specs.Pairs.Laws.{PairedLinksRun, AreFewRounds, AreShort, PairsHaveFewRounds}
 use Rattle.link_pair.proofs.Pairs.Clear.{Beside}
+use Rattle.link_pair.proofs.Prefixes.{same-prefix}
 
 pub record LeaveLaws : Type 0 where
   pub play : ScriptsMayPlay
@@ -40,12 +37,6 @@ pub record LeaveLaws : Type 0 where
 may-run : LeaveLaws → (script : ScriptValue) (dlci : ℕ) (beside : Beside) (files : Both (List ℕ)) → IsInLimits script
     → MayRun (wire_at script dlci beside) (link_of script files)
 may-run laws script dlci beside files h = record { may_play = laws.play script files h; delays = laws.delays script h }
-
--- the files of the link are those
-same-prefix : (script : ScriptValue) (files : Both (List ℕ)) (role : Role) (got : List ℕ)
-    → IsPrefixOf got (of (other role) (link_of script files)).user.file → IsPrefixOf got (of (other role) files)
-same-prefix script files Originator got h = h
-same-prefix script files Answerer got h = h
 
 same-whole : (script : ScriptValue) (files : Both (List ℕ)) (role : Role) (got : List ℕ)
     → got ≡ (of (other role) (link_of script files)).user.file → got ≡ of (other role) files
@@ -105,8 +96,7 @@ pub record AreDone (first second : RunEnd) : Type 0 where
 both-done : (m n : ℕ) (first second : RunEnd) → BothDone m n ≡ end_of first second → AreDone first second
 unfolding kind
 both-done m n (runs.IsDone turn) (runs.IsDone last) e = record { turn = turn; last = last; first_is = refl; second_is = refl }
-both-done m n (runs.IsDone turn) second e = absurd (omega (arith, ap kind e))
-both-done m n first second e = absurd (omega (arith, ap kind e))
+both-done m n other second e = absurd (omega (arith, ap kind e))
 
 line-not-done : (m n round : ℕ) (cause : LineEnd) → BothDone m n ≡ line_end round cause → ⊥
 unfolding kind

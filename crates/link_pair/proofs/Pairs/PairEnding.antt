@@ -8,14 +8,12 @@ use Rattle.noise_script.specs.Script.{ScriptValue, IsInLimits, delay_of}
 use Rattle.link_run.specs.Run.{start}
 use Rattle.link_run.specs.Trace.{trace_text}
 use Rattle.line_run.specs.Sampled.{LineEnd}
-use Rattle.line_run.specs.Scripted.{link_of}
+use Rattle.line_run.specs.Scripted.{link_of, wire_at}
 use Rattle.line_run.specs.Ends.{Left}
 use Rattle.line_ends.specs.Completes.{AreOfOctets}
 use Rattle.link_pair.specs.Pairs.Beside.{first_dlci, second_dlci, after_second, after_first, slot_in}
-use Rattle.line_run.specs.Scripted.{wire_at}
 use Rattle.link_pair.specs.Pairs.Pair.{Progress, Goes, Ended, turns_in, Lasts, PairAt}
-use Rattle.link_pair.specs.Pairs.Ends.{Which, First, Second, end_of, line_end, is_going, EndsTurn, LeavesOf, text_for}
-use Rattle.link_pair.specs.Pairs.Ends.{by_links, by_line}
+use Rattle.link_pair.specs.Pairs.Ends.{Which, First, Second, end_of, line_end, is_going, EndsTurn, LeavesOf, text_for, by_links, by_line}
 use Rattle.link_pair.specs.Pairs.Laws.{AreShort, PairsHaveFewRounds, HasPairEnd, EachPairEnds}
 use Rattle.link_pair.proofs.Pairs.Fitting.{AllFitting, BesideFits, second-beside, first-beside}
 use Rattle.link_pair.proofs.Pairs.Clear.{Beside, bits_in}
@@ -25,6 +23,15 @@ use Rattle.line_run.proofs.WhatIsLeft.{left_of, leaves-so}
 use Rattle.link_pair.proofs.Pairs.Agreeing.{same-lasts}
 use Rattle.link_pair.proofs.Pairs.Stepping.{At}
 use Rattle.link_pair.proofs.Pairs.Becoming.{NextLaws, NextOf, On_line, Made, next-of}
+use Rattle.link_pair.proofs.Pairing.{either}
+
+or-true : (x y : Bool) → x ≡ true → (x || y) ≡ true
+or-true true y e = refl
+or-true false y e = absurd (false≢true e)
+
+or-right : (x y : Bool) → y ≡ true → (x || y) ≡ true
+or-right true y e = refl
+or-right false y e = e
 
 pub record EndLaws : Type 0 where
   pub links : IsolationLaws
@@ -94,19 +101,6 @@ both-end script files others firsts seconds (Ended ts ends end left) (Ended us m
         (subst (λ z. PairAt script files others z seconds (Ended ts ends end left) (Ended us mids last had)) m a);
   }) refl;
 }
-
-or-true : (x y : Bool) → x ≡ true → (x || y) ≡ true
-or-true true y e = refl
-or-true false y e = absurd (false≢true e)
-
-or-right : (x y : Bool) → y ≡ true → (x || y) ≡ true
-or-right true y e = refl
-or-right false y e = e
-
--- either of two goes on
-either : (x y : Bool) → (x || y) ≡ true → (x ≡ true) ⊎ ((x ≡ false) × (y ≡ true))
-either true y e = inl refl
-either false y e = inr (refl, e)
 
 ended-before : (script : ScriptValue) (dlci : ℕ) (beside : Beside) (files : Both (List ℕ)) (rounds : ℕ) (p : Progress)
     → Lasts (wire_at script dlci beside) (link_of script files) rounds p → is_going p ≡ false → length (turns_in p) < rounds

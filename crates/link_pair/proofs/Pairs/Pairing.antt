@@ -9,13 +9,12 @@ use Rattle.noise_script.specs.Script.{ScriptValue}
 use Rattle.link_account.specs.Account.{check_of}
 use Rattle.link_run.specs.Run.{Link, Accounts, Turn}
 use Rattle.link_run.specs.Overheard.{JudgesOnceHeard}
-use Rattle.line_run.specs.Sampled.{Wire, IsHeardOf, LineRun, LineEnd, EndsLine}
+use Rattle.line_run.specs.Sampled.{Wire, LineRun, LineEnd, EndsLine}
 use Rattle.line_run.specs.Sampled as lines
-use Rattle.line_run.specs.Scripted.{link_of}
+use Rattle.line_run.specs.Scripted.{link_of, wire_at}
 use Rattle.line_run.specs.LineLaws.{OneIsCarried}
 use Rattle.line_ends.specs.Completes.{IsFaint, DisplacesNoneIsFaint}
 use Rattle.link_pair.specs.Pairs.Beside.{first_dlci, second_dlci, after_second, after_first}
-use Rattle.line_run.specs.Scripted.{wire_at}
 use Rattle.link_pair.specs.Pairs.Pair.{Progress, Goes, Ended, turns_in, ends_in, turns_on_line, Lasts, PairAt}
 use Rattle.link_pair.specs.Pairs.Ends.{Which, First, Second, EndsTurn, by_links, by_line}
 use Rattle.link_pair.specs.Pairs.Laws.{FaintPairsAreIsolated, UndisplacedPairsAreIsolated}

@@ -9,9 +9,8 @@ use Rattle.shared_terms.specs.Both.{of}
 use Rattle.detection.specs.Slots.Signal.{FlagSlot}
 use Rattle.noise_script.specs.Script.{ScriptValue, delay_of}
 use Rattle.link_run.specs.Run.{Link, Turn}
-use Rattle.line_run.specs.Scripted.{link_of}
+use Rattle.line_run.specs.Scripted.{link_of, wire_at}
 use Rattle.link_pair.specs.Pairs.Beside.{first_dlci, second_dlci, signal_or_flags, slot_in, after_second, after_first}
-use Rattle.line_run.specs.Scripted.{wire_at}
 use Rattle.link_pair.specs.Pairs.Beside.{second_wire, idle_turn, lasting}
 use Rattle.link_pair.specs.Pairs.Pair.{Progress, Goes, Ended, turns_in, turns_on_line, Lasts}
 use Rattle.line_run.specs.Stream.{Carried, AreSent, IsDue}

@@ -6,10 +6,9 @@ use Rattle.shared_terms.specs.declared.role.Role.{Role}
 use Rattle.shared_terms.specs.Both.{Both}
 use Rattle.noise_script.specs.Script.{ScriptValue, delay_of}
 use Rattle.link_run.specs.Run.{Link, Accounts, Turn, start}
-use Rattle.line_run.specs.Scripted.{link_of}
+use Rattle.line_run.specs.Scripted.{link_of, wire_at}
 use Rattle.line_run.specs.Ends.{RunEnd, Left}
 use Rattle.link_pair.specs.Pairs.Beside.{first_dlci, second_dlci, slot_in, after_second, after_first, first_wire, second_wire, lasting}
-use Rattle.line_run.specs.Scripted.{wire_at}
 use Rattle.link_pair.specs.Pairs.Pair.{Progress, Goes, Ended, turns_in, ends_in, turns_on_line, HearsIdly, IdlesFor, Lasts, PairAt}
 use Rattle.link_pair.specs.Pairs.Ends.{Which, First, Second, is_going, firsts_at}
 use Rattle.link_pair.proofs.Pairs.Clear.{Beside}

@@ -8,8 +8,7 @@ use Rattle.link_run.specs.Alone.{LoneTurn, LoneRun}
 use Rattle.line_world.specs.OneEnd.Peer.{Past, PeerTurn, Outcome, Going, Closed, Broken, HearsSlots, party_of}
 use Rattle.line_world.specs.OneEnd.Laws.{OnePeerRun, OnePeerTurn}
 use Rattle.run_commands.specs.Peering.Runs.{Left, PeerEnd, IsDone, GivesUp, HearsAll, IsPast, MakesTurn, RunsTo, left_of, left_after}
-use Rattle.run_commands.specs.Peering.Runs.{slot_at}
-use Rattle.run_commands.specs.Peering.Runs.{slots_before}
+use Rattle.run_commands.specs.Peering.Runs.{slot_at, slots_before}
 use Rattle.run_commands.specs.Peering.Laws.{OneResult}
 
 pub record RunLaws : Type 0 where

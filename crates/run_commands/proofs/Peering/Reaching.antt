@@ -100,36 +100,8 @@ pub record Around (start mid next : FolderState) (n : Names) (p : Past) (octets 
   pub only : OnlyPuts mid next (outputs_of n)
   pub stand : CountsStand start mid
 
-abbrev on-to : (start mid next : FolderState) (n : Names) (p : Past) (octets slot : List ℕ) → Around start mid next n p octets slot
-    → GoesOn start next
-on-to start mid next n p octets slot a = GoesOn-trans a.read.goes_on a.only.goes_on
-
-file-on : (start mid next : FolderState) (n : Names) (p : Past) (octets slot : List ℕ) → Around start mid next n p octets slot
-    → KeepsName start next n.file
-file-on start mid next n p octets slot a =
-    KeepsName-trans start mid next n.file a.read.goes_on a.file_kept
-    (a.only.names n.file (λ e. a.apart.0.0 (sym e), (λ e. a.apart.1.0.0 (sym e), tt)))
-
-bits-on : (start mid next : FolderState) (n : Names) (p : Past) (octets slot : List ℕ) → Around start mid next n p octets slot
-    → ReadTo start next n.bits FILE_LIMIT (slot_octets * length p.turns + length slot) (octets ++ slot)
-bits-on start mid next n p octets slot a =
-    ReadTo-kept start mid next n.bits FILE_LIMIT _ (octets ++ slot) a.read a.only.goes_on
-    (a.only.names n.bits (λ e. a.apart.0.1.0 (sym e), (λ e. a.apart.1.0.1.0 (sym e), tt)))
-
--- what a run took of the inputs
-taken : (start mid next : FolderState) (n : Names) (p : Past) (octets slot others all : List ℕ) → Around start mid next n p octets slot
-    → KnowsFile next n.file others
-    → (IsTrue (start.tells n.bits) → all ≡ octets_at start n.bits) → Takes start n others all
-taken start mid next n p octets slot others all a k bits = record {
-  bits_within = a.read.within;
-  file_within = a.file_within;
-  file_is =
-      file-is start next n.file others (on-to start mid next n p octets slot a) (file-on start mid next n p octets slot a) a.file_within k;
-  bits_are = bits;
-}
-
 -- the turn, against the slot of its number
-makes-turn : (role : Role) (p : Past) (octets slot rest : List ℕ) (turn : ℕ) (outcome : Outcome) (t : LoneTurn) (given : List ℕ)
+abbrev makes-turn : (role : Role) (p : Past) (octets slot rest : List ℕ) (turn : ℕ) (outcome : Outcome) (t : LoneTurn) (given : List ℕ)
     → turn ≡ length p.turns → length octets ≡ slot_octets * length p.turns
     → p.slots ≡ slots_before octets (length p.turns) → 1 ≤ length slot → take slot_octets (slot ++ rest) ≡ slot
     → PeerTurn role p slot t given outcome
@@ -161,96 +133,96 @@ made-holds : (mid next : FolderState) (n : Names) (p : Past) (slot : List ℕ) (
 made-holds mid next n p slot outcome on h m =
     HoldEach-add mid next (outputs_of n) (held_of (left_of n.role p)) (added n.role p m.turn m.octets) on h m.writes
 
--- it is the last one
-pub ends-in : (start mid next : FolderState) (n : Names) (p : Past) (octets slot : List ℕ) (turn : ℕ) (outcome : Outcome) (end : PeerEnd)
-    → Around start mid next n p octets slot → turn ≡ length p.turns
-    → Makes n.role mid next (turn_names n) p slot outcome
-    → ((file all : List ℕ) (left : Left) → MakesTurn n.role file all turn outcome left → RunsTo n.role file all end left)
-    → RanTo start next n end
-ends-in start mid next n p octets slot turn outcome end a number m by =
-    let k = known-slot start mid n.bits FILE_LIMIT _ octets slot a.read a.few a.end in
-    let all = (octets ++ slot) ++ k.rest in
-    record {
-      file = m.others;
-      octets = all;
-      takes = taken start mid next n p octets slot m.others all a (m.known.known a.knows) k.told;
-      left = left_after n.role (over m.others p) m.turn m.octets;
-      run = by m.others all _
-          (makes-turn n.role (over m.others p) octets slot k.rest turn outcome m.turn m.octets number
-          a.count a.slots_are a.some k.cut m.is);
-      holds = made-holds mid next n p slot outcome a.only.goes_on a.holds m;
-    }
-
--- the folder fails in it
-pub stops-in : (start mid next : FolderState) (n : Names) (p : Past) (octets slot : List ℕ) (turn : ℕ)
-    → Around start mid next n p octets slot → turn ≡ length p.turns
-    → Stops n.role mid next (turn_names n) p slot → StopsInTurn start next n
-unfolding makes-turn
-stops-in start mid next n p octets slot turn a number s =
-    let k = known-slot start mid n.bits FILE_LIMIT _ octets slot a.read a.few a.end in
-    let all = (octets ++ slot) ++ k.rest in
-    record {
-      file = s.others;
-      octets = all;
-      takes = taken start mid next n p octets slot s.others all a (s.known.known a.knows) k.told;
-      stops = record {
-        turn = turn;
-        outcome = s.outcome;
-        left = left_after n.role (over s.others p) s.turn s.octets;
-        makes = makes-turn n.role
-            (over s.others p) octets slot k.rest turn s.outcome s.turn s.octets number a.count a.slots_are a.some k.cut s.is;
-        holds = subst (λ m. HoldPart next (outputs_of n) (held_of (left_of n.role p)) (s.octets ∷ turn_line n.role m s.turn ∷ []))
-            (sym number)
-            (HoldPart-add mid next (outputs_of n) (held_of (left_of n.role p)) (added n.role p s.turn s.octets) a.only.goes_on a.holds
-            s.writes);
-      };
-    }
-
--- to read the file
-reads-in : (start mid next : FolderState) (n : Names) (p : Past) (octets slot : List ℕ) (turn : ℕ)
-    → Around start mid next n p octets slot → turn ≡ length p.turns
-    → TurnStopsInReading n.role mid next (turn_names n) p slot → StopsInReading start next n
-unfolding makes-turn stops-in
-reads-in start mid next n p octets slot turn a number s = (
-  stops-in start mid next n p octets slot turn a number s.0,
-  HoldEach-add mid next (outputs_of n) (held_of (left_of n.role p)) (s.0.octets ∷ []) a.only.goes_on a.holds s.1,
-)
-
 -- the faults of one input, behind what counted none
 pub fails-later : (start mid next : FolderState) (name : List ℕ) (fault : FolderFault) → CountsStand start mid
     → ReadFails mid next (name ∷ []) fault → ReadFails start next (name ∷ []) fault
 fails-later start mid next name fault stand fails = stop-earlier start mid next (name ∷ []) [] (Read fault) stand fails
 
--- a fault of the turn
-pub fault-ends : (start mid next : FolderState) (n : Names) (p : Past) (octets slot : List ℕ) (turn : ℕ) (fault : SingleFault)
-    → Around start mid next n p octets slot → turn ≡ length p.turns
-    → FaultCounts mid next (n.file ∷ []) (outputs_of n) fault → TurnEndsBy n.role mid next (turn_names n) p slot fault
-    → EndsBy start next n (fault_stop n.role turn fault)
-fault-ends start mid next n p octets slot turn faults.ReadFault a number rose e =
-    inr (inr (
-      refl,
-      fails-later start mid next n.file folder.Failed a.stand rose,
-      reads-in start mid next n p octets slot turn a number e,
-    ))
-fault-ends start mid next n p octets slot turn faults.WriteFault a number counts e =
-    inr (stops-in start mid next n p octets slot turn a number e)
-fault-ends start mid next n p octets slot turn faults.NoMemory a number counts e =
-    inr (stops-in start mid next n p octets slot turn a number e)
-fault-ends start mid next n p octets slot turn (faults.Link fault) a number counts e =
-    inr (
-      fault,
-      turn,
-      refl,
-      ends-in start mid next n p octets slot turn (Broken fault) (GivesUp fault turn) a number e
-          (λ file all left m. m),
-    )
+module _ (start mid next : FolderState) (n : Names) (p : Past) (octets slot : List ℕ) (a : Around start mid next n p octets slot) where
+  abbrev on-to : GoesOn start next
+  on-to = GoesOn-trans a.read.goes_on a.only.goes_on
 
--- the originator is closed
-pub closed-ends : (start mid next : FolderState) (n : Names) (p : Past) (octets slot : List ℕ) (turn : ℕ)
-    → Around start mid next n p octets slot → turn ≡ length p.turns
-    → Makes n.role mid next (turn_names n) p slot Closed → RanTo start next n (IsDone (turn + 1))
-closed-ends start mid next n p octets slot turn a number m =
-    ends-in start mid next n p octets slot turn Closed (IsDone (turn + 1)) a number m (λ file all left k. inr (turn, refl, k))
+  file-on : KeepsName start next n.file
+  file-on =
+      KeepsName-trans start mid next n.file a.read.goes_on a.file_kept
+      (a.only.names n.file (λ e. a.apart.0.0 (sym e), (λ e. a.apart.1.0.0 (sym e), tt)))
+
+  bits-on : ReadTo start next n.bits FILE_LIMIT (slot_octets * length p.turns + length slot) (octets ++ slot)
+  bits-on =
+      ReadTo-kept start mid next n.bits FILE_LIMIT _ (octets ++ slot) a.read a.only.goes_on
+      (a.only.names n.bits (λ e. a.apart.0.1.0 (sym e), (λ e. a.apart.1.0.1.0 (sym e), tt)))
+
+  -- what a run took of the inputs
+  taken : (others all : List ℕ) → KnowsFile next n.file others → (IsTrue (start.tells n.bits) → all ≡ octets_at start n.bits)
+      → Takes start n others all
+  taken others all k bits = record {
+    bits_within = a.read.within;
+    file_within = a.file_within;
+    file_is = file-is start next n.file others on-to file-on a.file_within k;
+    bits_are = bits;
+  }
+
+  -- it is the last one
+  pub ends-in : (turn : ℕ) (outcome : Outcome) (end : PeerEnd) → turn ≡ length p.turns → Makes n.role mid next (turn_names n) p slot outcome
+      → ((file all : List ℕ) (left : Left) → MakesTurn n.role file all turn outcome left → RunsTo n.role file all end left)
+      → RanTo start next n end
+  ends-in turn outcome end number m by =
+      let k = known-slot start mid n.bits FILE_LIMIT _ octets slot a.read a.few a.end in
+      let all = (octets ++ slot) ++ k.rest in
+      record {
+        file = m.others;
+        octets = all;
+        takes = taken m.others all (m.known.known a.knows) k.told;
+        left = left_after n.role (over m.others p) m.turn m.octets;
+        run = by m.others all _
+            (makes-turn n.role (over m.others p) octets slot k.rest turn outcome m.turn m.octets number
+            a.count a.slots_are a.some k.cut m.is);
+        holds = made-holds mid next n p slot outcome a.only.goes_on a.holds m;
+      }
+
+  -- the folder fails in it
+  abbrev stops-in : (turn : ℕ) → turn ≡ length p.turns → Stops n.role mid next (turn_names n) p slot → StopsInTurn start next n
+  stops-in turn number s =
+      let k = known-slot start mid n.bits FILE_LIMIT _ octets slot a.read a.few a.end in
+      let all = (octets ++ slot) ++ k.rest in
+      record {
+        file = s.others;
+        octets = all;
+        takes = taken s.others all (s.known.known a.knows) k.told;
+        stops = record {
+          turn = turn;
+          outcome = s.outcome;
+          left = left_after n.role (over s.others p) s.turn s.octets;
+          makes = makes-turn n.role
+              (over s.others p) octets slot k.rest turn s.outcome s.turn s.octets number a.count a.slots_are a.some k.cut s.is;
+          holds = subst (λ m. HoldPart next (outputs_of n) (held_of (left_of n.role p)) (s.octets ∷ turn_line n.role m s.turn ∷ []))
+              (sym number)
+              (HoldPart-add mid next (outputs_of n) (held_of (left_of n.role p)) (added n.role p s.turn s.octets) a.only.goes_on a.holds
+              s.writes);
+        };
+      }
+
+  -- to read the file
+  reads-in : (turn : ℕ) → turn ≡ length p.turns → TurnStopsInReading n.role mid next (turn_names n) p slot → StopsInReading start next n
+  reads-in turn number s = (
+    stops-in turn number s.0,
+    HoldEach-add mid next (outputs_of n) (held_of (left_of n.role p)) (s.0.octets ∷ []) a.only.goes_on a.holds s.1,
+  )
+
+  -- a fault of the turn
+  pub fault-ends : (turn : ℕ) (fault : SingleFault) → turn ≡ length p.turns → FaultCounts mid next (n.file ∷ []) (outputs_of n) fault
+      → TurnEndsBy n.role mid next (turn_names n) p slot fault → EndsBy start next n (fault_stop n.role turn fault)
+  fault-ends turn faults.ReadFault number rose e =
+      inr (inr (refl, fails-later start mid next n.file folder.Failed a.stand rose, reads-in turn number e))
+  fault-ends turn faults.WriteFault number counts e = inr (stops-in turn number e)
+  fault-ends turn faults.NoMemory number counts e = inr (stops-in turn number e)
+  fault-ends turn (faults.Link fault) number counts e =
+      inr (fault, turn, refl, ends-in turn (Broken fault) (GivesUp fault turn) number e (λ file all left m. m))
+
+  -- the originator is closed
+  pub closed-ends : (turn : ℕ) → turn ≡ length p.turns → Makes n.role mid next (turn_names n) p slot Closed
+      → RanTo start next n (IsDone (turn + 1))
+  closed-ends turn number m = ends-in turn Closed (IsDone (turn + 1)) number m (λ file all left k. inr (turn, refl, k))
 
 -- ---- the run goes on
 
@@ -313,7 +285,7 @@ pub ends-short : LoneHearingsDeliver → LoneSpeakingTakesNothing
 ends-short hearing speaking start mid next n p octets slot turn a number m run short = record {
   file = m.others;
   octets = octets ++ slot;
-  takes = taken start mid next n p octets slot m.others (octets ++ slot) a (m.known.known a.knows) (a.end short);
+  takes = taken start mid next n p octets slot a m.others (octets ++ slot) (m.known.known a.knows) (a.end short);
   left = left_of n.role past;
   run = inl (record {
     past = past;

@@ -6,10 +6,6 @@ use Rattle.std.proofs.Math.Seq.{take-append_seam, drop-append_seam}
 use Rattle.line_world.specs.OneEnd.Heard.{slot_octets}
 use Rattle.run_commands.specs.Peering.Runs.{slot_at, slots_before, slots_in}
 
--- slots of any size
-abbrev cut_at : ℕ → List ℕ → ℕ → List ℕ
-cut_at size octets n = take size (drop (size * n) octets)
-
 -- a slot that stands among the first octets
 front-cut : (size n place : ℕ) (a b : List ℕ) → place ≡ size * n → place + size ≤ length a
     → take size (drop place (a ++ b)) ≡ take size (drop place a)

@@ -15,7 +15,7 @@ use Rattle.line_world.specs.OneEnd.Single.{SingleAfter, file_limit}
 use Rattle.line_world.specs.OneEnd.Turn.{Makes, GoesOnBy}
 use Rattle.shared_terms.specs.declared.limits.TheConstants.{FILE_LIMIT}
 use Rattle.command_base.specs.declared.stop.Stop.{Stop}
-use Rattle.command_base.specs.declared.stop.Stop.TheVariants.{Own, Read, Write, Say, NoMemory}
+use Rattle.command_base.specs.declared.stop.Stop.TheVariants.{Own, Read}
 use Rattle.command_base.specs.Inputs.{IsWithin, IsNotWithin}
 use Rattle.command_base.specs.Stops.{IsOwn, ReadFails, StopCounts}
 use Rattle.outside_calls.specs.Outputs.{KeepsAll, CreatesPart, Creates, IsNoneOf, AreNoneOf, OnlyOutputs}
@@ -99,9 +99,7 @@ pub bits-refused : (old new : FolderState) (n : Names) (stop : Stop) → OnlyRea
     → EndsBy old new n stop
 bits-refused old new n (Own answer) reads why = inl (reads.names, inl (why.0, why.1))
 bits-refused old new n (Read fault) reads why = inl (reads.names, inl why)
-bits-refused old new n (Write fault) reads never = absurd never
-bits-refused old new n (Say fault) reads never = absurd never
-bits-refused old new n NoMemory reads never = absurd never
+bits-refused old new n other reads never = absurd never
 
 keeps-both : (old mid new : FolderState) → OnlyReads old mid → OnlyReads mid new → KeepsAll old new
 keeps-both old mid new first reads name = KeepsName-trans old mid new name first.goes_on (first.names name) (reads.names name)
@@ -112,9 +110,7 @@ file-refused old mid new n (Own answer) first stand reads within why =
     inl (keeps-both old mid new first reads, inr (why.0, within, longer-earlier old mid n.file FILE_LIMIT first why.1))
 file-refused old mid new n (Read fault) first stand reads within why =
     inl (keeps-both old mid new first reads, inr (within, stop-earlier old mid new (n.file ∷ []) [] (Read fault) stand why))
-file-refused old mid new n (Write fault) first stand reads within never = absurd never
-file-refused old mid new n (Say fault) first stand reads within never = absurd never
-file-refused old mid new n NoMemory first stand reads within never = absurd never
+file-refused old mid new n other first stand reads within never = absurd never
 
 -- what was counted then: a fault of that input, or nothing
 pub refused-counts : (old new : FolderState) (n : Names) (name : List ℕ) (word : ℕ) (stop : Stop)
@@ -122,6 +118,4 @@ pub refused-counts : (old new : FolderState) (n : Names) (name : List ℕ) (word
     → IsNotWithin old new name FILE_LIMIT word stop → StopCounts old new (inputs_of n) (outputs_of n) stop
 refused-counts old new n name word (Own answer) among why = (subst IsOwn (sym why.0) tt, why.2)
 refused-counts old new n name word (Read fault) among why = among fault why
-refused-counts old new n name word (Write fault) among never = absurd never
-refused-counts old new n name word (Say fault) among never = absurd never
-refused-counts old new n name word NoMemory among never = absurd never
+refused-counts old new n name word other among never = absurd never

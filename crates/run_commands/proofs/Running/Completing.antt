@@ -12,9 +12,8 @@ use Rattle.line_run.specs.Ends.{RunEnd, Left, OneResult, GivesUp, LineEnds}
 use Rattle.line_run.specs.Ends as runs
 use Rattle.line_run.specs.Scripted.{wire_of, link_of}
 use Rattle.line_ends.specs.Causes.{LostLinksWereStarved}
-use Rattle.line_ends.specs.Completes.{ScriptRunsTo, IsQuiet, EndsDone, AreOfOctets, NamesFew, IsUndisturbed}
-use Rattle.line_ends.specs.Completes.{CompletesWithFewLosses, CompletesWithFewNamed, CompletesQuiet}
-use Rattle.line_ends.specs.Completes.{CompletesUndisturbed}
+use Rattle.line_ends.specs.Completes.{ScriptRunsTo, IsQuiet, EndsDone, AreOfOctets, NamesFew, IsUndisturbed, CompletesWithFewLosses}
+use Rattle.line_ends.specs.Completes.{CompletesWithFewNamed, CompletesQuiet, CompletesUndisturbed}
 use Rattle.command_base.specs.declared.status.Status.{Status}
 use Rattle.command_base.specs.declared.status.Status.TheVariants.{BadScript, TooLong, NoMemory}
 use Rattle.command_base.specs.declared.stop.Stop.{Stop}
@@ -23,8 +22,7 @@ use Rattle.command_base.specs.Inputs.{IsWithin, IsLonger}
 use Rattle.command_base.specs.Job.{Answers}
 use Rattle.command_base.specs.Lines.{done_line}
 use Rattle.command_base.proofs.Jobs.{Comes, is_done, is_own, is_memory, comes-to, last-only, done-unless-memory}
-use Rattle.outside_calls.specs.Outputs.{OnlyOutputs, KeepsEach}
-use Rattle.outside_calls.specs.Outputs.{HoldEach}
+use Rattle.outside_calls.specs.Outputs.{OnlyOutputs, KeepsEach, HoldEach}
 use Rattle.outside_calls.proofs.Putting.{HoldEach-kept}
 use Rattle.run_inputs.specs.declared.limits.TheConstants.{LIMITS}
 use Rattle.run_inputs.specs.Words.{RunNames, files_of, texts_of}

@@ -13,8 +13,7 @@ use Rattle.line_run.specs.Scripted.{wire_of, link_of}
 use Rattle.line_ends.proofs.ReadingOff.{run-read}
 use Rattle.line_ends.proofs.RunLaws.{RunLaws, may-run}
 use Rattle.command_base.specs.declared.status.Status.{Status}
-use Rattle.command_base.specs.declared.status.Status.TheVariants.{Done}
-use Rattle.command_base.specs.declared.status.Status.TheVariants.{LineLost, NotDetected, LinkLost, ChanceMatch}
+use Rattle.command_base.specs.declared.status.Status.TheVariants.{Done, LineLost, NotDetected, LinkLost, ChanceMatch}
 use Rattle.command_base.specs.declared.stop.Stop.TheVariants as stops
 use Rattle.command_base.specs.Job.{Answers}
 use Rattle.command_base.specs.Lines.{done_line}

@@ -1,5 +1,5 @@
 -- Outputs that are created, and recordings that get their headers.
-use Rattle.std.proofs.Common.{◌≡◌, inl, inr, ℕ, List, [], ◌∷◌, ◌++◌, sym, subst}
+use Rattle.std.proofs.Common.{◌≡◌, inr, ℕ, List, [], ◌∷◌, ◌++◌, sym, subst}
 use Rattle.std.proofs.lemmas.List.{append-nil}
 use Rattle.outside_calls.specs.Folder.{FolderState, Appended, GoesOn, OnlyWrites, CountsStand}
 use Rattle.outside_calls.specs.declared.folder.FolderFault.{FolderFault}
@@ -17,6 +17,7 @@ use Rattle.line_run.specs.Sampled.{Wire}
 use Rattle.run_inputs.specs.Words.{RunNames, texts_of, outputs_of}
 use Rattle.line_world.specs.Taping.{TapeStands, KeepsTape}
 use Rattle.line_world.specs.declared.tape.Tape.{Tape}
+use Rattle.command_base.proofs.Creating.{OnlyOutputs-none as touches-first}
 
 -- a header behind nothing
 pub heads : (a b : FolderState) (name header : List ℕ) → GoesOn a b → Holds a name [] → Appended a b name header → Holds b name header
@@ -66,18 +67,8 @@ tapes-fail old mid new n folder.NoMemory stand refused = write-earlier old mid n
 
 -- ---- two outputs, one behind the other
 
-pub touches-first : (a b : FolderState) (name : List ℕ) (names : List (List ℕ)) → OnlyWrites a b name → OnlyOutputs a b (name ∷ names)
-touches-first a b name names w = record { goes_on = w.goes_on; names = λ other none. w.names other none.0 }
-
 pub touches-both : (a b c : FolderState) (name other : List ℕ) → OnlyWrites a b name → OnlyWrites b c other
     → OnlyOutputs a c (name ∷ other ∷ [])
 touches-both a b c name other first next =
     OnlyOutputs-trans (name ∷ other ∷ []) (touches-first a b name (other ∷ []) first)
     (record { goes_on = next.goes_on; names = λ any none. next.names any none.1.0 })
-
-pub first-fails : (old new : FolderState) (name : List ℕ) (names : List (List ℕ)) (fault : FolderFault)
-    → WriteFails old new (name ∷ []) fault
-    → WriteFails old new (name ∷ names) fault
-first-fails old new name names folder.Failed (inl rose) = inl rose
-first-fails old new name names folder.Failed (inr never) = absurd never
-first-fails old new name names folder.NoMemory refused = refused

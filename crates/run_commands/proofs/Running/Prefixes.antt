@@ -19,11 +19,10 @@ use Rattle.line_run.proofs.Leaving.{hearing-in}
 use Rattle.command_base.specs.declared.status.Status.{Status}
 use Rattle.command_base.specs.declared.stop.Stop.{Stop}
 use Rattle.command_base.specs.declared.stop.Stop.TheVariants as stops
-use Rattle.outside_calls.specs.Outputs.{Holds, HoldsPart, KeepsAll, CreatesPart}
+use Rattle.outside_calls.specs.Outputs.{Holds, HoldsPart, KeepsAll, CreatesPart, HoldPart}
 use Rattle.run_inputs.specs.declared.limits.TheConstants.{LIMITS}
 use Rattle.run_inputs.specs.Words.{RunNames, texts_of, outputs_of}
 use Rattle.line_world.specs.Turns.{AddsTurn, AddsChance, StopsAfter, held_of}
-use Rattle.outside_calls.specs.Outputs.{HoldPart}
 use Rattle.run_inputs.specs.Files.{KeptOrPrefix}
 use Rattle.run_inputs.proofs.Answering.{stopped-by}
 use Rattle.run_inputs.proofs.Files.{prefix-of, part-of, empty-of}

@@ -1,6 +1,5 @@
 -- However a run ends, each recording is as it was, or holds the beginning of its header and of what its end sends.
-use Rattle.std.proofs.Common.{inl, inr, ℕ, List, [], ◌∷◌, ◌++◌, Some, None, Result, Ok, Err, refl, subst}
-use Rattle.std.proofs.Common.{append_assoc}
+use Rattle.std.proofs.Common.{inl, inr, ℕ, List, [], ◌∷◌, ◌++◌, Some, None, Result, Ok, Err, refl, subst, append_assoc}
 use Rattle.outside_calls.specs.Folder.{FolderState, GoesOn}
 use Rattle.outside_calls.specs.Outputs.{Holds, HoldsFront, KeptOrEmpty, KeepsAll, KeepsEach, CreatesPart, OnlyOutputs}
 use Rattle.outside_calls.proofs.Steps.{KeepsName-trans}

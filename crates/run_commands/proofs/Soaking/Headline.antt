@@ -43,9 +43,7 @@ own-answer seed answer e = stopped-own (SoakEnds seed) answer e
 stop-counts : (seed : ℕ) (f : FolderState) (stop : Stop) → Ends seed (Err stop) → StopCounts f f [] [] stop
 stop-counts seed f (stops.Own answer) e = (own-answer seed answer e, CountsStand-refl f)
 stop-counts seed f stops.NoMemory e = FaultsStand-refl f
-stop-counts seed f (stops.Read fault) e = absurd e
-stop-counts seed f (stops.Write fault) e = absurd e
-stop-counts seed f (stops.Say fault) e = absurd e
+stop-counts seed f other e = absurd e
 
 pub soaked : (words : List (List ℕ)) (old new : FolderState) (seed : ℕ) (counts : SoakCounts) (s : Status) → IsSoaked seed counts
     → Tells old new (soak_line seed counts.turn counts.lost counts.again) Done s → Answers (soak_job seed) words old new s

@@ -16,10 +16,7 @@ use Rattle.exact_decoder.proofs.Surviving.Least.{released-is_least}
 use Rattle.exact_decoder.specs.Surviving.V32.{line_depth}
 use Rattle.command_base.specs.declared.limits.TheConstants.{RECORDING_LIMIT}
 use Rattle.command_base.specs.declared.status.Status.{Status}
-use Rattle.command_base.specs.declared.status.Status.TheVariants.{Done, Usage, BadScript, BadRecording, BadHex, BadXid, TooLong, ReadFault}
-use Rattle.command_base.specs.declared.status.Status.TheVariants.{WriteFault}
-use Rattle.command_base.specs.declared.status.Status.TheVariants.{LineLost, NotDetected, LinkLost, ChanceMatch}
-use Rattle.command_base.specs.declared.status.Status.TheVariants as status
+use Rattle.command_base.specs.declared.status.Status.TheVariants.{BadRecording, TooLong, LineLost}
 use Rattle.command_base.specs.declared.stop.Stop.{Stop}
 use Rattle.command_base.specs.declared.stop.Stop.TheVariants.{Own, Read, Write, Say, NoMemory}
 use Rattle.command_base.specs.Inputs.{IsLonger}
@@ -130,22 +127,7 @@ own-is : (old before : FolderState) (n : DecodeNames) (answer : Status) → Ends
 own-is old before n (TooLong word) e = is_long (ap TooLong e.0) e.1 e.2
 own-is old before n (BadRecording at) e = is_bad at refl e
 own-is old before n (LineLost role symbol) e = is_lost role symbol refl e.0 e.1
-own-is old before n Done e = absurd e
-own-is old before n Usage e = absurd e
-own-is old before n (BadScript line cause) e = absurd e
-own-is old before n (BadHex at) e = absurd e
-own-is old before n (BadXid fault) e = absurd e
-own-is old before n ReadFault e = absurd e
-own-is old before n WriteFault e = absurd e
-own-is old before n (NotDetected turn) e = absurd e
-own-is old before n (LinkLost role segment turn) e = absurd e
-own-is old before n (ChanceMatch role turn) e = absurd e
-own-is old before n status.NoMemory e = absurd e
-own-is old before n (status.PeerFault fault turn) e = absurd e
-own-is old before n (status.AuditNo line cause) e = absurd e
-own-is old before n (status.BadTap role turn) e = absurd e
-own-is old before n (status.PairLinkLost link role segment turn) e = absurd e
-own-is old before n (status.PairNotDetected link turn) e = absurd e
+own-is old before n other e = absurd e
 
 own-left : (old before : FolderState) (n : DecodeNames) (answer : Status) → GoesOn old before → OwnIs old before n answer
     → Left old before n

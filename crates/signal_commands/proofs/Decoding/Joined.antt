@@ -48,7 +48,7 @@ not-wrapped count more low high few few_more l h =
 pub rest-small : (count number : ℕ) → number < 2 ^ (8 + count) → number / 256 < 2 ^ count
 rest-small count number h = let power : 2 ^ (8 + count) ≡ 256 * 2 ^ count = pow-add 2 8 count in omega (arith, h, power)
 
-octet-behind : (octets : List ℕ) (octet : ℕ) → bits_of octets ++ octet_bits octet ≡ bits_of (octets ++ octet ∷ [])
+pub octet-behind : (octets : List ℕ) (octet : ℕ) → bits_of octets ++ octet_bits octet ≡ bits_of (octets ++ octet ∷ [])
 octet-behind octets octet =
     ap (λ bits. bits_of octets ++ bits) (sym (append-nil (octet_bits octet))) ∙ sym (flat_map-append octet_bits octets (octet ∷ []))
 

@@ -1,18 +1,14 @@
 -- Whatever samples follow, the octets that were given begin those that are given then.
-use Rattle.std.proofs.Common.{◌≡◌, ◌∙◌, ℕ, ◌*◌, ◌/◌, ◌<◌, ◌≤◌, Bool, false, List, ◌++◌, length, map, take, drop, refl, sym, ap, subst}
+use Rattle.std.proofs.Common.{◌≡◌, ◌∙◌, ℕ, ◌*◌, ◌/◌, ◌<◌, ◌≤◌, Bool, List, ◌++◌, length, take, drop, refl, sym, ap, subst}
 use Rattle.std.proofs.Common.{arith, append_assoc}
-use Rattle.std.specs.List.{range_with_len}
 use Rattle.std.proofs.Math.Seq.{take-append_seam}
 use Rattle.std.proofs.lemmas.Grind.{flat_map-append}
 use Rattle.std.proofs.lemmas.List.{take-append-drop, length-take, length-drop}
 use Rattle.std.proofs.lemmas.List.Elements.{All-append}
-use Rattle.std.proofs.lemmas.List.FromFn.{length-map-range_with_len, get_or-map-range_with_len}
 use Rattle.shared_terms.specs.Prefix.{IsPrefixOf}
 use Rattle.frame_check.specs.Bits.{octet_bits, bits_of, octets_of}
 use Rattle.frame_check.proofs.BitLists.{bits_of-octets_of, octets_of-are_octets}
-use Rattle.scramblers.specs.Stream.{bit_at_place, earlier}
-use Rattle.frame_check.specs.Xor.{xor}
-use Rattle.scramblers.specs.Scrambles.{Scrambles, Descrambles}
+use Rattle.scramblers.specs.Scrambles.{Descrambles}
 use Rattle.symbol_map.specs.declared.sample.Sample.{Sample}
 use Rattle.exact_decoder.specs.Surviving.Survivors.{IsReleased}
 use Rattle.exact_decoder.proofs.Surviving.Least.{some-released}
@@ -22,19 +18,7 @@ use Rattle.recordings.specs.declared.rate.Rate.{Rate}
 use Rattle.signal_commands.specs.Decoding.Octets.{AreWholeOctets, Carries}
 use Rattle.signal_commands.specs.Decoding.Rates.{trellis_at, line_at}
 use Rattle.signal_commands.proofs.Decoding.Rates.{code_at, line-longer}
-
--- the bits that a line is descrambled to
-abbrev descrambled_at : ℕ → List Bool → ℕ → Bool
-descrambled_at tap line i = xor (xor (bit_at_place line i) (earlier line i tap)) (earlier line i 23)
-
-abbrev descrambled : ℕ → List Bool → List Bool
-descrambled tap line = map (descrambled_at tap line) (range_with_len 0 (length line))
-
-descrambles : (tap : ℕ) (line : List Bool) → Descrambles tap line (descrambled tap line)
-descrambles tap line = record {
-  lengths = length-map-range_with_len (descrambled_at tap line) 0 (length line);
-  each = λ i within. get_or-map-range_with_len (descrambled_at tap line) 0 (length line) i i false within (omega arith);
-}
+use Rattle.line_coding.proofs.Readers.{descrambled, descrambles}
 
 -- all the whole octets of some bits
 whole-octets : (bits : List Bool) → AreWholeOctets bits (octets_of (length bits / 8) (take (8 * (length bits / 8)) bits))
@@ -79,29 +63,29 @@ pub record LongerGives (rate : Rate) (tap : ℕ) (samples : List Sample) (octets
   pub carried : Carries rate tap labels all
   pub front : IsPrefixOf octets all
 
+-- the bits of a line go on with those of what follows
+pub reads-on : (tap : ℕ) (line more bits : List Bool) → 1 ≤ tap → Descrambles tap line bits
+    → (rest : List Bool) × Descrambles tap (line ++ more) (bits ++ rest)
+reads-on tap line more bits low h =
+    let whole : List Bool = line ++ more in
+    let all : List Bool = descrambled tap whole in
+    let n : ℕ = length line in
+    let part : Descrambles tap (take n whole) (take n all) =
+    Descrambles_from_Scrambles tap (take n all) (take n whole)
+    (Scrambles-take tap n all whole low (Scrambles_from_Descrambles tap all whole (descrambles tap whole))) in
+    let first : Descrambles tap line (take n all) =
+    subst (λ (xs : List Bool). Descrambles tap xs (take n all)) (take-append_seam line more) part in
+    let same : take n all ≡ bits = Descrambles_once tap line (take n all) bits first h in
+    let split : all ≡ bits ++ drop n all = sym (take-append-drop n all) ∙ ap (λ (xs : List Bool). xs ++ drop n all) same in
+    (drop n all, subst (Descrambles tap whole) split (descrambles tap whole))
+
 carries-more : (rate : Rate) (tap : ℕ) (labels rest octets : List ℕ) → 1 ≤ tap → Carries rate tap labels octets
     → (more : List ℕ) × Carries rate tap (labels ++ rest) (octets ++ more)
 carries-more rate tap labels rest octets low c =
-    let line : List Bool = line_at rate labels in
     let l = line-longer rate labels rest in
-    let whole : List Bool = line ++ l.0 in
-    let all : List Bool = descrambled tap whole in
-    let n : ℕ = length line in
-    let sent : Scrambles tap all whole = Scrambles_from_Descrambles tap all whole (descrambles tap whole) in
-    let part : Descrambles tap (take n whole) (take n all) =
-    Descrambles_from_Scrambles tap (take n all) (take n whole) (Scrambles-take tap n all whole low sent) in
-    let first : Descrambles tap line (take n all) =
-    subst (λ (xs : List Bool). Descrambles tap xs (take n all)) (take-append_seam line l.0) part in
-    let same : take n all ≡ c.bits = Descrambles_once tap line (take n all) c.bits first c.read in
-    let split : all ≡ c.bits ++ drop n all = sym (take-append-drop n all) ∙ ap (λ (xs : List Bool). xs ++ drop n all) same in
-    let m = octets-more octets c.bits (drop n all) c.whole in (
-      m.more,
-      record {
-        bits = all;
-        read = subst (λ (xs : List Bool). Descrambles tap xs all) (sym l.1) (descrambles tap whole);
-        whole = subst (λ (xs : List Bool). AreWholeOctets xs (octets ++ m.more)) (sym split) m.whole;
-      },
-    )
+    let b = reads-on tap (line_at rate labels) l.0 c.bits low c.read in
+    let m = octets-more octets c.bits b.0 c.whole in
+    (m.more, record { bits = c.bits ++ b.0; read = subst (λ xs. Descrambles tap xs (c.bits ++ b.0)) (sym l.1) b.1; whole = m.whole })
 
 pub longer : (rate : Rate) (tap : ℕ) (samples more : List Sample) (labels octets : List ℕ) → 1 ≤ tap
     → IsReleased (trellis_at rate) samples labels → Carries rate tap labels octets

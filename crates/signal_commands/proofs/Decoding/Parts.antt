@@ -1,10 +1,9 @@
 -- What the output holds where a recording is not played to its end.
-use Rattle.std.proofs.Common.{◌≡◌, ◌≢◌, ◌∙◌, inl, ℕ, ◌+◌, ◌%◌, ◌≤◌, List, [], ◌++◌, length, take, drop, sym, ap, subst, arith, append-nil}
+use Rattle.std.proofs.Common.{◌≡◌, ◌≢◌, ◌∙◌, inl, ℕ, ◌+◌, ◌%◌, List, [], ◌++◌, length, take, drop, sym, ap, subst, arith, append-nil}
 use Rattle.std.proofs.Common.{append_assoc, Option, Some, None, Result, Ok, Err}
 use Rattle.std.proofs.lemmas.List.{take-append-drop, take-append-le}
 use Rattle.outside_calls.specs.Folder.{FolderState}
 use Rattle.scramblers.specs.declared.mode.Mode.{Mode}
-use Rattle.scramblers.specs.declared.mode.Mode.TheVariants.{Call, Answer}
 use Rattle.scramblers.specs.Mode.{tap_of}
 use Rattle.symbol_map.specs.declared.sample.Sample.{Sample}
 use Rattle.exact_decoder.specs.Surviving.Survivors.{IsReleased, LostIs}
@@ -32,10 +31,7 @@ use Rattle.signal_commands.proofs.Decoding.Longer.{longer}
 use Rattle.signal_commands.proofs.Decoding.Playings.{takes-octets}
 use Rattle.signal_commands.proofs.Decoding.Rates.{lost-at}
 use Rattle.recordings.proofs.Samples.{samples_in-front}
-
-tap-low : (mode : Mode) → 1 ≤ tap_of mode
-tap-low Call = omega arith
-tap-low Answer = omega arith
+use Rattle.signal_commands.proofs.PickingUp.Longer.{tap-low}
 
 -- some of the samples release labels that carry the octets
 pub record Releases (rate : Rate) (mode : Mode) (samples : List Sample) (octets : List ℕ) : Type 0 where

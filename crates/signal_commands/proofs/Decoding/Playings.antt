@@ -11,7 +11,7 @@ use Rattle.recordings.specs.declared.rate.Rate.{Rate}
 use Rattle.signal_commands.specs.declared.decode.octet_joiner.Bits.{Bits}
 use Rattle.signal_commands.specs.declared.decode.playback.Playback.{Playback}
 use Rattle.signal_commands.specs.Decoding.Octets.{AreWholeOctets, Carries, bits_in, OctetsJoined}
-use Rattle.signal_commands.specs.Decoding.Playing.{decoding_of, ReadsAt, Hears}
+use Rattle.signal_commands.specs.Decoding.Playing.{decoding_of, Hears}
 use Rattle.signal_commands.specs.Decoding.Rates.{trellis_at}
 use Rattle.signal_commands.proofs.Decoding.Rates.{takes-labels}
 
@@ -41,11 +41,3 @@ takes-octets rate mode p samples octets h =
       released = t.released;
       carried = record { bits = h.bits; read = t.read; whole = whole-joined p.joiner h.bits octets h.joined };
     }
-
--- some bits more
-pub hears-more : (rate : Rate) (mode : Mode) (p next : Playback) (samples : List Sample) (octets more : List ℕ) (bits : List Bool)
-    → ((before : List Bool) → ReadsAt rate mode p.reader samples before → ReadsAt rate mode next.reader samples (before ++ bits))
-    → ((before : List Bool) → OctetsJoined p.joiner before octets → OctetsJoined next.joiner (before ++ bits) more)
-    → Hears rate mode p samples octets → Hears rate mode next samples more
-hears-more rate mode p next samples octets more bits read joined h =
-    record { bits = h.bits ++ bits; read = read h.bits h.read; joined = joined h.bits h.joined }

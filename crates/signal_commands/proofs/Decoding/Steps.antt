@@ -3,7 +3,7 @@ use Rattle.std.proofs.Common.{◌≡◌, ◌≢◌, ◌∙◌, inl, inr, true, L
 use Rattle.outside_calls.specs.Folder.{FolderState, OnlyReads, OnlyWrites}
 use Rattle.outside_calls.proofs.Steps.{GoesOn-trans, KeepsName-trans}
 use Rattle.command_base.specs.declared.stop.Stop.{Stop}
-use Rattle.command_base.specs.declared.stop.Stop.TheVariants.{Own, Read, Write, Say, NoMemory}
+use Rattle.command_base.specs.declared.stop.Stop.TheVariants.{Own, Read, Say}
 use Rattle.outside_calls.specs.Outputs.{OnlyOutput}
 use Rattle.command_base.specs.Recordings.{IsNotOpened}
 use Rattle.command_base.specs.Apart.{are_apart}
@@ -46,6 +46,5 @@ not-opened old new n (Own answer) reads (inl long, stand) = subst (EndsOwn old n
 not-opened old new n (Own answer) reads (inr bad, stand) =
     subst (EndsOwn old new n) (sym bad.1) (inl (record { keeps = reads.names; header = bad.2 }))
 not-opened old new n (Read fault) reads fails = inl reads.names
-not-opened old new n (Write fault) reads never = absurd never
 not-opened old new n (Say fault) reads never = never
-not-opened old new n NoMemory reads never = absurd never
+not-opened old new n other reads never = absurd never

@@ -7,7 +7,7 @@ use Rattle.signal_commands.specs.Encoding.Recorder.{IsRecordingOf}
 use Rattle.shared_terms.specs.declared.limits.TheConstants.{FILE_LIMIT}
 use Rattle.command_base.specs.declared.status.Status.{Status}
 use Rattle.command_base.specs.declared.stop.Stop.{Stop}
-use Rattle.command_base.specs.declared.stop.Stop.TheVariants.{Own, Read, Write, Say, NoMemory}
+use Rattle.command_base.specs.declared.stop.Stop.TheVariants.{Own, Read, Write}
 use Rattle.command_base.specs.Job.{Answers}
 use Rattle.command_base.specs.Status.{IsRefusal}
 use Rattle.command_base.specs.Stops.{end_status}
@@ -45,8 +45,7 @@ left-by old before n (Err (Own answer)) e = inl (e.1 n.rec)
 left-by old before n (Err (Read fault)) (inl kept) = inl kept
 left-by old before n (Err (Read fault)) (inr front) = left-part old before n (inr (front-part old before n front))
 left-by old before n (Err (Write fault)) e = left-part old before n e.1
-left-by old before n (Err (Say fault)) e = absurd e
-left-by old before n (Err NoMemory) e = absurd e
+left-by old before n other e = absurd e
 
 -- a file that is too long is refused before the output is made
 pub refused-by : (old before : FolderState) (n : EncodeNames) (end : Result ℕ Stop) → Ends old before n end → IsRefusal (end_status end)

@@ -11,7 +11,7 @@ use Rattle.scramblers.specs.declared.mode.Mode.{Mode}
 use Rattle.scramblers.specs.declared.mode.Mode.TheVariants.{Call, Answer}
 use Rattle.scramblers.specs.Mode.{tap_of}
 use Rattle.scramblers.specs.Scrambles.{Scrambles}
-use Rattle.scramblers.proofs.Streams.{Scrambles-more}
+use Rattle.scramblers.proofs.Streams.{Scrambles-more, four-behind}
 use Rattle.trellis_tables.proofs.Turning.Places.{turned-snoc}
 use Rattle.symbol_map.specs.declared.sample.Sample.{Sample}
 use Rattle.symbol_map.specs.Labels.{label_of}
@@ -22,7 +22,6 @@ use Rattle.trellis_tables.specs.Quads.{turn_of, uncoded_of}
 use Rattle.trellis_tables.proofs.Tables.{branch_of, next_by_y-lt, y_of-lt}
 use Rattle.trellis_tables.proofs.Codings.{Encodes-more}
 use Rattle.line_coding.specs.Modulates.{Modulates}
-use Rattle.scramblers.proofs.Streams.{four-behind}
 use Rattle.line_coding.proofs.Fours.{fours-more}
 use Rattle.rate_4800.specs.Modulates.{Modulates as QuarterModulates}
 use Rattle.recordings.specs.declared.rate.Rate.{Rate}
@@ -30,6 +29,7 @@ use Rattle.recordings.specs.declared.rate.Rate.TheVariants.{Trellis, Quarters}
 use Rattle.recordings.specs.Recording.{header_at, sample_octets, recording_octets}
 use Rattle.signal_commands.specs.Encoding.Recorder.{ModulatesAt, IsRecordingOf}
 use Rattle.signal_commands.proofs.Encoding.Quarters.{sent_for, bit-lt, two-more, twos-behind}
+use Rattle.signal_commands.proofs.Decoding.Joined.{octet-behind as octet-bits-more}
 
 -- a code sequence stays among the states
 end-lt : (from : ℕ) (labels : List ℕ) (end : ℕ) → from < 8 → Leads next_state from labels end → end < 8
@@ -150,10 +150,6 @@ pub record GoesOn (rate : Rate) (mode : Mode) (octets recording : List ℕ) : Ty
   pub samples : ℕ
   pub recorded : IsRecordingOf rate mode octets whole samples
   pub front : IsPrefixOf recording whole
-
-octet-bits-more : (octets : List ℕ) (octet : ℕ) → bits_of octets ++ octet_bits octet ≡ bits_of (octets ++ octet ∷ [])
-octet-bits-more octets octet =
-    ap (λ bits. bits_of octets ++ bits) (sym (append-nil (octet_bits octet))) ∙ sym (flat_map-append octet_bits octets (octet ∷ []))
 
 samples-front : (rate : Rate) (mode : Mode) (samples more : List Sample)
     → IsPrefixOf (recording_octets rate mode samples) (recording_octets rate mode (samples ++ more))

@@ -1,7 +1,6 @@
 -- From single steps to how the making of a recording ends.
 use Rattle.std.proofs.Common.{◌≡◌, ◌≢◌, ◌∙◌, inl, inr, ℕ, ◌+◌, ◌*◌, Bool, true, false, IsTrue, List, [], ◌∷◌, ◌++◌, length, refl, sym, ap}
-use Rattle.std.proofs.Common.{subst}
-use Rattle.std.proofs.Common.{arith, rules, append-nil, append_assoc}
+use Rattle.std.proofs.Common.{subst, arith, rules, append-nil, append_assoc}
 use Rattle.shared_terms.specs.Prefix.{IsPrefixOf}
 use Rattle.outside_calls.specs.Folder.{FolderState, octets_at, OnlyReads, OnlyWrites, Appended, PartlyAppended}
 use Rattle.outside_calls.proofs.Steps.{KeepsName-trans}
@@ -17,7 +16,7 @@ use Rattle.recordings.specs.Recording.{header_at, samples_each}
 use Rattle.signal_commands.specs.Encoding.Recorder.{IsRecordingOf, RecorderStands}
 use Rattle.shared_terms.specs.declared.limits.TheConstants.{FILE_LIMIT}
 use Rattle.command_base.specs.declared.stop.Stop.{Stop}
-use Rattle.command_base.specs.declared.stop.Stop.TheVariants.{Own, Read, Write, Say, NoMemory}
+use Rattle.command_base.specs.declared.stop.Stop.TheVariants.{Own, Read, Write}
 use Rattle.command_base.specs.Inputs.{IsWithin, IsNotWithin, ReadTo}
 use Rattle.outside_calls.specs.Outputs.{Holds, HoldsFront, KeptOrEmpty, OnlyOutput}
 use Rattle.outside_calls.proofs.Holding.{Holds-kept, Holds-more, HoldsFront-all, HoldsFront-more, HoldsFront-longer}
@@ -210,17 +209,14 @@ pub not-begun : (old new : FolderState) (n : EncodeNames) (stop : Stop) → Only
 not-begun old new n (Own answer) reads long = (long.0, reads.names, long.1)
 not-begun old new n (Read fault) reads fails = inl (reads.names n.rec)
 not-begun old new n (Write fault) reads never = absurd never
-not-begun old new n (Say fault) reads never = never
-not-begun old new n NoMemory reads never = never
+not-begun old new n other reads never = never
 
 -- what was counted then: a fault of the file, or nothing
 pub refused-counts : (old new : FolderState) (n : EncodeNames) (stop : Stop) → IsNotWithin old new n.file FILE_LIMIT 2 stop
     → StopCounts old new (n.file ∷ []) (n.rec ∷ []) stop
 refused-counts old new n (Own answer) why = (subst IsOwn (sym why.0) tt, why.2)
 refused-counts old new n (Read fault) why = why
-refused-counts old new n (Write fault) never = absurd never
-refused-counts old new n (Say fault) never = absurd never
-refused-counts old new n NoMemory never = absurd never
+refused-counts old new n other never = absurd never
 
 -- ---- the output alone is touched
 

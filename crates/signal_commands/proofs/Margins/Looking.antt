@@ -6,7 +6,7 @@ use Rattle.outside_calls.specs.declared.folder.FolderFault.TheVariants as folder
 use Rattle.command_base.specs.declared.limits.TheConstants.{RECORDING_LIMIT}
 use Rattle.shared_terms.specs.declared.limits.TheConstants.{FILE_LIMIT}
 use Rattle.command_base.specs.declared.stop.Stop.{Stop}
-use Rattle.command_base.specs.declared.stop.Stop.TheVariants.{Own, Read, Write, Say, NoMemory}
+use Rattle.command_base.specs.declared.stop.Stop.TheVariants.{Own, Read}
 use Rattle.command_base.specs.Inputs.{IsWithin, IsNotWithin}
 use Rattle.command_base.specs.Stops.{IsOwn, ReadFails, StopCounts}
 use Rattle.command_base.proofs.Jobs.{stop-earlier}
@@ -20,9 +20,7 @@ pub rec-refused : (old new : FolderState) (n : MarginNames) (stop : Stop) → Is
     → EndsBy old new n stop
 rec-refused old new n (Own answer) why = rec_is_long why.0 why.1
 rec-refused old new n (Read fault) why = rec_unread why
-rec-refused old new n (Write fault) why = why
-rec-refused old new n (Say fault) why = why
-rec-refused old new n NoMemory why = why
+rec-refused old new n other why = why
 
 pub file-refused : (old mid new : FolderState) (n : MarginNames) (stop : Stop) → OnlyReads old mid → CountsStand old mid
     → IsWithin old n.rec RECORDING_LIMIT → IsNotWithin mid new n.file FILE_LIMIT 2 stop → EndsBy old new n stop
@@ -30,9 +28,7 @@ file-refused old mid new n (Own answer) reads stand within why =
     file_is_long why.0 within (longer-earlier old mid n.file FILE_LIMIT reads why.1)
 file-refused old mid new n (Read fault) reads stand within why =
     file_unread within (stop-earlier old mid new (n.file ∷ []) [] (Read fault) stand why)
-file-refused old mid new n (Write fault) reads stand within why = why
-file-refused old mid new n (Say fault) reads stand within why = why
-file-refused old mid new n NoMemory reads stand within why = why
+file-refused old mid new n other reads stand within why = why
 
 -- a fault of one input is one of the inputs'
 pub rec-fails : (old new : FolderState) (n : MarginNames) (fault : FolderFault) → ReadFails old new (n.rec ∷ []) fault
@@ -52,6 +48,4 @@ pub refused-counts : (old new : FolderState) (n : MarginNames) (name : List ℕ)
     → IsNotWithin old new name limit word stop → StopCounts old new (inputs_of n) [] stop
 refused-counts old new n name limit word (Own answer) among why = (subst IsOwn (sym why.0) tt, why.2)
 refused-counts old new n name limit word (Read fault) among why = among fault why
-refused-counts old new n name limit word (Write fault) among never = absurd never
-refused-counts old new n name limit word (Say fault) among never = absurd never
-refused-counts old new n name limit word NoMemory among never = absurd never
+refused-counts old new n name limit word other among never = absurd never

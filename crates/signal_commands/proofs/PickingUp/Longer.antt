@@ -9,7 +9,6 @@ use Rattle.scramblers.specs.declared.mode.Mode.{Mode}
 use Rattle.scramblers.specs.declared.mode.Mode.TheVariants.{Call, Answer}
 use Rattle.scramblers.specs.Mode.{tap_of}
 use Rattle.scramblers.specs.Scrambles.{Descrambles}
-use Rattle.scramblers.proofs.Readings.{Descrambles_once, Descrambles_from_Scrambles, Scrambles_from_Descrambles, Scrambles-take}
 use Rattle.trellis_tables.specs.LabelReader.{quads_of}
 use Rattle.trellis_tables.proofs.Readings.{quads_of-take}
 use Rattle.exact_decoder.proofs.Surviving.Fronts.{stays-prefix}
@@ -18,8 +17,8 @@ use Rattle.bit_stuffing.specs.Found.{Found, pieces_of}
 use Rattle.bit_stuffing.proofs.Sent.{pieces-stay}
 use Rattle.line_coding.specs.PickedUp.{line_behind, IsPickedUp}
 use Rattle.line_coding.proofs.Middle.{picked_up_once}
-use Rattle.line_coding.proofs.Readers.{descrambled, descrambles}
 use Rattle.signal_commands.specs.PickingUp.Laws.{LaterPiecesStandBehind}
+use Rattle.signal_commands.proofs.Decoding.Longer.{reads-on}
 
 -- a list without its first elements begins a longer one without them
 drop-front : {A : Type 0} (n : ℕ) (xs ys : List A) → (more : List A) × (drop n (xs ++ ys) ≡ drop n xs ++ more)
@@ -43,26 +42,14 @@ line-longer labels rest =
 pub bits-longer : (tap : ℕ) (labels rest : List ℕ) (bits : List Bool) → 1 ≤ tap → IsPickedUp tap labels bits → (more : List Bool)
     × IsPickedUp tap (labels ++ rest) (bits ++ more)
 bits-longer tap labels rest bits low h =
-    let line : List Bool = line_behind labels in
     let l = line-longer labels rest in
-    let whole : List Bool = line ++ l.0 in
-    let all : List Bool = descrambled tap whole in
-    let given : Descrambles tap whole all = descrambles tap whole in
-    let n : ℕ = length line in
-    let part : Descrambles tap (take n whole) (take n all) =
-    Descrambles_from_Scrambles tap (take n all) (take n whole)
-    (Scrambles-take tap n all whole low (Scrambles_from_Descrambles tap all whole given)) in
-    let first : Descrambles tap line (take n all) =
-    subst (λ (xs : List Bool). Descrambles tap xs (take n all)) (take-append_seam line l.0) part in
-    let same : take n all ≡ h.all = Descrambles_once tap line (take n all) h.all first h.descrambled in
-    let split : all ≡ h.all ++ drop n all = sym (take-append-drop n all) ∙ ap (λ (xs : List Bool). xs ++ drop n all) same in
-    let d = drop-front 23 h.all (drop n all) in
-    let behind : drop 23 all ≡ drop 23 h.all ++ d.0 = ap (λ (xs : List Bool). drop 23 xs) split ∙ d.1 in (
+    let b = reads-on tap (line_behind labels) l.0 h.all low h.descrambled in
+    let d = drop-front 23 h.all b.0 in (
       d.0,
       record {
-        all = all;
-        descrambled = subst (λ (xs : List Bool). Descrambles tap xs all) (sym l.1) given;
-        bits_are = ap (λ (xs : List Bool). xs ++ d.0) h.bits_are ∙ sym behind;
+        all = h.all ++ b.0;
+        descrambled = subst (λ xs. Descrambles tap xs (h.all ++ b.0)) (sym l.1) b.1;
+        bits_are = ap (λ (xs : List Bool). xs ++ d.0) h.bits_are ∙ sym d.1;
       },
     )
 

@@ -7,7 +7,7 @@ use Rattle.exact_decoder.specs.Surviving.Survivors.{LostIs}
 use Rattle.exact_decoder.specs.Surviving.V32.{any_trellis, line_depth}
 use Rattle.exact_decoder.specs.Decoder.{heard}
 use Rattle.command_base.specs.declared.stop.Stop.{Stop}
-use Rattle.command_base.specs.declared.stop.Stop.TheVariants.{Own, Read, Write, Say, NoMemory}
+use Rattle.command_base.specs.declared.stop.Stop.TheVariants.{Own, Read, Write, Say}
 use Rattle.recordings.specs.declared.rate.Rate.TheVariants as rates
 use Rattle.recordings.specs.declared.header.TheConstants.{HEADER}
 use Rattle.recordings.specs.Samples.{samples_in}
@@ -79,9 +79,8 @@ stops-by start now rec mode content (Say fault) w h =
           (followed-longer (samples_in content) s.0 h.first h.followed);
       says = h.says;
     }
-stops-by start now rec mode content (Read fault) w never = absurd never
 stops-by start now rec mode content (Write fault) w never = never
-stops-by start now rec mode content NoMemory w never = absurd never
+stops-by start now rec mode content other w never = absurd never
 
 -- the last sample is cut
 pub cut-by : (start now : FolderState) (rec : List ℕ) (mode : Mode) (p : Playing) (content : List ℕ) (at : ℕ)
@@ -122,5 +121,4 @@ not-opened old new rec (Own answer) reads (inl long, stand) = is_long long.0 (sa
 not-opened old new rec (Own answer) reads (inr bad, stand) = is_other bad.0 bad.1 (said-after old old new [] reads (said-nothing old)) bad.2
 not-opened old new rec (Read fault) reads fails = inl (said-after old old new [] reads (said-nothing old))
 not-opened old new rec (Write fault) reads never = never
-not-opened old new rec (Say fault) reads never = absurd never
-not-opened old new rec NoMemory reads never = absurd never
+not-opened old new rec other reads never = absurd never

@@ -1,7 +1,6 @@
 -- A player goes on, and what was said of what it played.
-use Rattle.std.proofs.Common.{◌≡◌, ◌∙◌, ℕ, ◌+◌, ◌≤◌, Bool, List, [], ◌++◌, length, length-append, take, drop, Result, Ok, Err, refl}
-use Rattle.std.proofs.Common.{sym, ap, subst, arith}
-use Rattle.std.proofs.Common.{append-nil, append_assoc, Option, Some, None}
+use Rattle.std.proofs.Common.{◌≡◌, ◌∙◌, ℕ, ◌+◌, ◌≤◌, Bool, List, [], ◌++◌, length, length-append, take, drop, Result, Ok, Err, refl, sym}
+use Rattle.std.proofs.Common.{ap, subst, arith, append-nil, append_assoc, Option, Some, None}
 use Rattle.std.proofs.lemmas.List.{take-append-drop, take-append-le, length-take}
 use Rattle.scramblers.specs.declared.mode.Mode.{Mode}
 use Rattle.scramblers.specs.Mode.{tap_of}
@@ -16,7 +15,7 @@ use Rattle.exact_decoder.specs.Batches.{heard_of}
 use Rattle.bit_stuffing.specs.Found.{pieces_of}
 use Rattle.bit_stuffing.proofs.Sent.{pieces-stay}
 use Rattle.command_base.specs.declared.stop.Stop.{Stop}
-use Rattle.command_base.specs.declared.stop.Stop.TheVariants.{Own, Read, Write, Say, NoMemory}
+use Rattle.command_base.specs.declared.stop.Stop.TheVariants.{Own, Say}
 use Rattle.line_coding.specs.MiddleReading.{Middle, MiddleRead}
 use Rattle.line_coding.proofs.Readers.{readers_pick_up}
 use Rattle.command_base.specs.Readings.{AreLines}
@@ -190,6 +189,4 @@ stops-longer start now mode samples more (Own answer) (role, symbol, e, l) = (
 )
 stops-longer start now mode samples more (Say fault) s =
     record { first = s.first; followed = followed-longer samples more s.first s.followed; says = s.says }
-stops-longer start now mode samples more (Read fault) never = never
-stops-longer start now mode samples more (Write fault) never = never
-stops-longer start now mode samples more NoMemory never = never
+stops-longer start now mode samples more other never = never

@@ -10,8 +10,7 @@ use Rattle.trellis_tables.specs.Ways.{way_before, way_subset}
 use Rattle.exact_decoder.specs.declared.choice.Choice.{Choice}
 use Rattle.exact_decoder.specs.Advances.{Advances}
 use Rattle.exact_decoder.specs.Lines.{words, coordinate, sample_at, nearest_000, nearest_001, nearest_010, nearest_011, nearest_100}
-use Rattle.exact_decoder.specs.Lines.{nearest_101}
-use Rattle.exact_decoder.specs.Lines.{nearest_110, nearest_111}
+use Rattle.exact_decoder.specs.Lines.{nearest_101, nearest_110, nearest_111}
 use Rattle.exact_decoder.specs.Traced.{choice_by}
 use Rattle.exact_decoder.proofs.Vectors.{both, turned, words-are, each_of_eight}
 use Rattle.exact_decoder.proofs.Small.{small-000, small-001, small-010, small-011, small-100, small-101, small-110, small-111}

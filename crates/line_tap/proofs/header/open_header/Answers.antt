@@ -7,60 +7,42 @@ use Rattle.line_tap.specs.Headers.{IsNotHeader}
 use Rattle.line_tap.proofs.HeaderRead.{header-octets}
 use Rattle.line_tap.proofs.header.open_header.Goals as goal
 
-pub returns-in-Ok-check_header-clause-ok : goal.returns-in-Ok-check_header-clause-ok
-returns-in-Ok-check_header-clause-ok g c = λ start h.
-    let name : List ℕ = c.args.name.now in
-    let new : FolderState = g.F.Folder.state c.read_piece.new.folder in
-    let piece : List ℕ = take c.in-Ok.count c.read_piece.new.piece in
-    let is : piece ≡ header_of c.args.mode = c.in-Ok-check_header.ensures.ok in
-    let r : ReadTo start new name TAP_LIMIT (0 + c.in-Ok.count) piece = c.in-Ok.ensures.more start [] h in
-    let eight : 0 + c.in-Ok.count ≡ 8 = omega (arith, r.count, ap (λ (xs : List ℕ). length xs) is) in
-    subst (λ (at : ℕ). ReadTo start new name TAP_LIMIT at (header_of c.args.mode)) eight
-    (subst (λ (xs : List ℕ). ReadTo start new name TAP_LIMIT (0 + c.in-Ok.count) xs) is r)
+pub returns-in-Ok-check_header : goal.returns-in-Ok-check_header
+returns-in-Ok-check_header g c = record {
+  ok = λ start h.
+      let name : List ℕ = c.args.name.now in
+      let new : FolderState = g.F.Folder.state c.read_piece.new.folder in
+      let piece : List ℕ = take c.in-Ok.count c.read_piece.new.piece in
+      let is : piece ≡ header_of c.args.mode = c.in-Ok-check_header.ensures.ok in
+      let r : ReadTo start new name TAP_LIMIT (0 + c.in-Ok.count) piece = c.in-Ok.ensures.more start [] h in
+      let eight : 0 + c.in-Ok.count ≡ 8 = omega (arith, r.count, ap (λ (xs : List ℕ). length xs) is) in
+      subst (λ (at : ℕ). ReadTo start new name TAP_LIMIT at (header_of c.args.mode)) eight
+      (subst (λ (xs : List ℕ). ReadTo start new name TAP_LIMIT (0 + c.in-Ok.count) xs) is r);
+  err = λ start h. tt;
+  reads = c.in-Ok.ensures.reads;
+  stand = c.in-Ok.ensures.stand;
+  counts = λ outputs. tt;
+}
 
-pub returns-in-Err-check_header-clause-err : goal.returns-in-Err-check_header-clause-err
-returns-in-Err-check_header-clause-err g c = λ start h told.
-    let piece : List ℕ = take c.in-Ok.count c.read_piece.new.piece in
-    subst (λ (xs : List ℕ). IsNotHeader c.args.mode xs c.in-Err-check_header.at)
-    (header-octets start (g.F.Folder.state c.read_piece.new.folder) c.args.name.now c.in-Ok.count piece c.in-Ok.ensures.bound
-    (c.in-Ok.ensures.more start [] h) (c.in-Ok.ensures.end start [] h) told)
-    c.in-Err-check_header.ensures.err
+pub returns-in-Err-check_header : goal.returns-in-Err-check_header
+returns-in-Err-check_header g c = record {
+  ok = λ start h. tt;
+  err = λ start h told.
+      let piece : List ℕ = take c.in-Ok.count c.read_piece.new.piece in
+      subst (λ (xs : List ℕ). IsNotHeader c.args.mode xs c.in-Err-check_header.at)
+      (header-octets start (g.F.Folder.state c.read_piece.new.folder) c.args.name.now c.in-Ok.count piece c.in-Ok.ensures.bound
+      (c.in-Ok.ensures.more start [] h) (c.in-Ok.ensures.end start [] h) told)
+      c.in-Err-check_header.ensures.err;
+  reads = c.in-Ok.ensures.reads;
+  stand = tt;
+  counts = λ outputs. (tt, c.in-Ok.ensures.stand);
+}
 
-pub returns-in-Ok-check_header-clause-err : goal.returns-in-Ok-check_header-clause-err
-returns-in-Ok-check_header-clause-err g c = λ start h. tt
-
-pub returns-in-Ok-check_header-clause-reads : goal.returns-in-Ok-check_header-clause-reads
-returns-in-Ok-check_header-clause-reads g c = c.in-Ok.ensures.reads
-
-pub returns-in-Ok-check_header-clause-stand : goal.returns-in-Ok-check_header-clause-stand
-returns-in-Ok-check_header-clause-stand g c = c.in-Ok.ensures.stand
-
-pub returns-in-Ok-check_header-clause-counts : goal.returns-in-Ok-check_header-clause-counts
-returns-in-Ok-check_header-clause-counts g c = λ outputs. tt
-
-pub returns-in-Err-check_header-clause-ok : goal.returns-in-Err-check_header-clause-ok
-returns-in-Err-check_header-clause-ok g c = λ start h. tt
-
-pub returns-in-Err-check_header-clause-reads : goal.returns-in-Err-check_header-clause-reads
-returns-in-Err-check_header-clause-reads g c = c.in-Ok.ensures.reads
-
-pub returns-in-Err-check_header-clause-stand : goal.returns-in-Err-check_header-clause-stand
-returns-in-Err-check_header-clause-stand g c = tt
-
-pub returns-in-Err-check_header-clause-counts : goal.returns-in-Err-check_header-clause-counts
-returns-in-Err-check_header-clause-counts g c = λ outputs. (tt, c.in-Ok.ensures.stand)
-
-pub returns-in-Err-clause-ok : goal.returns-in-Err-clause-ok
-returns-in-Err-clause-ok g c = λ start h. tt
-
-pub returns-in-Err-clause-err : goal.returns-in-Err-clause-err
-returns-in-Err-clause-err g c = λ start h. tt
-
-pub returns-in-Err-clause-reads : goal.returns-in-Err-clause-reads
-returns-in-Err-clause-reads g c = c.in-Err.ensures.reads
-
-pub returns-in-Err-clause-stand : goal.returns-in-Err-clause-stand
-returns-in-Err-clause-stand g c = tt
-
-pub returns-in-Err-clause-counts : goal.returns-in-Err-clause-counts
-returns-in-Err-clause-counts g c = λ outputs. c.in-Err.ensures.fails
+pub returns-in-Err : goal.returns-in-Err
+returns-in-Err g c = record {
+  ok = λ start h. tt;
+  err = λ start h. tt;
+  reads = c.in-Err.ensures.reads;
+  stand = tt;
+  counts = λ outputs. c.in-Err.ensures.fails;
+}

@@ -14,137 +14,74 @@ read_into-requires g c = c.requires
 pub read_into-requires-2 : goal.read_into-requires-2
 read_into-requires-2 g c = c.requires
 
-pub returns-in-Err-clause-orig : goal.returns-in-Err-clause-orig
-returns-in-Err-clause-orig g c = λ start octets h. tt
+pub returns-in-Err : goal.returns-in-Err
+returns-in-Err g c = record {
+  orig = λ start octets h. tt;
+  answ = λ start octets h. tt;
+  orig_end = λ start octets h. tt;
+  answ_end = λ start octets h. tt;
+  orig_bound = tt;
+  answ_bound = tt;
+  orig_within = tt;
+  answ_within = tt;
+  orig_kept = c.in-Err.ensures.kept;
+  answ_kept = refl;
+  reads = c.in-Err.ensures.reads;
+  stand = tt;
+  fails =
+      read-among (g.F.Folder.state c.args.folder.now) (g.F.Folder.state c.read_into.new.folder) [] c.args.names.now.rec_o.now
+      (c.args.names.now.rec_a.now ∷ []) c.in-Err.fault c.in-Err.ensures.fails;
+}
 
-pub returns-in-Err-clause-answ : goal.returns-in-Err-clause-answ
-returns-in-Err-clause-answ g c = λ start octets h. tt
+pub returns-in-Ok-read_into : goal.returns-in-Ok-read_into
+returns-in-Ok-read_into g c = record {
+  orig = λ start octets h.
+      ReadTo-kept start (g.F.Folder.state c.read_into.new.folder) (g.F.Folder.state c.read_into-2.new.folder) c.args.names.now.rec_o.now
+      TAP_LIMIT _ _
+      (c.in-Ok.ensures.more start octets h) c.in-Ok-read_into.ensures.reads.goes_on
+      (c.in-Ok-read_into.ensures.reads.names c.args.names.now.rec_o.now);
+  answ = λ start octets h.
+      c.in-Ok-read_into.ensures.more start octets
+      (ReadTo-kept start (g.F.Folder.state c.args.folder.now) (g.F.Folder.state c.read_into.new.folder) c.args.names.now.rec_a.now
+      TAP_LIMIT _
+      _ h c.in-Ok.ensures.reads.goes_on
+      (c.in-Ok.ensures.reads.names c.args.names.now.rec_a.now));
+  orig_end = c.in-Ok.ensures.end;
+  answ_end = λ start octets h.
+      c.in-Ok-read_into.ensures.end start octets
+      (ReadTo-kept start (g.F.Folder.state c.args.folder.now) (g.F.Folder.state c.read_into.new.folder) c.args.names.now.rec_a.now
+      TAP_LIMIT _
+      _ h c.in-Ok.ensures.reads.goes_on
+      (c.in-Ok.ensures.reads.names c.args.names.now.rec_a.now));
+  orig_bound = c.in-Ok.ensures.bound;
+  answ_bound = c.in-Ok-read_into.ensures.bound;
+  orig_within = c.in-Ok.ensures.within;
+  answ_within = c.in-Ok-read_into.ensures.within;
+  orig_kept = c.in-Ok.ensures.kept;
+  answ_kept = c.in-Ok-read_into.ensures.kept;
+  reads = OnlyReads-trans c.in-Ok.ensures.reads c.in-Ok-read_into.ensures.reads;
+  stand = CountsStand-trans c.in-Ok.ensures.stand c.in-Ok-read_into.ensures.stand;
+  fails = tt;
+}
 
-pub returns-in-Err-clause-orig_end : goal.returns-in-Err-clause-orig_end
-returns-in-Err-clause-orig_end g c = λ start octets h. tt
-
-pub returns-in-Err-clause-answ_end : goal.returns-in-Err-clause-answ_end
-returns-in-Err-clause-answ_end g c = λ start octets h. tt
-
-pub returns-in-Err-clause-orig_bound : goal.returns-in-Err-clause-orig_bound
-returns-in-Err-clause-orig_bound g c = tt
-
-pub returns-in-Err-clause-answ_bound : goal.returns-in-Err-clause-answ_bound
-returns-in-Err-clause-answ_bound g c = tt
-
-pub returns-in-Err-clause-orig_within : goal.returns-in-Err-clause-orig_within
-returns-in-Err-clause-orig_within g c = tt
-
-pub returns-in-Err-clause-answ_within : goal.returns-in-Err-clause-answ_within
-returns-in-Err-clause-answ_within g c = tt
-
-pub returns-in-Err-clause-stand : goal.returns-in-Err-clause-stand
-returns-in-Err-clause-stand g c = tt
-
-pub returns-in-Err-clause-orig_kept : goal.returns-in-Err-clause-orig_kept
-returns-in-Err-clause-orig_kept g c = c.in-Err.ensures.kept
-
-pub returns-in-Err-clause-answ_kept : goal.returns-in-Err-clause-answ_kept
-returns-in-Err-clause-answ_kept g c = refl
-
-pub returns-in-Err-clause-reads : goal.returns-in-Err-clause-reads
-returns-in-Err-clause-reads g c = c.in-Err.ensures.reads
-
-pub returns-in-Err-clause-fails : goal.returns-in-Err-clause-fails
-returns-in-Err-clause-fails g c =
-    read-among (g.F.Folder.state c.args.folder.now) (g.F.Folder.state c.read_into.new.folder) [] c.args.names.now.rec_o.now
-    (c.args.names.now.rec_a.now ∷ []) c.in-Err.fault c.in-Err.ensures.fails
-
-pub returns-in-Ok-read_into-clause-orig : goal.returns-in-Ok-read_into-clause-orig
-returns-in-Ok-read_into-clause-orig g c = λ start octets h.
-    ReadTo-kept start (g.F.Folder.state c.read_into.new.folder) (g.F.Folder.state c.read_into-2.new.folder) c.args.names.now.rec_o.now
-    TAP_LIMIT _ _
-    (c.in-Ok.ensures.more start octets h) c.in-Ok-read_into.ensures.reads.goes_on
-    (c.in-Ok-read_into.ensures.reads.names c.args.names.now.rec_o.now)
-
-pub returns-in-Ok-read_into-clause-answ : goal.returns-in-Ok-read_into-clause-answ
-returns-in-Ok-read_into-clause-answ g c = λ start octets h.
-    c.in-Ok-read_into.ensures.more start octets
-    (ReadTo-kept start (g.F.Folder.state c.args.folder.now) (g.F.Folder.state c.read_into.new.folder) c.args.names.now.rec_a.now TAP_LIMIT _
-    _ h c.in-Ok.ensures.reads.goes_on
-    (c.in-Ok.ensures.reads.names c.args.names.now.rec_a.now))
-
-pub returns-in-Ok-read_into-clause-orig_end : goal.returns-in-Ok-read_into-clause-orig_end
-returns-in-Ok-read_into-clause-orig_end g c = c.in-Ok.ensures.end
-
-pub returns-in-Ok-read_into-clause-answ_end : goal.returns-in-Ok-read_into-clause-answ_end
-returns-in-Ok-read_into-clause-answ_end g c = λ start octets h.
-    c.in-Ok-read_into.ensures.end start octets
-    (ReadTo-kept start (g.F.Folder.state c.args.folder.now) (g.F.Folder.state c.read_into.new.folder) c.args.names.now.rec_a.now TAP_LIMIT _
-    _ h c.in-Ok.ensures.reads.goes_on
-    (c.in-Ok.ensures.reads.names c.args.names.now.rec_a.now))
-
-pub returns-in-Ok-read_into-clause-orig_bound : goal.returns-in-Ok-read_into-clause-orig_bound
-returns-in-Ok-read_into-clause-orig_bound g c = c.in-Ok.ensures.bound
-
-pub returns-in-Ok-read_into-clause-answ_bound : goal.returns-in-Ok-read_into-clause-answ_bound
-returns-in-Ok-read_into-clause-answ_bound g c = c.in-Ok-read_into.ensures.bound
-
-pub returns-in-Ok-read_into-clause-orig_within : goal.returns-in-Ok-read_into-clause-orig_within
-returns-in-Ok-read_into-clause-orig_within g c = c.in-Ok.ensures.within
-
-pub returns-in-Ok-read_into-clause-answ_within : goal.returns-in-Ok-read_into-clause-answ_within
-returns-in-Ok-read_into-clause-answ_within g c = c.in-Ok-read_into.ensures.within
-
-pub returns-in-Ok-read_into-clause-orig_kept : goal.returns-in-Ok-read_into-clause-orig_kept
-returns-in-Ok-read_into-clause-orig_kept g c = c.in-Ok.ensures.kept
-
-pub returns-in-Ok-read_into-clause-answ_kept : goal.returns-in-Ok-read_into-clause-answ_kept
-returns-in-Ok-read_into-clause-answ_kept g c = c.in-Ok-read_into.ensures.kept
-
-pub returns-in-Ok-read_into-clause-reads : goal.returns-in-Ok-read_into-clause-reads
-returns-in-Ok-read_into-clause-reads g c = OnlyReads-trans c.in-Ok.ensures.reads c.in-Ok-read_into.ensures.reads
-
-pub returns-in-Ok-read_into-clause-stand : goal.returns-in-Ok-read_into-clause-stand
-returns-in-Ok-read_into-clause-stand g c = CountsStand-trans c.in-Ok.ensures.stand c.in-Ok-read_into.ensures.stand
-
-pub returns-in-Ok-read_into-clause-fails : goal.returns-in-Ok-read_into-clause-fails
-returns-in-Ok-read_into-clause-fails g c = tt
-
-pub returns-in-Err-read_into-clause-orig : goal.returns-in-Err-read_into-clause-orig
-returns-in-Err-read_into-clause-orig g c = λ start octets h. tt
-
-pub returns-in-Err-read_into-clause-answ : goal.returns-in-Err-read_into-clause-answ
-returns-in-Err-read_into-clause-answ g c = λ start octets h. tt
-
-pub returns-in-Err-read_into-clause-orig_end : goal.returns-in-Err-read_into-clause-orig_end
-returns-in-Err-read_into-clause-orig_end g c = λ start octets h. tt
-
-pub returns-in-Err-read_into-clause-answ_end : goal.returns-in-Err-read_into-clause-answ_end
-returns-in-Err-read_into-clause-answ_end g c = λ start octets h. tt
-
-pub returns-in-Err-read_into-clause-orig_bound : goal.returns-in-Err-read_into-clause-orig_bound
-returns-in-Err-read_into-clause-orig_bound g c = tt
-
-pub returns-in-Err-read_into-clause-answ_bound : goal.returns-in-Err-read_into-clause-answ_bound
-returns-in-Err-read_into-clause-answ_bound g c = tt
-
-pub returns-in-Err-read_into-clause-orig_within : goal.returns-in-Err-read_into-clause-orig_within
-returns-in-Err-read_into-clause-orig_within g c = tt
-
-pub returns-in-Err-read_into-clause-answ_within : goal.returns-in-Err-read_into-clause-answ_within
-returns-in-Err-read_into-clause-answ_within g c = tt
-
-pub returns-in-Err-read_into-clause-stand : goal.returns-in-Err-read_into-clause-stand
-returns-in-Err-read_into-clause-stand g c = tt
-
-pub returns-in-Err-read_into-clause-orig_kept : goal.returns-in-Err-read_into-clause-orig_kept
-returns-in-Err-read_into-clause-orig_kept g c = c.in-Ok.ensures.kept
-
-pub returns-in-Err-read_into-clause-answ_kept : goal.returns-in-Err-read_into-clause-answ_kept
-returns-in-Err-read_into-clause-answ_kept g c = c.in-Err-read_into.ensures.kept
-
-pub returns-in-Err-read_into-clause-reads : goal.returns-in-Err-read_into-clause-reads
-returns-in-Err-read_into-clause-reads g c = OnlyReads-trans c.in-Ok.ensures.reads c.in-Err-read_into.ensures.reads
-
-pub returns-in-Err-read_into-clause-fails : goal.returns-in-Err-read_into-clause-fails
-returns-in-Err-read_into-clause-fails g c =
-    stop-earlier (g.F.Folder.state c.args.folder.now) (g.F.Folder.state c.read_into.new.folder) (g.F.Folder.state c.read_into-2.new.folder)
-    (recordings_of (named c.args.names.now)) [] (Read c.in-Err-read_into.fault) c.in-Ok.ensures.stand
-    (read-among (g.F.Folder.state c.read_into.new.folder) (g.F.Folder.state c.read_into-2.new.folder) (c.args.names.now.rec_o.now ∷ [])
-    c.args.names.now.rec_a.now [] c.in-Err-read_into.fault c.in-Err-read_into.ensures.fails)
+pub returns-in-Err-read_into : goal.returns-in-Err-read_into
+returns-in-Err-read_into g c = record {
+  orig = λ start octets h. tt;
+  answ = λ start octets h. tt;
+  orig_end = λ start octets h. tt;
+  answ_end = λ start octets h. tt;
+  orig_bound = tt;
+  answ_bound = tt;
+  orig_within = tt;
+  answ_within = tt;
+  orig_kept = c.in-Ok.ensures.kept;
+  answ_kept = c.in-Err-read_into.ensures.kept;
+  reads = OnlyReads-trans c.in-Ok.ensures.reads c.in-Err-read_into.ensures.reads;
+  stand = tt;
+  fails =
+      stop-earlier (g.F.Folder.state c.args.folder.now) (g.F.Folder.state c.read_into.new.folder)
+      (g.F.Folder.state c.read_into-2.new.folder)
+      (recordings_of (named c.args.names.now)) [] (Read c.in-Err-read_into.fault) c.in-Ok.ensures.stand
+      (read-among (g.F.Folder.state c.read_into.new.folder) (g.F.Folder.state c.read_into-2.new.folder) (c.args.names.now.rec_o.now ∷ [])
+      c.args.names.now.rec_a.now [] c.in-Err-read_into.fault c.in-Err-read_into.ensures.fails);
+}

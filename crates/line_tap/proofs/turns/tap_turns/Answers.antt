@@ -1,5 +1,4 @@
 use Rattle.std.proofs.Common.{◌∙◌, refl, subst}
-use Rattle.outside_calls.specs.Folder.{FolderState}
 use Rattle.outside_calls.proofs.Steps.{CountsStand-refl, CountsStand-trans}
 use Rattle.outside_calls.proofs.Putting.{OnlyPuts-refl, OnlyPuts-trans}
 use Rattle.noise_script.specs.Script.{ScriptValue, IsInLimits}
@@ -11,9 +10,6 @@ use Rattle.line_tap.proofs.turns.tap_turns.Goals as goal
 
 pub loop-turns-preserved : goal.loop-turns-preserved
 loop-turns-preserved g c =
-    let old : FolderState = g.F.Folder.state c.args.folder.now in
-    let now : FolderState = g.F.Folder.state c.loop-turns.folder in
-    let next : FolderState = g.F.Folder.state c.turn.new.folder in
     let n : TapNames = named c.args.names.now in
     let i = c.loop-turns.invariant in
     let script : ScriptValue = c.args.tap.now.script in
@@ -22,53 +18,46 @@ loop-turns-preserved g c =
       script = c.in-Ok-Going.ensures.script ∙ i.script;
       reached = λ start k.
           let r = i.reached start k in
-          reached-going c.keeps_taken.ensures c.loop-turns.tap c.turn.new.self script start now next n r c.in-Ok-Going.ensures.only.goes_on
-          ((rw c.in-Ok-Going.field-0-is at c.in-Ok-Going.ensures.turn) start (tapping script r.bodies) r.turns r.after r.read);
-      only = OnlyPuts-trans old now next (outputs_of n) i.only c.in-Ok-Going.ensures.only;
+          reached-going c.loop-turns.tap script start _ _ n r c.in-Ok-Going.ensures.only.goes_on c.keeps_taken.ensures
+          c.turn.new.self ((rw c.in-Ok-Going.field-0-is at c.in-Ok-Going.ensures.turn) start (tapping script r.bodies) r.turns r.after
+          r.read);
+      only = OnlyPuts-trans _ _ _ (outputs_of n) i.only c.in-Ok-Going.ensures.only;
       stand = CountsStand-trans i.stand c.in-Ok-Going.ensures.counts;
     }
 
-pub returns-in-Ok-Done-clause-ends : goal.returns-in-Ok-Done-clause-ends
-returns-in-Ok-Done-clause-ends g c = λ start k.
-    let now : FolderState = g.F.Folder.state c.loop-turns.folder in
-    let next : FolderState = g.F.Folder.state c.turn.new.folder in
-    let n : TapNames = named c.args.names.now in
-    let script : ScriptValue = c.args.tap.now.script in
-    let r = c.loop-turns.invariant.reached start k in
-    let limits : IsInLimits script = subst IsInLimits c.loop-turns.invariant.script c.loop-turns.invariant.ready.limits in
-    reached-done c.loop-turns.tap script start now next n c.in-Ok-Done.turns r (c.slots_have_room.ensures.room script limits).0
-    c.in-Ok-Done.ensures.only.goes_on
-    ((rw c.in-Ok-Done.field-0-is at c.in-Ok-Done.ensures.turn) start (tapping script r.bodies) r.turns r.after r.read)
+pub returns-in-Ok-Done : goal.returns-in-Ok-Done
+returns-in-Ok-Done g c = record {
+  ends = λ start k.
+      let n : TapNames = named c.args.names.now in
+      let script : ScriptValue = c.args.tap.now.script in
+      let r = c.loop-turns.invariant.reached start k in
+      let limits : IsInLimits script = subst IsInLimits c.loop-turns.invariant.script c.loop-turns.invariant.ready.limits in
+      reached-done c.loop-turns.tap script start _ _ n r c.in-Ok-Done.ensures.only.goes_on c.in-Ok-Done.turns
+      (c.slots_have_room.ensures.room script limits).0 ((rw c.in-Ok-Done.field-0-is at c.in-Ok-Done.ensures.turn) start
+      (tapping script r.bodies) r.turns r.after r.read);
+  only =
+      OnlyPuts-trans (g.F.Folder.state c.args.folder.now) (g.F.Folder.state c.loop-turns.folder) (g.F.Folder.state c.turn.new.folder)
+      (outputs_of (named c.args.names.now)) c.loop-turns.invariant.only c.in-Ok-Done.ensures.only;
+  counts = CountsStand-trans c.loop-turns.invariant.stand c.in-Ok-Done.ensures.counts;
+}
 
-pub returns-in-Ok-Done-clause-only : goal.returns-in-Ok-Done-clause-only
-returns-in-Ok-Done-clause-only g c =
-    OnlyPuts-trans (g.F.Folder.state c.args.folder.now) (g.F.Folder.state c.loop-turns.folder) (g.F.Folder.state c.turn.new.folder)
-    (outputs_of (named c.args.names.now)) c.loop-turns.invariant.only c.in-Ok-Done.ensures.only
-
-pub returns-in-Ok-Done-clause-counts : goal.returns-in-Ok-Done-clause-counts
-returns-in-Ok-Done-clause-counts g c = CountsStand-trans c.loop-turns.invariant.stand c.in-Ok-Done.ensures.counts
-
-pub returns-in-Err-clause-ends : goal.returns-in-Err-clause-ends
-returns-in-Err-clause-ends g c = λ start k.
-    let now : FolderState = g.F.Folder.state c.loop-turns.folder in
-    let next : FolderState = g.F.Folder.state c.turn.new.folder in
-    let n : TapNames = named c.args.names.now in
-    let script : ScriptValue = c.args.tap.now.script in
-    let r = c.loop-turns.invariant.reached start k in
-    let limits : IsInLimits script = subst IsInLimits c.loop-turns.invariant.script c.loop-turns.invariant.ready.limits in
-    reached-stop c.loop-turns.tap script start now next n c.in-Err.stop r (c.slots_have_room.ensures.room script limits).0
-    c.in-Err.ensures.only.goes_on (c.in-Err.ensures.turn start (tapping script r.bodies) r.turns r.after r.read)
-
-pub returns-in-Err-clause-only : goal.returns-in-Err-clause-only
-returns-in-Err-clause-only g c =
-    OnlyPuts-trans (g.F.Folder.state c.args.folder.now) (g.F.Folder.state c.loop-turns.folder) (g.F.Folder.state c.turn.new.folder)
-    (outputs_of (named c.args.names.now)) c.loop-turns.invariant.only c.in-Err.ensures.only
-
-pub returns-in-Err-clause-counts : goal.returns-in-Err-clause-counts
-returns-in-Err-clause-counts g c =
-    stop-earlier (g.F.Folder.state c.args.folder.now) (g.F.Folder.state c.loop-turns.folder) (g.F.Folder.state c.turn.new.folder)
-    (recordings_of (named c.args.names.now)) (outputs_of (named c.args.names.now)) c.in-Err.stop c.loop-turns.invariant.stand
-    c.in-Err.ensures.counts
+pub returns-in-Err : goal.returns-in-Err
+returns-in-Err g c = record {
+  ends = λ start k.
+      let n : TapNames = named c.args.names.now in
+      let script : ScriptValue = c.args.tap.now.script in
+      let r = c.loop-turns.invariant.reached start k in
+      let limits : IsInLimits script = subst IsInLimits c.loop-turns.invariant.script c.loop-turns.invariant.ready.limits in
+      reached-stop c.loop-turns.tap script start _ _ n r c.in-Err.ensures.only.goes_on c.in-Err.stop
+      (c.slots_have_room.ensures.room script limits).0 (c.in-Err.ensures.turn start (tapping script r.bodies) r.turns r.after r.read);
+  only =
+      OnlyPuts-trans (g.F.Folder.state c.args.folder.now) (g.F.Folder.state c.loop-turns.folder) (g.F.Folder.state c.turn.new.folder)
+      (outputs_of (named c.args.names.now)) c.loop-turns.invariant.only c.in-Err.ensures.only;
+  counts =
+      stop-earlier (g.F.Folder.state c.args.folder.now) (g.F.Folder.state c.loop-turns.folder) (g.F.Folder.state c.turn.new.folder)
+      (recordings_of (named c.args.names.now)) (outputs_of (named c.args.names.now)) c.in-Err.stop c.loop-turns.invariant.stand
+      c.in-Err.ensures.counts;
+}
 
 pub turn-requires-clause-ready : goal.turn-requires-clause-ready
 turn-requires-clause-ready g c = c.loop-turns.invariant.ready
@@ -78,14 +67,13 @@ turn-requires-clause-apart g c = c.requires.apart
 
 pub loop-turns-init : goal.loop-turns-init
 loop-turns-init g c =
-    let old : FolderState = g.F.Folder.state c.args.folder.now in
     let n : TapNames = named c.args.names.now in
     record {
       ready = c.requires.ready;
       script = refl;
-      reached = λ start k. reached-none c.args.tap.now start old n c.requires.first k c.requires.created;
-      only = OnlyPuts-refl old (outputs_of n);
-      stand = CountsStand-refl old;
+      reached = λ start k. reached-none c.args.tap.now start _ n c.requires.first k c.requires.created;
+      only = OnlyPuts-refl _ (outputs_of n);
+      stand = CountsStand-refl _;
     }
 
 pub loop-turns-smaller : goal.loop-turns-smaller

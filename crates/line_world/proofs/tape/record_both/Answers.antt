@@ -1,36 +1,29 @@
-use Rattle.std.proofs.Common.{inl, ◌∷◌, ◌∙◌, sym}
-use Rattle.outside_calls.specs.Folder.{FolderState}
+use Rattle.std.proofs.Common.{inl, ◌∷◌, ◌∙◌, sym, []}
 use Rattle.shared_terms.specs.declared.role.Role.TheVariants.{Originator, Answerer}
 use Rattle.line_run.specs.Scripted.{wire_of}
 use Rattle.line_world.specs.World.{script_of}
 use Rattle.line_world.proofs.Taping.{keeps-holds, keeps-later, both-take}
-use Rattle.std.proofs.Common.{[]}
 use Rattle.outside_calls.proofs.Putting.{OnlyPuts-one, OnlyPuts-trans}
 use Rattle.line_world.proofs.Folders.{counts-front}
 use Rattle.line_world.proofs.tape.record_both.Goals as goal
 
 pub returns-in-Err-clause-records : goal.returns-in-Err-clause-records
 returns-in-Err-clause-records g c = λ files ts t ends w k.
-    let a : FolderState = g.F.Folder.state c.args.folder.now in
-    let b : FolderState = g.F.Folder.state c.record.new.folder in
     inl (
       c.in-Err.ensures.records (script_of c.args.world.now) Originator ts t (c.sent.ensures.sent files ts t ends w) k.0,
-      keeps-holds c.args.tapes.now.answ b (wire_of (script_of c.args.world.now)) Answerer ts
-          (keeps-later c.args.tapes.now.answ a b (wire_of (script_of c.args.world.now)) Answerer ts c.in-Err.ensures.only.goes_on
+      keeps-holds c.args.tapes.now.answ _ (wire_of (script_of c.args.world.now)) Answerer ts
+          (keeps-later c.args.tapes.now.answ _ _ (wire_of (script_of c.args.world.now)) Answerer ts c.in-Err.ensures.only.goes_on
           (c.in-Err.ensures.only.names c.args.tapes.now.answ.name.now (λ e. c.requires.apart.0.0 (sym e))) k.1),
     )
 
 pub returns-clause-records : goal.returns-clause-records
 returns-clause-records g c = λ files ts t ends w k.
-    let a : FolderState = g.F.Folder.state c.args.folder.now in
-    let b : FolderState = g.F.Folder.state c.record.new.folder in
-    let z : FolderState = g.F.Folder.state c.record-2.new.folder in
     let channel = wire_of (script_of c.args.world.now) in
     let orig = c.in-Ok.ensures.records (script_of c.args.world.now) Originator ts t (c.sent.ensures.sent files ts t ends w) k.0 in
-    let answ = keeps-later c.args.tapes.now.answ a b channel Answerer ts c.in-Ok.ensures.only.goes_on
+    let answ = keeps-later c.args.tapes.now.answ _ _ channel Answerer ts c.in-Ok.ensures.only.goes_on
     (c.in-Ok.ensures.only.names c.args.tapes.now.answ.name.now (λ e. c.requires.apart.0.0 (sym e))) k.1 in
-    both-take c.record.new.self c.record-2.new.self z channel ts t c.record-2.result
-    (keeps-later c.record.new.self b z channel Originator (t ∷ ts) c.record-2.ensures.only.goes_on
+    both-take c.record.new.self c.record-2.new.self _ channel ts t c.record-2.result
+    (keeps-later c.record.new.self _ _ channel Originator (t ∷ ts) c.record-2.ensures.only.goes_on
     (c.record-2.ensures.only.names c.record.new.self.name.now (λ e. c.requires.apart.0.0 (sym c.in-Ok.ensures.name ∙ e))) orig)
     (c.record-2.ensures.records (script_of c.args.world.now) Answerer ts t (c.sent-2.ensures.sent files ts t ends w) answ)
 

@@ -1,4 +1,4 @@
-use Rattle.std.proofs.Common.{◌∙◌, [], ◌∷◌, ◌++◌, sym, refl, subst}
+use Rattle.std.proofs.Common.{◌∙◌, [], ◌∷◌, ◌++◌, sym, refl, subst, rules}
 use Rattle.outside_calls.proofs.Steps.{CountsStand-trans}
 use Rattle.outside_calls.proofs.Putting.{OnlyPuts-trans}
 use Rattle.outside_calls.specs.Folder.{FolderState}
@@ -12,8 +12,7 @@ use Rattle.line_world.specs.Taping.{KeepTapes, tape_names}
 use Rattle.line_world.specs.Turn.{FaultCountsOver}
 use Rattle.line_world.specs.World.{script_of}
 use Rattle.line_world.proofs.Reached.{reached-start, reached-going, reached-put, reached-taping, reached-done, reached-counts}
-use Rattle.line_world.proofs.Reached.{reached-fault}
-use Rattle.line_world.proofs.Reached.{nearer, next-turn, tapes-kept, apart-outputs}
+use Rattle.line_world.proofs.Reached.{reached-fault, nearer, next-turn, tapes-kept, apart-outputs}
 use Rattle.line_world.proofs.Several.{puts-front, puts-behind, apart-behind}
 use Rattle.line_world.proofs.Folders.{counts-later, counts-front, counts-behind}
 use Rattle.line_world.proofs.Taping.{keep-holds, keep-later, hold-later}
@@ -38,21 +37,17 @@ record_turn-requires g c = record {
 
 pub loop-tapes-smaller : goal.loop-tapes-smaller
 loop-tapes-smaller g c =
-    let old : FolderState = g.F.Folder.state c.args.folder.now in
-    let now : FolderState = g.F.Folder.state c.loop-tapes.folder in
-    let next : FolderState = g.F.Folder.state c.turn.new.folder in
     let n : Written = written c.args.names.now in
     let tapes : Tapes = tape_names c.args.tapes.now in
     let script : ScriptValue = script_of c.args.world.now in
     let r = c.loop-tapes.invariant.reached in
     nearer _ _ (c.turns_are_few.ensures c.loop-tapes.world c.loop-tapes.invariant.ready)
-    (next-turn c.loop-tapes.world c.turn.new.self script n tapes old now next r
+    (next-turn c.loop-tapes.world c.turn.new.self script n tapes _ _ _ r
     ((rw c.in-Ok-Going.field-0-is at c.in-Ok-Going.ensures.turn) r.files r.turns r.ends r.world r.knows.within))
 
 pub loop-tapes-preserved : goal.loop-tapes-preserved
 unfolding reached-going reached-put
 loop-tapes-preserved g c =
-    let old : FolderState = g.F.Folder.state c.args.folder.now in
     let now : FolderState = g.F.Folder.state c.loop-tapes.folder in
     let next : FolderState = g.F.Folder.state c.turn.new.folder in
     let n : Written = written c.args.names.now in
@@ -69,9 +64,9 @@ loop-tapes-preserved g c =
     (subst (λ (names : Tapes). KeepsEach now next (tapes_of names)) (sym c.loop-tapes.invariant.named)
     (tapes-kept now next n tapes c.requires.apart c.in-Ok-Going.ensures.only)) c.loop-tapes.invariant.taped) in
     record {
-      reached = reached-put c.turn.new.self script n tapes old next last c.requires.apart
+      reached = reached-put c.turn.new.self script n tapes _ next last c.requires.apart
           (reached-going c.turns_deliver_what_came.ensures.hearing c.turns_deliver_what_came.ensures.speaking c.loop-tapes.world
-          c.turn.new.self script n tapes old now next r c.in-Ok-Going.ensures.script going c.in-Ok-Going.ensures.only
+          c.turn.new.self script n tapes _ now next r c.in-Ok-Going.ensures.script going c.in-Ok-Going.ensures.only
           c.in-Ok-Going.ensures.counts) puts c.in-Ok.ensures.counts;
       named = c.in-Ok.ensures.names ∙ c.loop-tapes.invariant.named;
       taped = subst (λ (s : ScriptValue). KeepTapes c.record_turn.new.tapes last (wire_of s) (going.turn ∷ r.turns))
@@ -83,35 +78,8 @@ loop-tapes-preserved g c =
           c.in-Ok.ensures.came;
     }
 
-pub returns-in-Err-record_turn-clause-run : goal.returns-in-Err-record_turn-clause-run
-returns-in-Err-record_turn-clause-run g c =
-    let old : FolderState = g.F.Folder.state c.args.folder.now in
-    let now : FolderState = g.F.Folder.state c.loop-tapes.folder in
-    let next : FolderState = g.F.Folder.state c.turn.new.folder in
-    let n : Written = written c.args.names.now in
-    let tapes : Tapes = tape_names c.args.tapes.now in
-    let script : ScriptValue = script_of c.args.world.now in
-    let r = c.loop-tapes.invariant.reached in
-    let last : FolderState = g.F.Folder.state c.record_turn.new.folder in
-    let going = (rw c.in-Ok-Going.field-0-is at c.in-Ok-Going.ensures.turn) r.files r.turns r.ends r.world r.knows.within in
-    let puts : OnlyPuts next last (tapes_of tapes) =
-    subst (λ (names : Tapes). OnlyPuts next last (tapes_of names)) c.loop-tapes.invariant.named c.in-Err-record_turn.ensures.only in
-    let kept : KeepTapes c.loop-tapes.tapes next (wire_of (script_of c.turn.new.self)) r.turns =
-    subst (λ (s : ScriptValue). KeepTapes c.loop-tapes.tapes next (wire_of s) r.turns) (sym (c.in-Ok-Going.ensures.script ∙ r.script_is))
-    (keep-later c.loop-tapes.tapes now next (wire_of script) r.turns c.in-Ok-Going.ensures.only.goes_on
-    (subst (λ (names : Tapes). KeepsEach now next (tapes_of names)) (sym c.loop-tapes.invariant.named)
-    (tapes-kept now next n tapes c.requires.apart c.in-Ok-Going.ensures.only)) c.loop-tapes.invariant.taped) in
-    let partly : HoldTapesPartly last tapes (wire_of (script_of c.turn.new.self)) r.turns going.turn =
-    subst (λ (names : Tapes). HoldTapesPartly last names (wire_of (script_of c.turn.new.self)) r.turns going.turn)
-    (c.in-Err-record_turn.ensures.names ∙ c.loop-tapes.invariant.named)
-    (c.in-Err-record_turn.ensures.records going.others r.turns going.turn going.after
-    (record { modems = going.modems; lines = going.lines }) kept) in
-    reached-taping c.loop-tapes.world c.turn.new.self script n tapes old now next last c.in-Err-record_turn.fault r c.requires.apart
-    c.in-Ok-Going.ensures.script going c.in-Ok-Going.ensures.only puts c.in-Err-record_turn.ensures.write partly
-
-pub returns-in-Err-record_turn-clause-only : goal.returns-in-Err-record_turn-clause-only
-returns-in-Err-record_turn-clause-only g c =
-    let old : FolderState = g.F.Folder.state c.args.folder.now in
+pub returns-in-Err-record_turn : goal.returns-in-Err-record_turn
+returns-in-Err-record_turn g c =
     let now : FolderState = g.F.Folder.state c.loop-tapes.folder in
     let next : FolderState = g.F.Folder.state c.turn.new.folder in
     let n : Written = written c.args.names.now in
@@ -121,34 +89,41 @@ returns-in-Err-record_turn-clause-only g c =
     let last : FolderState = g.F.Folder.state c.record_turn.new.folder in
     let puts : OnlyPuts next last (tapes_of tapes) =
     subst (λ (names : Tapes). OnlyPuts next last (tapes_of names)) c.loop-tapes.invariant.named c.in-Err-record_turn.ensures.only in
-    OnlyPuts-trans old next last (outputs_of n ++ tapes_of tapes)
-    (OnlyPuts-trans old now next (outputs_of n ++ tapes_of tapes) r.only
-    (puts-front now next (outputs_of n) (tapes_of tapes) c.in-Ok-Going.ensures.only))
-    (puts-behind next last (outputs_of n) (tapes_of tapes) puts)
+    record {
+      run =
+          let going = (rw c.in-Ok-Going.field-0-is at c.in-Ok-Going.ensures.turn) r.files r.turns r.ends r.world r.knows.within in
+          let kept : KeepTapes c.loop-tapes.tapes next (wire_of (script_of c.turn.new.self)) r.turns =
+          subst (λ (s : ScriptValue). KeepTapes c.loop-tapes.tapes next (wire_of s) r.turns)
+          (sym (c.in-Ok-Going.ensures.script ∙ r.script_is))
+          (keep-later c.loop-tapes.tapes now next (wire_of script) r.turns c.in-Ok-Going.ensures.only.goes_on
+          (subst (λ (names : Tapes). KeepsEach now next (tapes_of names)) (sym c.loop-tapes.invariant.named)
+          (tapes-kept now next n tapes c.requires.apart c.in-Ok-Going.ensures.only)) c.loop-tapes.invariant.taped) in
+          let partly : HoldTapesPartly last tapes (wire_of (script_of c.turn.new.self)) r.turns going.turn =
+          subst (λ (names : Tapes). HoldTapesPartly last names (wire_of (script_of c.turn.new.self)) r.turns going.turn)
+          (c.in-Err-record_turn.ensures.names ∙ c.loop-tapes.invariant.named)
+          (c.in-Err-record_turn.ensures.records going.others r.turns going.turn going.after
+          (record { modems = going.modems; lines = going.lines }) kept) in
+          reached-taping c.loop-tapes.world c.turn.new.self script n tapes _ now next last c.in-Err-record_turn.fault r c.requires.apart
+          c.in-Ok-Going.ensures.script going c.in-Ok-Going.ensures.only puts c.in-Err-record_turn.ensures.write partly;
+      tally = search rules;
+      only =
+          OnlyPuts-trans _ next last (outputs_of n ++ tapes_of tapes)
+          (OnlyPuts-trans _ now next (outputs_of n ++ tapes_of tapes) r.only
+          (puts-front now next (outputs_of n) (tapes_of tapes) c.in-Ok-Going.ensures.only))
+          (puts-behind next last (outputs_of n) (tapes_of tapes) puts);
+      counts =
+          counts-behind _ next last (inputs_of n) (outputs_of n) (tapes_of tapes) c.in-Err-record_turn.fault
+          c.in-Err-record_turn.ensures.write
+          (CountsStand-trans r.stand c.in-Ok-Going.ensures.counts)
+          (subst (λ (names : Tapes). FaultCountsOver next last [] (tapes_of names) c.in-Err-record_turn.fault) c.loop-tapes.invariant.named
+          c.in-Err-record_turn.ensures.counts);
+      came =
+          g.met.F.Folder.came_on _ _ _ (g.met.F.Folder.came_on _ _ _ c.loop-tapes.invariant.came c.in-Ok-Going.ensures.came)
+          c.in-Err-record_turn.ensures.came;
+    }
 
-pub returns-in-Err-record_turn-clause-counts : goal.returns-in-Err-record_turn-clause-counts
-returns-in-Err-record_turn-clause-counts g c =
-    let old : FolderState = g.F.Folder.state c.args.folder.now in
-    let now : FolderState = g.F.Folder.state c.loop-tapes.folder in
-    let next : FolderState = g.F.Folder.state c.turn.new.folder in
-    let n : Written = written c.args.names.now in
-    let tapes : Tapes = tape_names c.args.tapes.now in
-    let script : ScriptValue = script_of c.args.world.now in
-    let r = c.loop-tapes.invariant.reached in
-    let last : FolderState = g.F.Folder.state c.record_turn.new.folder in
-    counts-behind old next last (inputs_of n) (outputs_of n) (tapes_of tapes) c.in-Err-record_turn.fault c.in-Err-record_turn.ensures.write
-    (CountsStand-trans r.stand c.in-Ok-Going.ensures.counts)
-    (subst (λ (names : Tapes). FaultCountsOver next last [] (tapes_of names) c.in-Err-record_turn.fault) c.loop-tapes.invariant.named
-    c.in-Err-record_turn.ensures.counts)
-
-pub returns-in-Err-record_turn-clause-came : goal.returns-in-Err-record_turn-clause-came
-returns-in-Err-record_turn-clause-came g c =
-    g.met.F.Folder.came_on _ _ _ (g.met.F.Folder.came_on _ _ _ c.loop-tapes.invariant.came c.in-Ok-Going.ensures.came)
-    c.in-Err-record_turn.ensures.came
-
-pub returns-in-Ok-Done-clause-run : goal.returns-in-Ok-Done-clause-run
-returns-in-Ok-Done-clause-run g c =
-    let old : FolderState = g.F.Folder.state c.args.folder.now in
+pub returns-in-Ok-Done : goal.returns-in-Ok-Done
+returns-in-Ok-Done g c =
     let now : FolderState = g.F.Folder.state c.loop-tapes.folder in
     let next : FolderState = g.F.Folder.state c.turn.new.folder in
     let n : Written = written c.args.names.now in
@@ -160,89 +135,47 @@ returns-in-Ok-Done-clause-run g c =
     (tapes-kept now next n tapes c.requires.apart c.in-Ok-Done.ensures.only)
     (subst (λ (names : Tapes). HoldTapes now names (wire_of script) r.turns) c.loop-tapes.invariant.named
     (keep-holds c.loop-tapes.tapes now (wire_of script) r.turns c.loop-tapes.invariant.taped)) in
-    reached-done c.turns_deliver_what_came.ensures.hearing c.loop-tapes.world c.turn.new.self script n tapes old now next c.in-Ok-Done.turn
-    r
-    c.in-Ok-Done.ensures.script ((rw c.in-Ok-Done.field-0-is at c.in-Ok-Done.ensures.turn) r.files r.turns r.ends r.world r.knows.within)
-    c.in-Ok-Done.ensures.only held
+    record {
+      run =
+          reached-done c.turns_deliver_what_came.ensures.hearing c.loop-tapes.world c.turn.new.self script n tapes _ now next r
+          c.in-Ok-Done.ensures.script c.in-Ok-Done.ensures.only held c.in-Ok-Done.turn
+          ((rw c.in-Ok-Done.field-0-is at c.in-Ok-Done.ensures.turn) r.files r.turns r.ends r.world r.knows.within);
+      tally =
+          reached-counts c.turns_deliver_what_came.ensures.hearing c.loop-tapes.world c.turn.new.self script n tapes _ now next r
+          c.in-Ok-Done.ensures.script c.in-Ok-Done.ensures.only held c.in-Ok-Done.turn
+          ((rw c.in-Ok-Done.field-0-is at c.in-Ok-Done.ensures.turn) r.files r.turns r.ends r.world r.knows.within);
+      only =
+          OnlyPuts-trans _ now next (outputs_of n ++ tapes_of tapes) r.only
+          (puts-front now next (outputs_of n) (tapes_of tapes) c.in-Ok-Done.ensures.only);
+      counts = CountsStand-trans c.loop-tapes.invariant.reached.stand c.in-Ok-Done.ensures.counts;
+      came = g.met.F.Folder.came_on _ _ _ c.loop-tapes.invariant.came c.in-Ok-Done.ensures.came;
+    }
 
-pub returns-in-Ok-Done-clause-tally : goal.returns-in-Ok-Done-clause-tally
-returns-in-Ok-Done-clause-tally g c =
-    let old : FolderState = g.F.Folder.state c.args.folder.now in
+pub returns-in-Err : goal.returns-in-Err
+returns-in-Err g c =
     let now : FolderState = g.F.Folder.state c.loop-tapes.folder in
     let next : FolderState = g.F.Folder.state c.turn.new.folder in
     let n : Written = written c.args.names.now in
     let tapes : Tapes = tape_names c.args.tapes.now in
     let script : ScriptValue = script_of c.args.world.now in
     let r = c.loop-tapes.invariant.reached in
-    let held : HoldTapes next tapes (wire_of script) r.turns =
-    hold-later tapes now next (wire_of script) r.turns c.in-Ok-Done.ensures.only.goes_on
-    (tapes-kept now next n tapes c.requires.apart c.in-Ok-Done.ensures.only)
-    (subst (λ (names : Tapes). HoldTapes now names (wire_of script) r.turns) c.loop-tapes.invariant.named
-    (keep-holds c.loop-tapes.tapes now (wire_of script) r.turns c.loop-tapes.invariant.taped)) in
-    reached-counts c.turns_deliver_what_came.ensures.hearing c.loop-tapes.world c.turn.new.self script n tapes old now next
-    c.in-Ok-Done.turn r
-    c.in-Ok-Done.ensures.script ((rw c.in-Ok-Done.field-0-is at c.in-Ok-Done.ensures.turn) r.files r.turns r.ends r.world r.knows.within)
-    c.in-Ok-Done.ensures.only held
-
-pub returns-in-Ok-Done-clause-only : goal.returns-in-Ok-Done-clause-only
-returns-in-Ok-Done-clause-only g c =
     let old : FolderState = g.F.Folder.state c.args.folder.now in
-    let now : FolderState = g.F.Folder.state c.loop-tapes.folder in
-    let next : FolderState = g.F.Folder.state c.turn.new.folder in
-    let n : Written = written c.args.names.now in
-    let tapes : Tapes = tape_names c.args.tapes.now in
-    let script : ScriptValue = script_of c.args.world.now in
-    let r = c.loop-tapes.invariant.reached in
-    OnlyPuts-trans old now next (outputs_of n ++ tapes_of tapes) r.only
-    (puts-front now next (outputs_of n) (tapes_of tapes) c.in-Ok-Done.ensures.only)
-
-pub returns-in-Ok-Done-clause-counts : goal.returns-in-Ok-Done-clause-counts
-returns-in-Ok-Done-clause-counts g c = CountsStand-trans c.loop-tapes.invariant.reached.stand c.in-Ok-Done.ensures.counts
-
-pub returns-in-Err-clause-run : goal.returns-in-Err-clause-run
-returns-in-Err-clause-run g c =
-    let old : FolderState = g.F.Folder.state c.args.folder.now in
-    let now : FolderState = g.F.Folder.state c.loop-tapes.folder in
-    let next : FolderState = g.F.Folder.state c.turn.new.folder in
-    let n : Written = written c.args.names.now in
-    let tapes : Tapes = tape_names c.args.tapes.now in
-    let script : ScriptValue = script_of c.args.world.now in
-    let r = c.loop-tapes.invariant.reached in
-    let held : HoldTapes next tapes (wire_of script) r.turns =
-    hold-later tapes now next (wire_of script) r.turns c.in-Err.ensures.only.goes_on
-    (tapes-kept now next n tapes c.requires.apart c.in-Err.ensures.only)
-    (subst (λ (names : Tapes). HoldTapes now names (wire_of script) r.turns) c.loop-tapes.invariant.named
-    (keep-holds c.loop-tapes.tapes now (wire_of script) r.turns c.loop-tapes.invariant.taped)) in
-    reached-fault c.turns_deliver_what_came.ensures.hearing c.loop-tapes.world c.turn.new.self script n tapes old now next c.in-Err.fault r
-    (apart-outputs n tapes c.requires.apart) c.in-Err.ensures.script (c.in-Err.ensures.turn r.files r.turns r.ends r.world r.knows.within)
-    c.in-Err.ensures.only held
-
-pub returns-in-Err-clause-only : goal.returns-in-Err-clause-only
-returns-in-Err-clause-only g c =
-    let old : FolderState = g.F.Folder.state c.args.folder.now in
-    let now : FolderState = g.F.Folder.state c.loop-tapes.folder in
-    let next : FolderState = g.F.Folder.state c.turn.new.folder in
-    let n : Written = written c.args.names.now in
-    let tapes : Tapes = tape_names c.args.tapes.now in
-    let script : ScriptValue = script_of c.args.world.now in
-    let r = c.loop-tapes.invariant.reached in
-    OnlyPuts-trans old now next (outputs_of n ++ tapes_of tapes) r.only
-    (puts-front now next (outputs_of n) (tapes_of tapes) c.in-Err.ensures.only)
-
-pub returns-in-Err-clause-counts : goal.returns-in-Err-clause-counts
-returns-in-Err-clause-counts g c =
-    let old : FolderState = g.F.Folder.state c.args.folder.now in
-    let now : FolderState = g.F.Folder.state c.loop-tapes.folder in
-    let next : FolderState = g.F.Folder.state c.turn.new.folder in
-    let n : Written = written c.args.names.now in
-    let tapes : Tapes = tape_names c.args.tapes.now in
-    let script : ScriptValue = script_of c.args.world.now in
-    let r = c.loop-tapes.invariant.reached in
-    counts-front old next (inputs_of n) (outputs_of n) (tapes_of tapes) c.in-Err.fault
-    (counts-later old now next n c.in-Err.fault r.stand c.in-Err.ensures.counts)
-
-pub returns-in-Ok-Done-clause-came : goal.returns-in-Ok-Done-clause-came
-returns-in-Ok-Done-clause-came g c = g.met.F.Folder.came_on _ _ _ c.loop-tapes.invariant.came c.in-Ok-Done.ensures.came
-
-pub returns-in-Err-clause-came : goal.returns-in-Err-clause-came
-returns-in-Err-clause-came g c = g.met.F.Folder.came_on _ _ _ c.loop-tapes.invariant.came c.in-Err.ensures.came
+    record {
+      run =
+          let held : HoldTapes next tapes (wire_of script) r.turns =
+          hold-later tapes now next (wire_of script) r.turns c.in-Err.ensures.only.goes_on
+          (tapes-kept now next n tapes c.requires.apart c.in-Err.ensures.only)
+          (subst (λ (names : Tapes). HoldTapes now names (wire_of script) r.turns) c.loop-tapes.invariant.named
+          (keep-holds c.loop-tapes.tapes now (wire_of script) r.turns c.loop-tapes.invariant.taped)) in
+          reached-fault c.turns_deliver_what_came.ensures.hearing c.loop-tapes.world c.turn.new.self script n tapes old now next r
+          c.in-Err.ensures.script c.in-Err.ensures.only held c.in-Err.fault (apart-outputs n tapes c.requires.apart)
+          (c.in-Err.ensures.turn r.files r.turns r.ends r.world r.knows.within);
+      tally = search rules;
+      only =
+          OnlyPuts-trans old now next (outputs_of n ++ tapes_of tapes) r.only
+          (puts-front now next (outputs_of n) (tapes_of tapes) c.in-Err.ensures.only);
+      counts =
+          counts-front old next (inputs_of n) (outputs_of n) (tapes_of tapes) c.in-Err.fault
+          (counts-later old now next n c.in-Err.fault r.stand c.in-Err.ensures.counts);
+      came = g.met.F.Folder.came_on _ _ _ c.loop-tapes.invariant.came c.in-Err.ensures.came;
+    }

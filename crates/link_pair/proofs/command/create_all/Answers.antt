@@ -1,3 +1,4 @@
+use Rattle.std.proofs.Common.{rules}
 use Rattle.link_pair.specs.Words.{named, inputs_of, outputs_of}
 use Rattle.link_pair.proofs.command.create_all.Goals as goal
 
@@ -6,14 +7,12 @@ create_outputs-requires g c =
     let n = named c.args.words.now in
     c.apart_names_differ.ensures.outputs (inputs_of n) (outputs_of n) c.requires
 
-pub returns-clause-ok : goal.returns-clause-ok
-returns-clause-ok g c = c.create_outputs.ensures.ok
-
-pub returns-clause-err : goal.returns-clause-err
-returns-clause-err g c = c.create_outputs.ensures.err
-
-pub returns-clause-only : goal.returns-clause-only
-returns-clause-only g c = c.create_outputs.ensures.only
-
-pub returns-clause-fails : goal.returns-clause-fails
-returns-clause-fails g c = c.create_outputs.ensures.fails
+pub returns : goal.returns
+returns g c = record {
+  ok = c.create_outputs.ensures.ok;
+  err = c.create_outputs.ensures.err;
+  only = c.create_outputs.ensures.only;
+  said = search rules;
+  stand = search rules;
+  fails = c.create_outputs.ensures.fails;
+}

@@ -1,5 +1,4 @@
 use Rattle.std.proofs.Common.{◌∙◌, Err}
-use Rattle.outside_calls.specs.Folder.{FolderState}
 use Rattle.command_base.proofs.Jobs.{answers-done, answers-stopped}
 use Rattle.link_pair.specs.Words.{Names, named}
 use Rattle.link_pair.proofs.Refusing.{refused-by}
@@ -7,13 +6,11 @@ use Rattle.link_pair.proofs.command.pair_and_tell.Goals as goal
 
 pub returns-in-Ok : goal.returns-in-Ok
 returns-in-Ok g c =
-    let before : FolderState = g.F.Folder.state c.pair_to_end.new.folder in
-    answers-done _ _ _ before _ c.in-Ok.turns _ _ (c.in-Ok.ensures.ends, c.in-Ok.ensures.said) c.in-Ok.ensures.only
+    answers-done _ _ _ _ _ c.in-Ok.turns _ _ (c.in-Ok.ensures.ends, c.in-Ok.ensures.said) c.in-Ok.ensures.only
     c.in-Ok.ensures.counts (c.as_slice.ensures.items ∙ c.both_done_line-line.ensures) c.tell.ensures
 
 pub returns-in-Err : goal.returns-in-Err
 returns-in-Err g c =
-    let before : FolderState = g.F.Folder.state c.pair_to_end.new.folder in
     let n : Names = named c.args.names.now in
-    answers-stopped _ _ _ before _ c.in-Err.stop _ (c.in-Err.ensures.ends, c.in-Err.ensures.said) c.in-Err.ensures.only (refused-by
-    (g.F.Folder.state c.args.folder.now) before n (Err c.in-Err.stop) c.in-Err.ensures.ends) c.in-Err.ensures.counts c.tell_stop.ensures
+    answers-stopped _ _ _ _ _ c.in-Err.stop _ (c.in-Err.ensures.ends, c.in-Err.ensures.said) c.in-Err.ensures.only (refused-by
+    (g.F.Folder.state c.args.folder.now) _ n (Err c.in-Err.stop) c.in-Err.ensures.ends) c.in-Err.ensures.counts c.tell_stop.ensures

@@ -1,5 +1,4 @@
-use Rattle.std.proofs.Common.{inl, sym, subst}
-use Rattle.outside_calls.specs.Folder.{FolderState}
+use Rattle.std.proofs.Common.{inl, sym, subst, rules}
 use Rattle.outside_calls.proofs.Steps.{CountsStand-trans}
 use Rattle.outside_calls.proofs.OnlyOutputs.{OnlyOutputs-trans}
 use Rattle.outside_calls.proofs.Putting.{OnlyOutputs-puts}
@@ -26,68 +25,50 @@ pair_rounds-requires-clause-apart g c =
     apart-names n (c.apart_names_differ.ensures.outputs (inputs_of n) (outputs_of n) c.requires.apart)
     (c.apart_names_differ.ensures.inputs (inputs_of n) (outputs_of n) c.requires.apart)
 
-pub returns-in-Ok-pair_rounds-clause-ends : goal.returns-in-Ok-pair_rounds-clause-ends
-returns-in-Ok-pair_rounds-clause-ends g c = λ begin b.
-    let mid : FolderState = g.F.Folder.state c.args.folder.now in
-    let now : FolderState = g.F.Folder.state c.create_all.new.folder in
-    let next : FolderState = g.F.Folder.state c.pair_rounds.new.folder in
-    let n : Names = named c.args.words.now in
-    let script : ScriptValue = script_of c.args.pair.now in
+pub returns-in-Ok-pair_rounds : goal.returns-in-Ok-pair_rounds
+returns-in-Ok-pair_rounds g c =
     let end = end_of (run_end c.in-Ok-pair_rounds.endings.first) (run_end c.in-Ok-pair_rounds.endings.second) in
-    subst (Ends LIMITS begin next n) (sym c.last_turns.ensures)
-    (ends-of LIMITS begin next n end (ran-to begin mid now next n script end (record {
-      begun = b;
-      creates = c.in-Ok.ensures.only;
-      rounds = c.in-Ok-pair_rounds.ensures.only;
-      apart = (apart-names n (c.apart_names_differ.ensures.outputs (inputs_of n) (outputs_of n) c.requires.apart)
-          (c.apart_names_differ.ensures.inputs (inputs_of n) (outputs_of n) c.requires.apart)).1;
-      stand = c.in-Ok.ensures.stand;
-    }) c.in-Ok-pair_rounds.ensures.ended))
-
-pub returns-in-Ok-pair_rounds-clause-only : goal.returns-in-Ok-pair_rounds-clause-only
-returns-in-Ok-pair_rounds-clause-only g c =
     let n : Names = named c.args.words.now in
-    OnlyOutputs-trans (outputs_of n) c.in-Ok.ensures.only (OnlyOutputs-puts (outputs_of n) c.in-Ok-pair_rounds.ensures.only)
+    record {
+      ends = λ begin b.
+          let script : ScriptValue = script_of c.args.pair.now in
+          subst (Ends LIMITS begin _ n) (sym c.last_turns.ensures)
+          (ends-of LIMITS begin _ n end (ran-to begin _ _ _ n script end (record {
+            begun = b;
+            creates = c.in-Ok.ensures.only;
+            rounds = c.in-Ok-pair_rounds.ensures.only;
+            apart = (apart-names n (c.apart_names_differ.ensures.outputs (inputs_of n) (outputs_of n) c.requires.apart)
+                (c.apart_names_differ.ensures.inputs (inputs_of n) (outputs_of n) c.requires.apart)).1;
+            stand = c.in-Ok.ensures.stand;
+          }) c.in-Ok-pair_rounds.ensures.ended));
+      only = OnlyOutputs-trans (outputs_of n) c.in-Ok.ensures.only (OnlyOutputs-puts (outputs_of n) c.in-Ok-pair_rounds.ensures.only);
+      said = search rules;
+      counts =
+          subst (EndCounts _ _ (inputs_of n) (outputs_of n)) (sym c.last_turns.ensures)
+          (result-counts _ _ (inputs_of n) (outputs_of n) end
+          (CountsStand-trans c.in-Ok.ensures.stand c.in-Ok-pair_rounds.ensures.counts));
+    }
 
-pub returns-in-Ok-pair_rounds-clause-counts : goal.returns-in-Ok-pair_rounds-clause-counts
-returns-in-Ok-pair_rounds-clause-counts g c =
-    let mid : FolderState = g.F.Folder.state c.args.folder.now in
-    let next : FolderState = g.F.Folder.state c.pair_rounds.new.folder in
-    let n : Names = named c.args.words.now in
-    let end = end_of (run_end c.in-Ok-pair_rounds.endings.first) (run_end c.in-Ok-pair_rounds.endings.second) in
-    subst (EndCounts mid next (inputs_of n) (outputs_of n)) (sym c.last_turns.ensures)
-    (result-counts mid next (inputs_of n) (outputs_of n) end (CountsStand-trans c.in-Ok.ensures.stand c.in-Ok-pair_rounds.ensures.counts))
-
-pub returns-in-Err-pair_rounds-clause-ends : goal.returns-in-Err-pair_rounds-clause-ends
-returns-in-Err-pair_rounds-clause-ends g c = λ begin b.
-    let mid : FolderState = g.F.Folder.state c.args.folder.now in
-    let now : FolderState = g.F.Folder.state c.create_all.new.folder in
-    let next : FolderState = g.F.Folder.state c.pair_rounds.new.folder in
-    let n : Names = named c.args.words.now in
-    let script : ScriptValue = script_of c.args.pair.now in
-    let fault = c.in-Err-pair_rounds.fault in
-    subst (EndsBy LIMITS begin next n) (sym c.stop_of.ensures)
-    (ends-in-round c.line_runs_end_soon.ensures.soon begin mid now next n script fault (record {
-      begun = b;
-      creates = c.in-Ok.ensures.only;
-      rounds = c.in-Err-pair_rounds.ensures.only;
-      apart = (apart-names n (c.apart_names_differ.ensures.outputs (inputs_of n) (outputs_of n) c.requires.apart)
-          (c.apart_names_differ.ensures.inputs (inputs_of n) (outputs_of n) c.requires.apart)).1;
-      stand = c.in-Ok.ensures.stand;
-    }) c.in-Err-pair_rounds.ensures.counts c.in-Err-pair_rounds.ensures.fault)
-
-pub returns-in-Err-pair_rounds-clause-only : goal.returns-in-Err-pair_rounds-clause-only
-returns-in-Err-pair_rounds-clause-only g c =
-    let n : Names = named c.args.words.now in
-    OnlyOutputs-trans (outputs_of n) c.in-Ok.ensures.only (OnlyOutputs-puts (outputs_of n) c.in-Err-pair_rounds.ensures.only)
-
-pub returns-in-Err-pair_rounds-clause-counts : goal.returns-in-Err-pair_rounds-clause-counts
-returns-in-Err-pair_rounds-clause-counts g c =
-    let mid : FolderState = g.F.Folder.state c.args.folder.now in
-    let now : FolderState = g.F.Folder.state c.create_all.new.folder in
-    let next : FolderState = g.F.Folder.state c.pair_rounds.new.folder in
+pub returns-in-Err-pair_rounds : goal.returns-in-Err-pair_rounds
+returns-in-Err-pair_rounds g c =
     let n : Names = named c.args.words.now in
     let fault = c.in-Err-pair_rounds.fault in
-    subst (StopCounts mid next (inputs_of n) (outputs_of n)) (sym c.stop_of.ensures)
-    (stop-earlier mid now next (inputs_of n) (outputs_of n) _ c.in-Ok.ensures.stand
-    (round-counts now next n fault c.in-Err-pair_rounds.ensures.counts))
+    record {
+      ends = λ begin b.
+          let script : ScriptValue = script_of c.args.pair.now in
+          subst (EndsBy LIMITS begin _ n) (sym c.stop_of.ensures)
+          (ends-in-round c.line_runs_end_soon.ensures.soon begin _ _ _ n script fault (record {
+            begun = b;
+            creates = c.in-Ok.ensures.only;
+            rounds = c.in-Err-pair_rounds.ensures.only;
+            apart = (apart-names n (c.apart_names_differ.ensures.outputs (inputs_of n) (outputs_of n) c.requires.apart)
+                (c.apart_names_differ.ensures.inputs (inputs_of n) (outputs_of n) c.requires.apart)).1;
+            stand = c.in-Ok.ensures.stand;
+          }) c.in-Err-pair_rounds.ensures.counts c.in-Err-pair_rounds.ensures.fault);
+      only = OnlyOutputs-trans (outputs_of n) c.in-Ok.ensures.only (OnlyOutputs-puts (outputs_of n) c.in-Err-pair_rounds.ensures.only);
+      said = search rules;
+      counts =
+          subst (StopCounts _ _ (inputs_of n) (outputs_of n)) (sym c.stop_of.ensures)
+          (stop-earlier _ _ _ (inputs_of n) (outputs_of n) _ c.in-Ok.ensures.stand
+          (round-counts _ _ n fault c.in-Err-pair_rounds.ensures.counts));
+    }

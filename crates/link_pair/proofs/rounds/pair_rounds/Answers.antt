@@ -1,4 +1,4 @@
-use Rattle.std.proofs.Common.{refl, ◌∙◌, subst, Ok}
+use Rattle.std.proofs.Common.{refl, ◌∙◌, subst, Ok, rules}
 use Rattle.outside_calls.specs.Folder.{FolderState}
 use Rattle.outside_calls.proofs.Steps.{CountsStand-refl, CountsStand-trans}
 use Rattle.outside_calls.proofs.Putting.{OnlyPuts-refl, OnlyPuts-trans}
@@ -12,14 +12,13 @@ use Rattle.link_pair.proofs.rounds.pair_rounds.Goals as goal
 
 pub loop-endings-init : goal.loop-endings-init
 loop-endings-init g c =
-    let now : FolderState = g.F.Folder.state c.args.folder.now in
     let n : Written = written c.args.names.now.first in
     let m : Written = written c.args.names.now.second in
     record {
-      ready = begins c.args.pair.now now n m c.requires.first c.requires.created;
+      ready = begins c.args.pair.now _ n m c.requires.first c.requires.created;
       script_is = refl;
-      only = OnlyPuts-refl now (all_outputs n m);
-      stand = CountsStand-refl now;
+      only = OnlyPuts-refl _ (all_outputs n m);
+      stand = CountsStand-refl _;
       came = g.met.F.Folder.came_none _;
     }
 
@@ -50,49 +49,39 @@ loop-endings-preserved g c =
       came = g.met.F.Folder.came_on _ _ _ c.loop-endings.invariant.came c.in-Ok-None.ensures.came;
     }
 
-pub returns-in-Ok-Some-clause-ended : goal.returns-in-Ok-Some-clause-ended
-returns-in-Ok-Some-clause-ended g c =
-    let next : FolderState = g.F.Folder.state c.round.new.folder in
+pub returns-in-Ok-Some : goal.returns-in-Ok-Some
+returns-in-Ok-Some g c =
     let n : Written = written c.args.names.now.first in
     let m : Written = written c.args.names.now.second in
-    let come = subst (λ o. Comes (script_of c.loop-endings.pair) (round_of c.loop-endings.pair) Second c.round.new.self next n m (Ok o))
-    c.in-Ok-Some.field-0-is c.in-Ok-Some.ensures.comes in
-    subst (λ (s : ScriptValue). HaveEnded s next n m c.in-Ok-Some.endings) c.loop-endings.invariant.script_is come.0
+    record {
+      ended =
+          let next : FolderState = g.F.Folder.state c.round.new.folder in
+          let come = subst (λ o. Comes (script_of c.loop-endings.pair) (round_of c.loop-endings.pair) Second c.round.new.self next n m
+          (Ok o)) c.in-Ok-Some.field-0-is c.in-Ok-Some.ensures.comes in
+          subst (λ (s : ScriptValue). HaveEnded s next n m c.in-Ok-Some.endings) c.loop-endings.invariant.script_is come.0;
+      fault = search rules;
+      only =
+          OnlyPuts-trans (g.F.Folder.state c.args.folder.now) (g.F.Folder.state c.loop-endings.folder) (g.F.Folder.state c.round.new.folder)
+          (all_outputs n m) c.loop-endings.invariant.only c.in-Ok-Some.ensures.only;
+      came = g.met.F.Folder.came_on _ _ _ c.loop-endings.invariant.came c.in-Ok-Some.ensures.came;
+      counts = CountsStand-trans c.loop-endings.invariant.stand c.in-Ok-Some.ensures.counts;
+    }
 
-pub returns-in-Ok-Some-clause-only : goal.returns-in-Ok-Some-clause-only
-returns-in-Ok-Some-clause-only g c =
+pub returns-in-Err : goal.returns-in-Err
+returns-in-Err g c =
     let n : Written = written c.args.names.now.first in
     let m : Written = written c.args.names.now.second in
-    OnlyPuts-trans (g.F.Folder.state c.args.folder.now) (g.F.Folder.state c.loop-endings.folder) (g.F.Folder.state c.round.new.folder)
-    (all_outputs n m) c.loop-endings.invariant.only c.in-Ok-Some.ensures.only
-
-pub returns-in-Ok-Some-clause-came : goal.returns-in-Ok-Some-clause-came
-returns-in-Ok-Some-clause-came g c = g.met.F.Folder.came_on _ _ _ c.loop-endings.invariant.came c.in-Ok-Some.ensures.came
-
-pub returns-in-Ok-Some-clause-counts : goal.returns-in-Ok-Some-clause-counts
-returns-in-Ok-Some-clause-counts g c = CountsStand-trans c.loop-endings.invariant.stand c.in-Ok-Some.ensures.counts
-
-pub returns-in-Err-clause-fault : goal.returns-in-Err-clause-fault
-returns-in-Err-clause-fault g c =
-    let next : FolderState = g.F.Folder.state c.round.new.folder in
-    let n : Written = written c.args.names.now.first in
-    let m : Written = written c.args.names.now.second in
-    subst (λ (s : ScriptValue). FaultEnds s next n m c.in-Err.fault) c.loop-endings.invariant.script_is
-    (fault-ends _ next n m _ c.in-Err.fault c.in-Err.ensures.comes)
-
-pub returns-in-Err-clause-only : goal.returns-in-Err-clause-only
-returns-in-Err-clause-only g c =
-    let n : Written = written c.args.names.now.first in
-    let m : Written = written c.args.names.now.second in
-    OnlyPuts-trans (g.F.Folder.state c.args.folder.now) (g.F.Folder.state c.loop-endings.folder) (g.F.Folder.state c.round.new.folder)
-    (all_outputs n m) c.loop-endings.invariant.only c.in-Err.ensures.only
-
-pub returns-in-Err-clause-came : goal.returns-in-Err-clause-came
-returns-in-Err-clause-came g c = g.met.F.Folder.came_on _ _ _ c.loop-endings.invariant.came c.in-Err.ensures.came
-
-pub returns-in-Err-clause-counts : goal.returns-in-Err-clause-counts
-returns-in-Err-clause-counts g c =
-    let n : Written = written c.args.names.now.first in
-    let m : Written = written c.args.names.now.second in
-    counts-later (g.F.Folder.state c.args.folder.now) (g.F.Folder.state c.loop-endings.folder) (g.F.Folder.state c.round.new.folder)
-    (all_inputs n m) (all_outputs n m) c.in-Err.fault c.loop-endings.invariant.stand c.in-Err.ensures.counts
+    record {
+      ended = search rules;
+      fault =
+          let next : FolderState = g.F.Folder.state c.round.new.folder in
+          subst (λ (s : ScriptValue). FaultEnds s next n m c.in-Err.fault) c.loop-endings.invariant.script_is
+          (fault-ends _ next n m _ c.in-Err.fault c.in-Err.ensures.comes);
+      only =
+          OnlyPuts-trans (g.F.Folder.state c.args.folder.now) (g.F.Folder.state c.loop-endings.folder) (g.F.Folder.state c.round.new.folder)
+          (all_outputs n m) c.loop-endings.invariant.only c.in-Err.ensures.only;
+      came = g.met.F.Folder.came_on _ _ _ c.loop-endings.invariant.came c.in-Err.ensures.came;
+      counts =
+          counts-later (g.F.Folder.state c.args.folder.now) (g.F.Folder.state c.loop-endings.folder) (g.F.Folder.state c.round.new.folder)
+          (all_inputs n m) (all_outputs n m) c.in-Err.fault c.loop-endings.invariant.stand c.in-Err.ensures.counts;
+    }

@@ -1,4 +1,4 @@
-use Rattle.std.proofs.Common.{[], sym, ap, subst}
+use Rattle.std.proofs.Common.{[], sym, ap, subst, rules}
 use Rattle.outside_calls.specs.Folder.{FolderState}
 use Rattle.outside_calls.specs.Outputs.{AreApartFrom}
 use Rattle.outside_calls.proofs.Steps.{OnlyReads-refl, FaultsStand-refl}
@@ -14,11 +14,6 @@ use Rattle.trace_audit.specs.Turns.{RunIs, audit_inputs}
 use Rattle.trace_audit.proofs.Opening.{ends-so, end-turns, no-memory}
 use Rattle.trace_audit.proofs.command.audit_script.Goals as goal
 
-pub audit_world-requires-clause-first : goal.audit_world-requires-clause-first
-audit_world-requires-clause-first g c = λ files.
-    subst (λ (s : ScriptValue). WorldAfter c.in-Ok.world files [] (start (link_of s files))) (sym c.in-Ok.ensures.script)
-    (c.in-Ok.ensures.world files)
-
 pub returns-clause-ends : goal.returns-clause-ends
 returns-clause-ends g c = λ begin b.
     let now : FolderState = g.F.Folder.state c.args.folder.now in
@@ -31,14 +26,12 @@ returns-clause-ends g c = λ begin b.
     (subst (λ (w : Written). EndCounts now new (audit_inputs w n.trace) [] c.audit_world.result) c.turn_names-names.ensures
     c.audit_world.ensures.counts)
 
-pub returns-in-Err-clause-ends : goal.returns-in-Err-clause-ends
-returns-in-Err-clause-ends g c = λ begin b. no-memory begin (g.F.Folder.state c.args.folder.now) (named c.args.words.now) c.args.script b
-
-pub returns-in-Err-clause-reads : goal.returns-in-Err-clause-reads
-returns-in-Err-clause-reads g c = OnlyReads-refl (g.F.Folder.state c.args.folder.now)
-
-pub returns-in-Err-clause-counts : goal.returns-in-Err-clause-counts
-returns-in-Err-clause-counts g c = FaultsStand-refl (g.F.Folder.state c.args.folder.now)
+pub returns-in-Err : goal.returns-in-Err
+returns-in-Err g c = record {
+  ends = λ begin b. no-memory begin (g.F.Folder.state c.args.folder.now) (named c.args.words.now) c.args.script b;
+  reads = OnlyReads-refl (g.F.Folder.state c.args.folder.now);
+  counts = FaultsStand-refl (g.F.Folder.state c.args.folder.now);
+}
 
 pub returns-in-Err-new-clause-ends : goal.returns-in-Err-new-clause-ends
 returns-in-Err-new-clause-ends g c = λ begin b. no-memory begin (g.F.Folder.state c.args.folder.now) (named c.args.words.now) c.args.script
@@ -50,12 +43,15 @@ returns-in-Err-new-clause-reads g c = OnlyReads-refl (g.F.Folder.state c.args.fo
 pub returns-in-Err-new-clause-counts : goal.returns-in-Err-new-clause-counts
 returns-in-Err-new-clause-counts g c = FaultsStand-refl (g.F.Folder.state c.args.folder.now)
 
-pub audit_world-requires-clause-apart : goal.audit_world-requires-clause-apart
-audit_world-requires-clause-apart g c =
-    subst (λ (w : Written). AreApartFrom (inputs_of w) (outputs_of w)) (sym c.turn_names-names.ensures) c.in-Ok-new.ensures
-
-pub audit_world-requires-clause-asks : goal.audit_world-requires-clause-asks
-audit_world-requires-clause-asks g c = subst AsksInOctets (sym c.in-Ok.ensures.script) c.requires
+pub audit_world-requires : goal.audit_world-requires
+audit_world-requires g c = record {
+  ready = search rules;
+  first = λ files.
+      subst (λ (s : ScriptValue). WorldAfter c.in-Ok.world files [] (start (link_of s files))) (sym c.in-Ok.ensures.script)
+      (c.in-Ok.ensures.world files);
+  apart = subst (λ (w : Written). AreApartFrom (inputs_of w) (outputs_of w)) (sym c.turn_names-names.ensures) c.in-Ok-new.ensures;
+  asks = subst AsksInOctets (sym c.in-Ok.ensures.script) c.requires;
+}
 
 pub returns-clause-counts : goal.returns-clause-counts
 returns-clause-counts g c =

@@ -1,10 +1,10 @@
-use Rattle.std.proofs.Common.{[]}
-use Rattle.outside_calls.specs.Folder.{FolderState}
+use Rattle.std.proofs.Common.{[], rules}
 use Rattle.outside_calls.proofs.Steps.{OnlyReads-trans, CountsStand-trans}
 use Rattle.command_base.proofs.Jobs.{stop-earlier}
 use Rattle.trace_audit.specs.Words.{AuditNames, named, inputs_of}
-use Rattle.trace_audit.proofs.Opening.{refused-first, refused-trace, within-earlier, counts-first, counts-trace}
+use Rattle.trace_audit.proofs.Opening.{refused-first, refused-trace, counts-first, counts-trace}
 use Rattle.trace_audit.proofs.command.open_all.Goals as goal
+use Rattle.command_base.proofs.Reading.{within-earlier}
 
 pub returns-in-Err-clause-ends : goal.returns-in-Err-clause-ends
 returns-in-Err-clause-ends g c =
@@ -18,11 +18,9 @@ returns-in-Err-clause-counts g c =
 
 pub returns-in-Ok-within_limit-clause-begun : goal.returns-in-Ok-within_limit-clause-begun
 returns-in-Ok-within_limit-clause-begun g c =
-    let old : FolderState = g.F.Folder.state c.args.folder.now in
-    let mid : FolderState = g.F.Folder.state c.open_inputs.new.folder in
     record {
       are_open = record { opens = c.in-Ok.ensures.opened; limits = c.is_in_limits.ensures };
-      trace = within-earlier old mid c.args.words.now.trace.now 16777216 c.in-Ok.ensures.reads c.in-Ok-within_limit.ensures.within;
+      trace = within-earlier _ _ c.args.words.now.trace.now 16777216 c.in-Ok.ensures.reads c.in-Ok-within_limit.ensures.within;
       reads = OnlyReads-trans c.in-Ok.ensures.reads c.in-Ok-within_limit.ensures.reads;
       stand = CountsStand-trans (c.in-Ok.ensures.counts []) c.in-Ok-within_limit.ensures.stand;
     }
@@ -30,26 +28,21 @@ returns-in-Ok-within_limit-clause-begun g c =
 pub returns-in-Ok-within_limit-clause-counts : goal.returns-in-Ok-within_limit-clause-counts
 returns-in-Ok-within_limit-clause-counts g c = CountsStand-trans (c.in-Ok.ensures.counts []) c.in-Ok-within_limit.ensures.stand
 
-pub returns-in-Err-within_limit-clause-ends : goal.returns-in-Err-within_limit-clause-ends
-returns-in-Err-within_limit-clause-ends g c =
-    let old : FolderState = g.F.Folder.state c.args.folder.now in
-    let mid : FolderState = g.F.Folder.state c.open_inputs.new.folder in
-    let new : FolderState = g.F.Folder.state c.within_limit.new.folder in
-    refused-trace old mid new (named c.args.words.now) c.in-Ok.script c.in-Err-within_limit.stop
-    (record { opens = c.in-Ok.ensures.opened; limits = c.is_in_limits.ensures }) c.in-Ok.ensures.reads (c.in-Ok.ensures.counts [])
-    c.in-Err-within_limit.ensures.refused
-
-pub returns-in-Err-within_limit-clause-counts : goal.returns-in-Err-within_limit-clause-counts
-returns-in-Err-within_limit-clause-counts g c =
-    let old : FolderState = g.F.Folder.state c.args.folder.now in
-    let mid : FolderState = g.F.Folder.state c.open_inputs.new.folder in
-    let new : FolderState = g.F.Folder.state c.within_limit.new.folder in
-    let n : AuditNames = named c.args.words.now in
-    stop-earlier old mid new (inputs_of n) [] c.in-Err-within_limit.stop (c.in-Ok.ensures.counts [])
-    (counts-trace mid new n c.in-Err-within_limit.stop c.in-Err-within_limit.ensures.refused)
-
 pub returns-in-Ok-within_limit-clause-reads : goal.returns-in-Ok-within_limit-clause-reads
 returns-in-Ok-within_limit-clause-reads g c = OnlyReads-trans c.in-Ok.ensures.reads c.in-Ok-within_limit.ensures.reads
 
-pub returns-in-Err-within_limit-clause-reads : goal.returns-in-Err-within_limit-clause-reads
-returns-in-Err-within_limit-clause-reads g c = OnlyReads-trans c.in-Ok.ensures.reads c.in-Err-within_limit.ensures.reads
+pub returns-in-Err-within_limit : goal.returns-in-Err-within_limit
+returns-in-Err-within_limit g c =
+    record {
+      begun = search rules;
+      spelled = search rules;
+      ends =
+          refused-trace _ _ _ (named c.args.words.now) c.in-Ok.script c.in-Err-within_limit.stop
+          (record { opens = c.in-Ok.ensures.opened; limits = c.is_in_limits.ensures }) c.in-Ok.ensures.reads (c.in-Ok.ensures.counts [])
+          c.in-Err-within_limit.ensures.refused;
+      reads = OnlyReads-trans c.in-Ok.ensures.reads c.in-Err-within_limit.ensures.reads;
+      counts =
+          let n : AuditNames = named c.args.words.now in
+          stop-earlier _ _ _ (inputs_of n) [] c.in-Err-within_limit.stop (c.in-Ok.ensures.counts [])
+          (counts-trace _ _ n c.in-Err-within_limit.stop c.in-Err-within_limit.ensures.refused);
+    }

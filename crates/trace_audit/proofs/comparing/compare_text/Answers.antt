@@ -19,21 +19,16 @@ loop-rest-init g c =
       stand = CountsStand-refl old;
     }
 
-pub compare_line-requires-clause-lines : goal.compare_line-requires-clause-lines
-compare_line-requires-clause-lines g c =
+pub compare_line-requires : goal.compare_line-requires
+compare_line-requires g c =
     let line : List ℕ = c.first_line.result.0.now in
     let behind : List ℕ = c.first_line.result.1.now in
     let some : c.loop-rest.rest.now ≢ [] = full c.loop-rest.rest.now (sym c.is_empty.ensures ∙ c.loop-rest-test.true) in
     let m = c.loop-rest.invariant.midway in
-    next-line _ _ _ _ _ _ m line behind (next _ _ _ _ _ _ m line behind some c.first_line.ensures.line c.first_line.ensures.rest)
-
-pub compare_line-requires-clause-few : goal.compare_line-requires-clause-few
-compare_line-requires-clause-few g c =
-    let line : List ℕ = c.first_line.result.0.now in
-    let behind : List ℕ = c.first_line.result.1.now in
-    let some : c.loop-rest.rest.now ≢ [] = full c.loop-rest.rest.now (sym c.is_empty.ensures ∙ c.loop-rest-test.true) in
-    let m = c.loop-rest.invariant.midway in
-    next-few _ _ _ _ _ _ m line behind (next _ _ _ _ _ _ m line behind some c.first_line.ensures.line c.first_line.ensures.rest)
+    record {
+      lines = next-line _ _ _ _ _ _ m line behind (next _ _ _ _ _ _ m line behind some c.first_line.ensures.line c.first_line.ensures.rest);
+      few = next-few _ _ _ _ _ _ m line behind (next _ _ _ _ _ _ m line behind some c.first_line.ensures.line c.first_line.ensures.rest);
+    }
 
 pub loop-rest-smaller : goal.loop-rest-smaller
 loop-rest-smaller g c =
@@ -45,8 +40,6 @@ loop-rest-smaller g c =
 
 pub loop-rest-preserved : goal.loop-rest-preserved
 loop-rest-preserved g c =
-    let old : FolderState = g.F.Folder.state c.args.folder.now in
-    let now : FolderState = g.F.Folder.state c.loop-rest.folder in
     let line : List ℕ = c.first_line.result.0.now in
     let behind : List ℕ = c.first_line.result.1.now in
     let some : c.loop-rest.rest.now ≢ [] = full c.loop-rest.rest.now (sym c.is_empty.ensures ∙ c.loop-rest-test.true) in
@@ -54,7 +47,7 @@ loop-rest-preserved g c =
     record {
       midway = midway-on _ _ _ _ _ _ i.midway line behind c.compare_line.new.comparison
           (next _ _ _ _ _ _ i.midway line behind some c.first_line.ensures.line c.first_line.ensures.rest)
-          (compared-later old now c.args.trace.now c.loop-rest.comparison c.compare_line.new.comparison line i.reads
+          (compared-later _ _ c.args.trace.now c.loop-rest.comparison c.compare_line.new.comparison line i.reads
           c.in-Ok.ensures.compared)
           c.in-Ok.ensures.few;
       reads = OnlyReads-trans i.reads c.in-Ok.ensures.reads;

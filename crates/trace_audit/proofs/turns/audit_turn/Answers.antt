@@ -1,5 +1,4 @@
-use Rattle.std.proofs.Common.{List, ℕ, [], sym, ◌∙◌, subst}
-use Rattle.outside_calls.specs.Folder.{FolderState}
+use Rattle.std.proofs.Common.{List, ℕ, [], sym, ◌∙◌, subst, rules}
 use Rattle.outside_calls.proofs.Steps.{OnlyReads-trans, CountsStand-trans}
 use Rattle.line_run.specs.Names.{Written, written}
 use Rattle.trace_audit.specs.Differences.{IsCut}
@@ -10,47 +9,24 @@ use Rattle.trace_audit.proofs.turns.audit_turn.Goals as goal
 
 pub compare_text-requires : goal.compare_text-requires
 compare_text-requires g c =
-    let old : FolderState = g.F.Folder.state c.args.folder.now in
-    let mid : FolderState = g.F.Folder.state c.make_turn.new.folder in
     let n : Written = written c.args.names.now in
     let h = c.requires.compared in
     let m = c.in-Ok.ensures.made h.lines h.comes in (
       m.lines,
       c.as_slice.ensures.items ∙ m.text_is,
       m.are_lines,
-      turn-few c.args.world.now c.make_turn.new.world old mid n c.args.trace.now c.args.comparison.now
+      turn-few c.args.world.now c.make_turn.new.world _ _ n c.args.trace.now c.args.comparison.now
           (c.turns_are_few.ensures c.args.world.now c.requires.ready) h c.in-Ok.made.goes_on c.in-Ok.made.text m,
     )
-
-pub returns-in-Ok-compare_text-clause-compared : goal.returns-in-Ok-compare_text-clause-compared
-returns-in-Ok-compare_text-clause-compared g c =
-    let old : FolderState = g.F.Folder.state c.args.folder.now in
-    let mid : FolderState = g.F.Folder.state c.make_turn.new.folder in
-    let new : FolderState = g.F.Folder.state c.compare_text.new.folder in
-    let n : Written = written c.args.names.now in
-    let h = c.requires.compared in
-    let m = c.in-Ok.ensures.made h.lines h.comes in
-    turn-compared c.args.world.now c.make_turn.new.world old mid n c.args.trace.now c.args.comparison.now
-    (c.turns_are_few.ensures c.args.world.now c.requires.ready) h c.in-Ok.made.goes_on c.in-Ok.made.text m new
-    c.compare_text.new.comparison c.requires.apart c.make_turn.ensures.reads c.compare_text.ensures.reads
-    (λ before lines cut. c.in-Ok-compare_text.ensures.compared before lines
-    (subst (λ (t : List ℕ). IsCut t lines) (sym c.as_slice.ensures.items) cut))
-    (λ k lines cut. c.in-Ok-compare_text.ensures.few k lines (subst (λ (t : List ℕ). IsCut t lines) (sym c.as_slice.ensures.items) cut))
-
-pub returns-in-Ok-compare_text-clause-reads : goal.returns-in-Ok-compare_text-clause-reads
-returns-in-Ok-compare_text-clause-reads g c = OnlyReads-trans c.make_turn.ensures.reads c.compare_text.ensures.reads
 
 pub returns-in-Err-compare_text-clause-reads : goal.returns-in-Err-compare_text-clause-reads
 returns-in-Err-compare_text-clause-reads g c = OnlyReads-trans c.make_turn.ensures.reads c.compare_text.ensures.reads
 
 pub returns-in-Err-compare_text-clause-counts : goal.returns-in-Err-compare_text-clause-counts
 returns-in-Err-compare_text-clause-counts g c =
-    let old : FolderState = g.F.Folder.state c.args.folder.now in
-    let mid : FolderState = g.F.Folder.state c.make_turn.new.folder in
-    let new : FolderState = g.F.Folder.state c.compare_text.new.folder in
     let n : Written = written c.args.names.now in
-    stop-earlier old mid new (audit_inputs n c.args.trace.now) [] c.in-Err-compare_text.stop c.in-Ok.ensures.counts
-    (trace-counts mid new n c.args.trace.now c.in-Err-compare_text.stop c.in-Err-compare_text.ensures.counts)
+    stop-earlier _ _ _ (audit_inputs n c.args.trace.now) [] c.in-Err-compare_text.stop c.in-Ok.ensures.counts
+    (trace-counts _ _ n c.args.trace.now c.in-Err-compare_text.stop c.in-Err-compare_text.ensures.counts)
 
 pub returns-in-Err-clause-ready : goal.returns-in-Err-clause-ready
 returns-in-Err-clause-ready g c = λ e. no-ok e
@@ -63,14 +39,25 @@ returns-in-Err-clause-counts g c =
     files-counts (g.F.Folder.state c.args.folder.now) (g.F.Folder.state c.make_turn.new.folder) (written c.args.names.now)
     c.args.trace.now c.in-Err.stop c.in-Err.ensures.counts
 
-pub returns-in-Ok-compare_text-clause-ready : goal.returns-in-Ok-compare_text-clause-ready
-returns-in-Ok-compare_text-clause-ready g c = λ e. c.in-Ok.ensures.ready (same-ok e)
-
-pub returns-in-Ok-compare_text-clause-number : goal.returns-in-Ok-compare_text-clause-number
-returns-in-Ok-compare_text-clause-number g c = λ e. c.in-Ok.ensures.number (same-ok e)
-
-pub returns-in-Ok-compare_text-clause-counts : goal.returns-in-Ok-compare_text-clause-counts
-returns-in-Ok-compare_text-clause-counts g c = CountsStand-trans c.in-Ok.ensures.counts c.in-Ok-compare_text.ensures.counts
+pub returns-in-Ok-compare_text : goal.returns-in-Ok-compare_text
+returns-in-Ok-compare_text g c = record {
+  compared =
+      let n : Written = written c.args.names.now in
+      let h = c.requires.compared in
+      let m = c.in-Ok.ensures.made h.lines h.comes in
+      turn-compared c.args.world.now c.make_turn.new.world _ _ n c.args.trace.now c.args.comparison.now
+      (c.turns_are_few.ensures c.args.world.now c.requires.ready) h c.in-Ok.made.goes_on c.in-Ok.made.text m _
+      c.compare_text.new.comparison c.requires.apart c.make_turn.ensures.reads c.compare_text.ensures.reads
+      (λ before lines cut. c.in-Ok-compare_text.ensures.compared before lines
+      (subst (λ (t : List ℕ). IsCut t lines) (sym c.as_slice.ensures.items) cut))
+      (λ k lines cut. c.in-Ok-compare_text.ensures.few k lines (subst (λ (t : List ℕ). IsCut t lines) (sym c.as_slice.ensures.items) cut));
+  script = search rules;
+  ready = λ e. c.in-Ok.ensures.ready (same-ok e);
+  number = λ e. c.in-Ok.ensures.number (same-ok e);
+  stops = search rules;
+  reads = OnlyReads-trans c.make_turn.ensures.reads c.compare_text.ensures.reads;
+  counts = CountsStand-trans c.in-Ok.ensures.counts c.in-Ok-compare_text.ensures.counts;
+}
 
 pub returns-in-Err-compare_text-clause-ready : goal.returns-in-Err-compare_text-clause-ready
 returns-in-Err-compare_text-clause-ready g c = λ e. no-ok e

@@ -1,5 +1,4 @@
-use Rattle.std.proofs.Common.{Bool, Ok, [], refl, sym, ◌∙◌, ap, subst}
-use Rattle.outside_calls.specs.Folder.{FolderState}
+use Rattle.std.proofs.Common.{Bool, Ok, [], refl, sym, ◌∙◌, ap, subst, rules}
 use Rattle.outside_calls.proofs.Steps.{OnlyReads-refl, OnlyReads-trans, CountsStand-refl, CountsStand-trans}
 use Rattle.line_run.specs.Names.{written}
 use Rattle.line_world.specs.World.{turn_of}
@@ -12,14 +11,13 @@ use Rattle.trace_audit.proofs.turns.audit_turns.Goals as goal
 
 pub loop-comparison-init : goal.loop-comparison-init
 loop-comparison-init g c =
-    let old : FolderState = g.F.Folder.state c.args.folder.now in
     record {
-      compared = compared-none c.args.world.now old (written c.args.names.now) c.args.trace.now c.new-comparison.result c.requires.first
+      compared = compared-none c.args.world.now _ (written c.args.names.now) c.args.trace.now c.new-comparison.result c.requires.first
           c.new-comparison.ensures.compared c.new-comparison.ensures.few;
       script = refl;
       ready = c.requires.ready;
-      reads = OnlyReads-refl old;
-      stand = CountsStand-refl old;
+      reads = OnlyReads-refl _;
+      stand = CountsStand-refl _;
     }
 
 pub audit_turn-requires-clause-asks : goal.audit_turn-requires-clause-asks
@@ -44,20 +42,17 @@ loop-comparison-preserved g c =
       stand = CountsStand-trans i.stand c.in-Ok-true.ensures.counts;
     }
 
-pub returns-in-Ok-false-clause-compared : goal.returns-in-Ok-false-clause-compared
-returns-in-Ok-false-clause-compared g c =
-    subst
-    (λ (b : Bool). AreCompared b c.audit_turn.new.world (g.F.Folder.state c.audit_turn.new.folder) (written c.args.names.now)
-    c.args.trace.now c.audit_turn.new.comparison) c.in-Ok-false.field-0-test c.in-Ok-false.ensures.compared
-
-pub returns-in-Ok-false-clause-script : goal.returns-in-Ok-false-clause-script
-returns-in-Ok-false-clause-script g c = c.audit_turn.ensures.script ∙ c.loop-comparison.invariant.script
-
-pub returns-in-Ok-false-clause-reads : goal.returns-in-Ok-false-clause-reads
-returns-in-Ok-false-clause-reads g c = OnlyReads-trans c.loop-comparison.invariant.reads c.audit_turn.ensures.reads
-
-pub returns-in-Ok-false-clause-counts : goal.returns-in-Ok-false-clause-counts
-returns-in-Ok-false-clause-counts g c = CountsStand-trans c.loop-comparison.invariant.stand c.in-Ok-false.ensures.counts
+pub returns-in-Ok-false : goal.returns-in-Ok-false
+returns-in-Ok-false g c = record {
+  compared =
+      subst
+      (λ (b : Bool). AreCompared b c.audit_turn.new.world (g.F.Folder.state c.audit_turn.new.folder) (written c.args.names.now)
+      c.args.trace.now c.audit_turn.new.comparison) c.in-Ok-false.field-0-test c.in-Ok-false.ensures.compared;
+  script = c.audit_turn.ensures.script ∙ c.loop-comparison.invariant.script;
+  stops = search rules;
+  reads = OnlyReads-trans c.loop-comparison.invariant.reads c.audit_turn.ensures.reads;
+  counts = CountsStand-trans c.loop-comparison.invariant.stand c.in-Ok-false.ensures.counts;
+}
 
 pub returns-in-Err-clause-script : goal.returns-in-Err-clause-script
 returns-in-Err-clause-script g c = c.audit_turn.ensures.script ∙ c.loop-comparison.invariant.script

@@ -18,44 +18,37 @@ end-requires g c =
           (written c.args.names.now) c.args.trace.now c.in-Ok.comparison c.in-Ok.ensures.compared;
     }
 
-pub returns-in-Ok-read_on-clause-run : goal.returns-in-Ok-read_on-clause-run
-returns-in-Ok-read_on-clause-run g c =
-    let mid : FolderState = g.F.Folder.state c.audit_turns.new.folder in
-    let new : FolderState = g.F.Folder.state c.read_on.new.folder in
-    let n : Written = written c.args.names.now in
-    let script : ScriptValue = script_of c.args.world.now in
-    subst (λ (r : Result ℕ Stop). RunIs script new n c.args.trace.now r) (sym c.found_end.ensures)
-    (ends-so c.audit_turns.new.world mid new n c.args.trace.now c.in-Ok.comparison c.in-Ok.ensures.compared script _ c.end.result
-    c.audit_turns.ensures.script c.requires.apart c.read_on.ensures.reads c.in-Ok-read_on.ensures.window c.end.ensures)
-
 pub returns-in-Err-clause-run : goal.returns-in-Err-clause-run
 returns-in-Err-clause-run g c =
     stops-so (script_of c.args.world.now) (g.F.Folder.state c.audit_turns.new.folder) (written c.args.names.now) c.args.trace.now
     c.in-Err.stop c.in-Err.ensures.stops
 
-pub returns-in-Err-read_on-clause-run : goal.returns-in-Err-read_on-clause-run
-returns-in-Err-read_on-clause-run g c =
-    stops-so (script_of c.args.world.now) (g.F.Folder.state c.read_on.new.folder) (written c.args.names.now) c.args.trace.now
-    c.in-Err-read_on.stop c.in-Err-read_on.ensures.stops
-
-pub returns-in-Ok-read_on-clause-reads : goal.returns-in-Ok-read_on-clause-reads
-returns-in-Ok-read_on-clause-reads g c = OnlyReads-trans c.audit_turns.ensures.reads c.read_on.ensures.reads
-
-pub returns-in-Ok-read_on-clause-counts : goal.returns-in-Ok-read_on-clause-counts
-returns-in-Ok-read_on-clause-counts g c =
-    let old : FolderState = g.F.Folder.state c.args.folder.now in
+pub returns-in-Ok-read_on : goal.returns-in-Ok-read_on
+returns-in-Ok-read_on g c =
     let new : FolderState = g.F.Folder.state c.read_on.new.folder in
-    let inputs = audit_inputs (written c.args.names.now) c.args.trace.now in
-    subst (λ (r : Result ℕ Stop). EndCounts old new inputs [] r) (sym c.found_end.ensures)
-    (found-counts old new inputs c.end.result (CountsStand-trans c.in-Ok.ensures.counts c.in-Ok-read_on.ensures.counts))
+    record {
+      run =
+          let n : Written = written c.args.names.now in
+          let script : ScriptValue = script_of c.args.world.now in
+          subst (λ (r : Result ℕ Stop). RunIs script new n c.args.trace.now r) (sym c.found_end.ensures)
+          (ends-so c.audit_turns.new.world _ new n c.args.trace.now c.in-Ok.comparison c.in-Ok.ensures.compared script _ c.end.result
+          c.audit_turns.ensures.script c.requires.apart c.read_on.ensures.reads c.in-Ok-read_on.ensures.window c.end.ensures);
+      reads = OnlyReads-trans c.audit_turns.ensures.reads c.read_on.ensures.reads;
+      counts =
+          let old : FolderState = g.F.Folder.state c.args.folder.now in
+          let inputs = audit_inputs (written c.args.names.now) c.args.trace.now in
+          subst (λ (r : Result ℕ Stop). EndCounts old new inputs [] r) (sym c.found_end.ensures)
+          (found-counts old new inputs c.end.result (CountsStand-trans c.in-Ok.ensures.counts c.in-Ok-read_on.ensures.counts));
+    }
 
-pub returns-in-Err-read_on-clause-reads : goal.returns-in-Err-read_on-clause-reads
-returns-in-Err-read_on-clause-reads g c = OnlyReads-trans c.audit_turns.ensures.reads c.read_on.ensures.reads
-
-pub returns-in-Err-read_on-clause-counts : goal.returns-in-Err-read_on-clause-counts
-returns-in-Err-read_on-clause-counts g c =
-    let mid : FolderState = g.F.Folder.state c.audit_turns.new.folder in
-    let new : FolderState = g.F.Folder.state c.read_on.new.folder in
-    let n : Written = written c.args.names.now in
-    stop-earlier (g.F.Folder.state c.args.folder.now) mid new (audit_inputs n c.args.trace.now) [] c.in-Err-read_on.stop
-    c.in-Ok.ensures.counts (trace-counts mid new n c.args.trace.now c.in-Err-read_on.stop c.in-Err-read_on.ensures.counts)
+pub returns-in-Err-read_on : goal.returns-in-Err-read_on
+returns-in-Err-read_on g c = record {
+  run =
+      stops-so (script_of c.args.world.now) (g.F.Folder.state c.read_on.new.folder) (written c.args.names.now) c.args.trace.now
+      c.in-Err-read_on.stop c.in-Err-read_on.ensures.stops;
+  reads = OnlyReads-trans c.audit_turns.ensures.reads c.read_on.ensures.reads;
+  counts =
+      let n : Written = written c.args.names.now in
+      stop-earlier (g.F.Folder.state c.args.folder.now) _ _ (audit_inputs n c.args.trace.now) [] c.in-Err-read_on.stop
+      c.in-Ok.ensures.counts (trace-counts _ _ n c.args.trace.now c.in-Err-read_on.stop c.in-Err-read_on.ensures.counts);
+}

@@ -1,5 +1,4 @@
 use Rattle.std.proofs.Common.{sym, ◌∙◌, ap, Ok, Err, Bool}
-use Rattle.outside_calls.specs.Folder.{FolderState}
 use Rattle.line_run.specs.Names.{written}
 use Rattle.line_world.specs.World.{turn_of}
 use Rattle.line_world.specs.Turn.{turns_made}
@@ -19,10 +18,8 @@ returns-in-Ok-clause-made g c = λ before s.
     } in
     let w = c.args.world.now in
     let v = c.watch_turn-step.new.world in
-    let old : FolderState = g.F.Folder.state c.args.folder.now in
-    let new : FolderState = g.F.Folder.state c.watch_turn-step.new.folder in
     let watching = c.watch_turn-step.result in
-    made laws w v old new (written c.args.names.now) watching.0 watching.1 c.in-Ok.goes_on c.requires.apart c.requires.ready.limits
+    made laws w v _ _ (written c.args.names.now) watching.0 watching.1 c.in-Ok.goes_on c.requires.apart c.requires.ready.limits
     c.requires.asks c.watch_turn-step.ensures.script (c.turns_are_few.ensures w c.requires.ready)
     c.watch_turn-step.ensures.watched (sym c.step_end.ensures ∙ c.in-Ok.is) before s
 

@@ -1,13 +1,15 @@
-use Rattle.std.proofs.Common.{◌≡◌, ℕ, ◌+◌, ◌-◌, ◌<◌, ◌≤◌, ◌^◌, ◌++◌, [], ◌∷◌, List, length, take, drop, lit<, Some, reverse}
+use Rattle.std.proofs.Common.{◌≡◌, ℕ, ◌+◌, ◌-◌, ◌<◌, ◌≤◌, ◌^◌, ◌++◌, [], ◌∷◌, List, length, take, drop, lit<, Option, None, Some, reverse}
 use Rattle.std.proofs.Common.{append_assoc, refl, sym, ◌∙◌, ap, subst, arith}
 use Rattle.std.proofs.lemmas.List.{length-take-le, length-reverse, take-append-drop}
 use Rattle.symbol_map.specs.declared.sample.Sample.{Sample}
 use Rattle.exact_decoder.specs.Memory.{opened}
-use Rattle.exact_decoder.specs.Decoder.{decoding_of, DecoderStands}
+use Rattle.exact_decoder.specs.Decoder.{Decoding, decoding_of, IsSound, DecoderStands}
 use Rattle.exact_decoder.proofs.Keeping.{All-turned}
 use Rattle.exact_decoder.proofs.Pushed.{Pushed, stands-goes_on, stands-lost, stands-stays}
 use Rattle.exact_decoder.proofs.Batches.{heard-within, heard-fit, some-heard}
 use Rattle.exact_decoder.proofs.Spreading.{sound-next}
+use Rattle.exact_decoder.proofs.decoder.Decoder.push_some.Given.{Over}
+use Rattle.exact_decoder.proofs.decoder.Decoder.push_some.Goals.{After-release}
 use Rattle.exact_decoder.proofs.decoder.Decoder.push_some.Goals as goal
 
 whole : (past samples : List Sample) (heard : ℕ) → (past ++ take heard samples) ++ drop heard samples ≡ past ++ samples
@@ -72,104 +74,90 @@ release-requires g c =
       ),
     )
 
+-- What stands once the released labels are handed over, whether the line is lost then or not.
+module _ (g : Over) (c : After-release g) where
+  abbrev hears : List Sample
+  hears = take c.min-heard.result c.args.samples.now
+
+  abbrev before : Decoding
+  before = decoding_of c.self.inside.survivors c.self.inside.count c.self.inside.pending c.self.inside.lost
+
+  abbrev behind : Option ℕ → Decoding
+  behind lost = decoding_of c.release.new.self (c.self.inside.count + c.min-heard.result) c.release.new.labels lost
+
+  abbrev room : ℕ
+  room = g.row.DEPTH + 1 - c.unreleased.result
+
+  long : length hears ≡ c.min-heard.result
+  long =
+      length-take-le c.min-heard.result c.args.samples.now (heard-within (length c.args.samples.now) room c.min-heard.result
+      c.min-heard.ensures)
+
+  few : c.self.inside.count + length hears ≤ 2 ^ 56
+  few =
+      let all : c.self.inside.count + length c.args.samples.now ≤ 2 ^ 56 =
+      subst (λ v. v.count + length c.args.samples.now ≤ 2 ^ 56) (sym c.self.view_is) c.requires.count in
+      omega (arith, all, long, heard-within (length c.args.samples.now) room c.min-heard.result c.min-heard.ensures)
+
+  fits : c.self.inside.survivors.unreleased + length hears ≤ g.row.DEPTH + 1
+  unfolding opened
+  fits =
+      let fit = heard-fit (length c.args.samples.now) room c.min-heard.result c.min-heard.ensures in
+      omega (arith, fit, long, c.unreleased.ensures, c.self.invariant.few_unreleased)
+
+  next : (lost : Option ℕ) → (lost ≡ None → c.release.new.self.unreleased ≤ g.row.DEPTH)
+      → IsSound g.C.TrellisCode.table g.row.STATES g.row.LABELS g.C.TrellisCode.REACH g.row.DEPTH (behind lost)
+  unfolding opened
+  next lost = sound-next g.C.TrellisCode.table g.C.TrellisCode.points g.row.STATES g.row.LABELS g.C.TrellisCode.REACH g.row.DEPTH hears
+      before (behind lost) c.push_each.new.self (reverse c.release.new.labels) c.self.invariant few fits
+      (ap (λ n. c.self.inside.count + n) (sym long)) c.push_each.ensures.stepped c.release.ensures.released refl
+      (All-turned (λ x. x < g.row.LABELS) c.release.new.labels c.release.ensures.below)
+
+  pushed : (lost : Option ℕ) → Pushed g.C.TrellisCode.table g.C.TrellisCode.points g.row.STATES g.C.TrellisCode.REACH hears before
+      (behind lost)
+  unfolding opened
+  pushed lost =
+      let none : before.pending ≡ [] = subst (λ v. v.pending ≡ []) (sym c.self.view_is) c.requires.taken in
+      record {
+        between = c.push_each.new.self;
+        stepped = c.push_each.ensures.stepped;
+        labels = reverse c.release.new.labels;
+        released = c.release.ensures.released;
+        pending_is = ap (λ l. l ++ reverse c.release.new.labels) (sym none);
+        count = ap (λ n. c.self.inside.count + n) (sym long);
+      }
+
 pub invariant_of-self : goal.invariant_of-self
-unfolding opened
 invariant_of-self g c =
-    let t = g.C.TrellisCode in
-    let given = c.args.samples.now in
-    let heard = c.min-heard.result in
-    let within = heard-within (length given) (g.row.DEPTH + 1 - c.unreleased.result) heard c.min-heard.ensures in
-    let fit = heard-fit (length given) (g.row.DEPTH + 1 - c.unreleased.result) heard c.min-heard.ensures in
-    let long = length-take-le heard given within in
-    let few : c.self.inside.count + length given ≤ 2 ^ 56 =
-    subst (λ v. v.count + length given ≤ 2 ^ 56) (sym c.self.view_is) c.requires.count in
-    sound-next t.table t.points g.row.STATES g.row.LABELS t.REACH g.row.DEPTH (take heard given)
-    (decoding_of c.self.inside.survivors c.self.inside.count c.self.inside.pending c.self.inside.lost)
-    (decoding_of c.release.new.self (c.self.inside.count + heard) c.release.new.labels
-    (Some (c.self.inside.count + c.min-heard.result - 1)))
-    c.push_each.new.self (reverse c.release.new.labels) c.self.invariant (omega (arith, few, long, within))
-    (omega (arith, fit, long, c.unreleased.ensures, c.self.invariant.few_unreleased))
-    (ap (λ n. c.self.inside.count + n) (sym long)) c.push_each.ensures.stepped c.release.ensures.released refl
-    (All-turned (λ x. x < g.row.LABELS) c.release.new.labels c.release.ensures.below)
-    (λ e. absurd cc)
+    next g (goal.at.invariant_of-self g c).After-release (Some (c.self.inside.count + c.min-heard.result - 1)) (λ e. absurd cc)
 
 pub returns-then-unreleased-clause-stands : goal.returns-then-unreleased-clause-stands
 unfolding opened
 returns-then-unreleased-clause-stands g c = λ starts past taken h.
     let t = g.C.TrellisCode in
-    let met = g.met.C.TrellisCode in
-    let given = c.args.samples.now in
-    let heard = c.min-heard.result in
-    let within = heard-within (length given) (g.row.DEPTH + 1 - c.unreleased.result) heard c.min-heard.ensures in
-    let fit = heard-fit (length given) (g.row.DEPTH + 1 - c.unreleased.result) heard c.min-heard.ensures in
-    let long = length-take-le heard given within in
-    let old = decoding_of c.self.inside.survivors c.self.inside.count c.self.inside.pending c.self.inside.lost in
-    let new = decoding_of c.release.new.self (c.self.inside.count + heard) c.release.new.labels
-    (Some (c.self.inside.count + c.min-heard.result - 1)) in
-    let none : old.pending ≡ [] = subst (λ v. v.pending ≡ []) (sym c.self.view_is) c.requires.taken in
-    let p : Pushed t.table t.points g.row.STATES t.REACH (take heard given) old new =
-    record {
-      between = c.push_each.new.self;
-      stepped = c.push_each.ensures.stepped;
-      labels = reverse c.release.new.labels;
-      released = c.release.ensures.released;
-      pending_is = ap (λ l. l ++ reverse c.release.new.labels) (sym none);
-      count = ap (λ n. c.self.inside.count + n) (sym long);
-    } in
+    let m = (goal.at.returns-then-unreleased-clause-stands g c).After-release in
+    let last = c.self.inside.count + c.min-heard.result - 1 in
     let was = subst (λ v. DecoderStands t.table t.points starts g.row.DEPTH v past taken) (sym c.self.view_is) h in
-    let room : c.self.inside.survivors.unreleased + length (take heard given) ≤ g.row.DEPTH + 1 =
-    omega (arith, fit, long, c.unreleased.ensures, c.self.invariant.few_unreleased) in
-    let lost = stands-lost t.table t.points g.row.STATES t.REACH g.row.DEPTH starts (take heard given) old new past taken c.in_default.is
-    room p was (c.self.inside.count + heard - 1) (omega (arith, c.if-heard-eq0.false)) refl
+    let lost = stands-lost t.table t.points g.row.STATES t.REACH g.row.DEPTH starts (hears g m) (before g m) (behind g m (Some last)) past
+    taken c.in_default.is (fits g m) (pushed g m (Some last)) was last (omega (arith, c.if-heard-eq0.false)) refl
     (omega (arith, c.if-unreleased.true, c.unreleased-2.ensures)) in
-    subst (λ l. DecoderStands t.table t.points starts g.row.DEPTH new l taken) (whole past given heard)
-    (stands-stays t.table t.points g.row.DEPTH starts (drop heard given) new (past ++ take heard given) taken
-    (c.self.inside.count + heard - 1) refl lost)
+    subst (λ l. DecoderStands t.table t.points starts g.row.DEPTH (behind g m (Some last)) l taken)
+    (whole past c.args.samples.now c.min-heard.result)
+    (stands-stays t.table t.points g.row.DEPTH starts (drop c.min-heard.result c.args.samples.now) (behind g m (Some last))
+    (past ++ hears g m) taken last refl lost)
 
 pub invariant_of-self-else-unreleased : goal.invariant_of-self-else-unreleased
 unfolding opened
 invariant_of-self-else-unreleased g c =
-    let t = g.C.TrellisCode in
-    let given = c.args.samples.now in
-    let heard = c.min-heard.result in
-    let within = heard-within (length given) (g.row.DEPTH + 1 - c.unreleased.result) heard c.min-heard.ensures in
-    let fit = heard-fit (length given) (g.row.DEPTH + 1 - c.unreleased.result) heard c.min-heard.ensures in
-    let long = length-take-le heard given within in
-    let few : c.self.inside.count + length given ≤ 2 ^ 56 =
-    subst (λ v. v.count + length given ≤ 2 ^ 56) (sym c.self.view_is) c.requires.count in
-    sound-next t.table t.points g.row.STATES g.row.LABELS t.REACH g.row.DEPTH (take heard given)
-    (decoding_of c.self.inside.survivors c.self.inside.count c.self.inside.pending c.self.inside.lost)
-    (decoding_of c.release.new.self (c.self.inside.count + heard) c.release.new.labels c.self.inside.lost)
-    c.push_each.new.self (reverse c.release.new.labels) c.self.invariant (omega (arith, few, long, within))
-    (omega (arith, fit, long, c.unreleased.ensures, c.self.invariant.few_unreleased))
-    (ap (λ n. c.self.inside.count + n) (sym long)) c.push_each.ensures.stepped c.release.ensures.released refl
-    (All-turned (λ x. x < g.row.LABELS) c.release.new.labels c.release.ensures.below)
+    next g (goal.at.invariant_of-self-else-unreleased g c).After-release c.self.inside.lost
     (λ e. omega (arith, c.if-unreleased.false, c.unreleased-2.ensures))
 
 pub returns-clause-stands : goal.returns-clause-stands
 unfolding opened
 returns-clause-stands g c = λ starts past taken h.
     let t = g.C.TrellisCode in
-    let met = g.met.C.TrellisCode in
-    let given = c.args.samples.now in
-    let heard = c.min-heard.result in
-    let within = heard-within (length given) (g.row.DEPTH + 1 - c.unreleased.result) heard c.min-heard.ensures in
-    let fit = heard-fit (length given) (g.row.DEPTH + 1 - c.unreleased.result) heard c.min-heard.ensures in
-    let long = length-take-le heard given within in
-    let old = decoding_of c.self.inside.survivors c.self.inside.count c.self.inside.pending c.self.inside.lost in
-    let new = decoding_of c.release.new.self (c.self.inside.count + heard) c.release.new.labels c.self.inside.lost in
-    let none : old.pending ≡ [] = subst (λ v. v.pending ≡ []) (sym c.self.view_is) c.requires.taken in
-    let p : Pushed t.table t.points g.row.STATES t.REACH (take heard given) old new =
-    record {
-      between = c.push_each.new.self;
-      stepped = c.push_each.ensures.stepped;
-      labels = reverse c.release.new.labels;
-      released = c.release.ensures.released;
-      pending_is = ap (λ l. l ++ reverse c.release.new.labels) (sym none);
-      count = ap (λ n. c.self.inside.count + n) (sym long);
-    } in
-    let was = subst (λ v. DecoderStands t.table t.points starts g.row.DEPTH v past taken) (sym c.self.view_is) h in
-    let room : c.self.inside.survivors.unreleased + length (take heard given) ≤ g.row.DEPTH + 1 =
-    omega (arith, fit, long, c.unreleased.ensures, c.self.invariant.few_unreleased) in
-    stands-goes_on t.table t.points g.row.STATES t.REACH g.row.DEPTH starts (take heard given) old new past taken c.in_default.is
-    room p was c.in_default.is (omega (arith, c.if-unreleased.false, c.unreleased-2.ensures))
+    let m = (goal.at.returns-clause-stands g c).After-release in
+    stands-goes_on t.table t.points g.row.STATES t.REACH g.row.DEPTH starts (hears g m) (before g m) (behind g m c.self.inside.lost) past
+    taken c.in_default.is (fits g m) (pushed g m c.self.inside.lost)
+    (subst (λ v. DecoderStands t.table t.points starts g.row.DEPTH v past taken) (sym c.self.view_is) h) c.in_default.is
+    (omega (arith, c.if-unreleased.false, c.unreleased-2.ensures))

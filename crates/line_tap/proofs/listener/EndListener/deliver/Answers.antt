@@ -5,10 +5,11 @@ use Rattle.line_world.proofs.Handing.{writes-on, writes-none}
 use Rattle.lapm_receiver.specs.Taking.{Taking, StandsIn}
 use Rattle.line_tap.specs.declared.listener.EndListener.{EndListener}
 use Rattle.line_tap.specs.EndListener.{delivered}
-use Rattle.line_tap.proofs.Causes.{no-fault, cause-earlier}
+use Rattle.line_tap.proofs.Causes.{cause-earlier}
 use Rattle.line_tap.proofs.Listening.{listens-on, idle-again}
 use Rattle.line_tap.proofs.Handing.{fewer-ready, handing-starts, next-is, handing-next, handing-ends, handing-stops}
 use Rattle.line_tap.proofs.listener.EndListener.deliver.Goals as goal
+use Rattle.line_world.proofs.Offering.{no-fault}
 
 pub loop-segment-init : goal.loop-segment-init
 loop-segment-init g c = record {
@@ -20,12 +21,6 @@ loop-segment-init g c = record {
   stand = CountsStand-refl (g.F.Folder.state c.args.folder.now);
   came = g.met.F.Folder.came_none _;
 }
-
-pub returns-then-not-deliver-clause-ok : goal.returns-then-not-deliver-clause-ok
-returns-then-not-deliver-clause-ok g c = λ i h.
-    let k = c.loop-segment.invariant.hands i h in
-    (handing-ends (g.F.Folder.state c.args.folder.now) (g.F.Folder.state c.loop-segment.folder) c.args.name.now
-    c.loop-segment.self.receiver i k (c.if-not-deliver.ensures.answer _ k.stands)).1
 
 pub loop-segment-preserved : goal.loop-segment-preserved
 loop-segment-preserved g c =
@@ -50,79 +45,57 @@ loop-segment-preserved g c =
       came = g.met.F.Folder.came_on _ _ _ old.came c.append.ensures.came;
     }
 
-pub returns-in-Err-clause-err : goal.returns-in-Err-clause-err
-returns-in-Err-clause-err g c = λ i h.
-    let start : FolderState = g.F.Folder.state c.args.folder.now in
-    let now : FolderState = g.F.Folder.state c.loop-segment.folder in
-    let next : FolderState = g.F.Folder.state c.append.new.self in
-    let part : PartlyAppended now next c.args.name.now c.deliver.new.out =
-    subst (PartlyAppended now next c.args.name.now) c.as_slice.ensures.items c.in-Err.ensures.err in
-    let k = c.loop-segment.invariant.hands i h in
-    handing-stops start now next c.args.name.now c.deliver.new.out c.loop-segment.self.receiver i c.loop-segment.invariant.only.goes_on k
-    (next-is c.loop-segment.self.receiver i k.given c.deliver.new.out (c.if-not-deliver.ensures.answer _ k.stands)
-    (λ s. c.if-not-deliver.ensures.segment _ s k.stands)) part
-
 pub loop-segment-smaller : goal.loop-segment-smaller
 loop-segment-smaller g c = fewer-ready c.loop-segment.self.receiver c.deliver.new.self c.if-not-deliver.ensures.value
     c.if-not-deliver.ensures.left
 
-pub returns-then-not-deliver-clause-stands : goal.returns-then-not-deliver-clause-stands
-returns-then-not-deliver-clause-stands g c = λ terms role agreed connected i lengths h.
-    let k = c.loop-segment.invariant.hands i h.takes in
-    let all = handing-ends (g.F.Folder.state c.args.folder.now) (g.F.Folder.state c.loop-segment.folder) c.args.name.now
-    c.loop-segment.self.receiver i k (c.if-not-deliver.ensures.answer _ k.stands) in
-    listens-on c.args.self.now c.loop-segment.self c.deliver.new.self terms role agreed connected i lengths c.loop-segment.invariant.beside
-    (subst (λ (r : Taking). StandsIn r (delivered i)) (sym c.if-not-deliver.ensures.unchanged) all.0) h
+pub returns-then-not-deliver : goal.returns-then-not-deliver
+returns-then-not-deliver g c = record {
+  stands = λ terms role agreed connected i lengths h.
+      let k = c.loop-segment.invariant.hands i h.takes in
+      let all = handing-ends (g.F.Folder.state c.args.folder.now) (g.F.Folder.state c.loop-segment.folder) c.args.name.now
+      c.loop-segment.self.receiver i k (c.if-not-deliver.ensures.answer _ k.stands) in
+      listens-on c.args.self.now c.loop-segment.self c.deliver.new.self terms role agreed connected i lengths
+      c.loop-segment.invariant.beside
+      (subst (λ (r : Taking). StandsIn r (delivered i)) (sym c.if-not-deliver.ensures.unchanged) all.0) h;
+  ok = λ i h.
+      let k = c.loop-segment.invariant.hands i h in
+      (handing-ends (g.F.Folder.state c.args.folder.now) (g.F.Folder.state c.loop-segment.folder) c.args.name.now
+      c.loop-segment.self.receiver i k (c.if-not-deliver.ensures.answer _ k.stands)).1;
+  err = tt;
+  idle = λ turns h.
+      let old = c.loop-segment.invariant in
+      idle-again c.args.self.now (record c.loop-segment.self { receiver = c.deliver.new.self }) turns
+      (ap (λ (r : Taking). r.window) c.if-not-deliver.ensures.value ∙ old.window)
+      (ap (λ (r : Taking). r.taken) c.if-not-deliver.ensures.value ∙ old.taken) c.if-not-deliver.ensures.empty h;
+  only = c.loop-segment.invariant.only;
+  cause = record { failed = λ e. no-fault e; memory = λ e. no-fault e };
+  stand = c.loop-segment.invariant.stand;
+  spared = λ e. no-fault e;
+  came = c.loop-segment.invariant.came;
+}
 
-pub returns-then-not-deliver-clause-err : goal.returns-then-not-deliver-clause-err
-returns-then-not-deliver-clause-err g c = tt
-
-pub returns-then-not-deliver-clause-idle : goal.returns-then-not-deliver-clause-idle
-returns-then-not-deliver-clause-idle g c = λ turns h.
-    let old = c.loop-segment.invariant in
-    idle-again c.args.self.now (record c.loop-segment.self { receiver = c.deliver.new.self }) turns
-    (ap (λ (r : Taking). r.window) c.if-not-deliver.ensures.value ∙ old.window)
-    (ap (λ (r : Taking). r.taken) c.if-not-deliver.ensures.value ∙ old.taken) c.if-not-deliver.ensures.empty h
-
-pub returns-then-not-deliver-clause-only : goal.returns-then-not-deliver-clause-only
-returns-then-not-deliver-clause-only g c = c.loop-segment.invariant.only
-
-pub returns-then-not-deliver-clause-cause : goal.returns-then-not-deliver-clause-cause
-returns-then-not-deliver-clause-cause g c = record { failed = λ e. no-fault e; memory = λ e. no-fault e }
-
-pub returns-then-not-deliver-clause-stand : goal.returns-then-not-deliver-clause-stand
-returns-then-not-deliver-clause-stand g c = c.loop-segment.invariant.stand
-
-pub returns-then-not-deliver-clause-spared : goal.returns-then-not-deliver-clause-spared
-returns-then-not-deliver-clause-spared g c = λ e. no-fault e
-
-pub returns-then-not-deliver-clause-came : goal.returns-then-not-deliver-clause-came
-returns-then-not-deliver-clause-came g c = c.loop-segment.invariant.came
-
-pub returns-in-Err-clause-stands : goal.returns-in-Err-clause-stands
-returns-in-Err-clause-stands g c = tt
-
-pub returns-in-Err-clause-ok : goal.returns-in-Err-clause-ok
-returns-in-Err-clause-ok g c = tt
-
-pub returns-in-Err-clause-idle : goal.returns-in-Err-clause-idle
-returns-in-Err-clause-idle g c = tt
-
-pub returns-in-Err-clause-stand : goal.returns-in-Err-clause-stand
-returns-in-Err-clause-stand g c = tt
-
-pub returns-in-Err-clause-only : goal.returns-in-Err-clause-only
-returns-in-Err-clause-only g c =
-    writes-on (g.F.Folder.state c.args.folder.now) (g.F.Folder.state c.loop-segment.folder) (g.F.Folder.state c.append.new.self)
-    c.args.name.now c.loop-segment.invariant.only c.in-Err.ensures.only
-
-pub returns-in-Err-clause-cause : goal.returns-in-Err-clause-cause
-returns-in-Err-clause-cause g c =
-    cause-earlier (g.F.Folder.state c.args.folder.now) (g.F.Folder.state c.loop-segment.folder) (g.F.Folder.state c.append.new.self)
-    c.args.name.now _ c.loop-segment.invariant.stand c.in-Err.ensures.cause
-
-pub returns-in-Err-clause-spared : goal.returns-in-Err-clause-spared
-returns-in-Err-clause-spared g c = λ e. FaultsStand-trans c.loop-segment.invariant.stand.faults (c.in-Err.ensures.spared e)
-
-pub returns-in-Err-clause-came : goal.returns-in-Err-clause-came
-returns-in-Err-clause-came g c = g.met.F.Folder.came_on _ _ _ c.loop-segment.invariant.came c.append.ensures.came
+pub returns-in-Err : goal.returns-in-Err
+returns-in-Err g c = record {
+  stands = tt;
+  ok = tt;
+  err = λ i h.
+      let now : FolderState = g.F.Folder.state c.loop-segment.folder in
+      let next : FolderState = g.F.Folder.state c.append.new.self in
+      let part : PartlyAppended now next c.args.name.now c.deliver.new.out =
+      subst (PartlyAppended now next c.args.name.now) c.as_slice.ensures.items c.in-Err.ensures.err in
+      let k = c.loop-segment.invariant.hands i h in
+      handing-stops _ now next c.args.name.now c.deliver.new.out c.loop-segment.self.receiver i c.loop-segment.invariant.only.goes_on k
+      (next-is c.loop-segment.self.receiver i k.given c.deliver.new.out (c.if-not-deliver.ensures.answer _ k.stands)
+      (λ s. c.if-not-deliver.ensures.segment _ s k.stands)) part;
+  idle = tt;
+  only =
+      writes-on (g.F.Folder.state c.args.folder.now) (g.F.Folder.state c.loop-segment.folder) (g.F.Folder.state c.append.new.self)
+      c.args.name.now c.loop-segment.invariant.only c.in-Err.ensures.only;
+  cause =
+      cause-earlier (g.F.Folder.state c.args.folder.now) (g.F.Folder.state c.loop-segment.folder) (g.F.Folder.state c.append.new.self)
+      c.args.name.now _ c.loop-segment.invariant.stand c.in-Err.ensures.cause;
+  stand = tt;
+  spared = λ e. FaultsStand-trans c.loop-segment.invariant.stand.faults (c.in-Err.ensures.spared e);
+  came = g.met.F.Folder.came_on _ _ _ c.loop-segment.invariant.came c.append.ensures.came;
+}

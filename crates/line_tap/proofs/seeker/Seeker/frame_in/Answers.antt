@@ -1,4 +1,4 @@
-use Rattle.std.proofs.Common.{◌≡◌, ◌∙◌, ◌+◌, List, Bool, [], length, drop, None, sym, ap, subst, arith}
+use Rattle.std.proofs.Common.{◌≡◌, ◌∙◌, ◌+◌, List, Bool, [], length, drop, None, sym, ap, subst, arith, rules}
 use Rattle.bit_stuffing.specs.BitSlot.{line_bits}
 use Rattle.bit_stuffing.specs.Flags.{bit_of}
 use Rattle.bit_stuffing.specs.Found.{pieces_of}
@@ -36,30 +36,8 @@ returns-in_err-end-clause-found c = λ symbols long.
     subst (FindsSent c.args.framing.check c.args.framing.sender c.args.framing.dlci symbols c.args.phase bits) (sym c.from_residual.ensures)
     found
 
-pub returns-clause-found : goal.returns-clause-found
-returns-clause-found c = λ symbols long.
-    let laws : FoundLaws = record {
-      fits = c.codable_slots_fit.ensures.fits;
-      sendable = c.codable_slots_fit.ensures.sendable;
-      octets = c.codable_slots_fit.ensures.octets;
-      found = c.found_is_sent.ensures;
-      last = c.last_pieces_are_found.ensures;
-    } in
-    let bits : List Bool = line_bits c.args.slot.now in
-    let opens = c.rest_bits-opens in
-    let place : length (rest_of_flag c.args.phase) + 32 ≡ opens.result + 24 + 8 = omega (arith, opens.ensures.value) in
-    let first =
-    subst (λ n. EndsFirst c.end_of_piece.new.deframer bits (n + 24) c.in_ok-end.end) c.rest_bits-opens.ensures.value
-    c.in_ok-end.ensures.some in
-    finds-there c.args.framing.check c.args.framing.sender c.args.framing.dlci symbols c.args.phase bits c.frame_of.result long
-    c.requires.phase
-    (ap (bit_of bits) place ∙ sym c.bit_in.ensures ∙ c.if-not-bit_in.false)
-    (first-there laws c.args.framing.check c.args.framing.sender c.args.framing.dlci symbols c.args.phase bits c.end_of_piece.new.deframer
-    c.in_ok-end.end c.whole.result.now c.frame_of.result c.requires.channel first (c.whole.ensures.value _ first.stands)
-    c.frame_of.ensures.all)
-
-pub returns-clause-at : goal.returns-clause-at
-returns-clause-at c =
+pub returns : goal.returns
+returns c =
     let laws : FoundLaws = record {
       fits = c.codable_slots_fit.ensures.fits;
       sendable = c.codable_slots_fit.ensures.sendable;
@@ -71,5 +49,20 @@ returns-clause-at c =
     let first =
     subst (λ n. EndsFirst c.end_of_piece.new.deframer bits (n + 24) c.in_ok-end.end) c.rest_bits-opens.ensures.value
     c.in_ok-end.ensures.some in
-    found-at laws c.args.framing.check c.args.framing.sender c.args.framing.dlci c.args.phase bits _ c.whole.result.now c.frame_of.result
-    c.requires.channel first (c.whole.ensures.value _ first.stands) (c.whole.ensures.lent _ first.stands) c.frame_of.ensures.is
+    record {
+      found = λ symbols long.
+          let opens = c.rest_bits-opens in
+          let place : length (rest_of_flag c.args.phase) + 32 ≡ opens.result + 24 + 8 = omega (arith, opens.ensures.value) in
+          finds-there c.args.framing.check c.args.framing.sender c.args.framing.dlci symbols c.args.phase bits c.frame_of.result long
+          c.requires.phase
+          (ap (bit_of bits) place ∙ sym c.bit_in.ensures ∙ c.if-not-bit_in.false)
+          (first-there laws c.args.framing.check c.args.framing.sender c.args.framing.dlci symbols c.args.phase bits
+          c.end_of_piece.new.deframer
+          c.in_ok-end.end c.whole.result.now c.frame_of.result c.requires.channel first (c.whole.ensures.value _ first.stands)
+          c.frame_of.ensures.all);
+      at =
+          found-at laws c.args.framing.check c.args.framing.sender c.args.framing.dlci c.args.phase bits _ c.whole.result.now
+          c.frame_of.result
+          c.requires.channel first (c.whole.ensures.value _ first.stands) (c.whole.ensures.lent _ first.stands) c.frame_of.ensures.is;
+      sendable = search rules;
+    }

@@ -16,130 +16,94 @@ use Rattle.line_tap.proofs.Going.{after-going}
 use Rattle.line_tap.proofs.Causes.{write-among, writes-fail}
 use Rattle.line_tap.proofs.tapping.Tap.go_on.Goals as goal
 
-pub returns-in-Err-clause-err : goal.returns-in-Err-clause-err
-returns-in-Err-clause-err g c = λ x ts k.
-    subst (PartlyAppended (g.F.Folder.state c.args.folder.now) (g.F.Folder.state c.append_turn.new.folder) (named c.args.names.now).trace)
-    (text-is c.args.self.now.turn x ts c.args.hearing.now (Some c.args.sent)
-    (record { orig = Some (told (check_by (terms_of x)) c.args.sent.orig); answ = Some (told (check_by (terms_of x)) c.args.sent.answ) })
-    k.turn k.hears refl refl) c.in-Err.ensures.err
+pub returns-in-Err : goal.returns-in-Err
+returns-in-Err g c = record {
+  ok = tt;
+  err = λ x ts k.
+      subst (PartlyAppended (g.F.Folder.state c.args.folder.now) (g.F.Folder.state c.append_turn.new.folder) (named c.args.names.now).trace)
+      (text-is c.args.self.now.turn x ts c.args.hearing.now (Some c.args.sent)
+      (record { orig = Some (told (check_by (terms_of x)) c.args.sent.orig); answ = Some (told (check_by (terms_of x)) c.args.sent.answ) })
+      k.turn k.hears refl refl) c.in-Err.ensures.err;
+  orig = refl;
+  answ = refl;
+  turn = tt;
+  at = tt;
+  script = refl;
+  only = c.in-Err.ensures.only;
+  stand = tt;
+  fails =
+      let n : TapNames = named c.args.names.now in
+      let old = g.F.Folder.state c.args.folder.now in
+      let new = g.F.Folder.state c.append_turn.new.folder in
+      write-among old new (n.got_o ∷ n.got_a ∷ []) n.trace [] c.in-Err.fault
+      (writes-fail old new n.trace c.in-Err.fault c.in-Err.ensures.cause c.in-Err.ensures.spared);
+}
 
-pub put-requires-clause-room : goal.put-requires-clause-room
-put-requires-clause-room g c =
+pub returns : goal.returns
+returns g c = record {
+  ok = λ x ts k.
+      let slots : Both Slot = slots_as c.args.sent c.args.labels in
+      let sent : Both Sent = c.args.sent in
+      let tap : Tap = c.args.self.now in
+      let new : Tap = record tap {
+        lines = record { from_orig = c.put.new.self; from_answ = c.put-2.new.self };
+        at = tap.at + c.len.result;
+        turn = tap.turn + 1;
+      } in (
+        after-going x ts tap new c.args.hearing.now slots sent k (record {
+          script = refl;
+          orig = refl;
+          answ = refl;
+          at = ap (λ n. tap.at + n) (c.len.ensures ∙ tap.orig.piece.ok.0);
+          turn = refl;
+          from_orig = record {
+            stands = c.put.ensures.stands;
+            sender = c.put.ensures.sender;
+            delay = c.put.ensures.delay;
+            lag = c.put.ensures.lag;
+            line = c.put.ensures.line;
+          };
+          from_answ = record {
+            stands = c.put-2.ensures.stands;
+            sender = c.put-2.ensures.sender;
+            delay = c.put-2.ensures.delay;
+            lag = c.put-2.ensures.lag;
+            line = c.put-2.ensures.line;
+          };
+          orig_sent = refl;
+          answ_sent = refl;
+        }),
+        subst (Appended (g.F.Folder.state c.args.folder.now) (g.F.Folder.state c.append_turn.new.folder) (named c.args.names.now).trace)
+            (text-is tap.turn x ts c.args.hearing.now (Some c.args.sent)
+            (record {
+              orig = Some (told (check_by (terms_of x)) slots.orig.sent);
+              answ = Some (told (check_by (terms_of x)) slots.answ.sent);
+            })
+            k.turn k.hears refl refl) c.in-Ok.ensures.ok,
+      );
+  err = tt;
+  orig = refl;
+  answ = refl;
+  turn = refl;
+  at = ap (λ n. c.args.self.now.at + n) (c.len.ensures ∙ c.args.self.now.orig.piece.ok.0);
+  script = refl;
+  only = c.in-Ok.ensures.only;
+  stand = c.in-Ok.ensures.stand;
+  fails = tt;
+}
+
+pub put-requires : goal.put-requires
+put-requires g c =
     let h = c.requires.stands in
-    room-of c.args.self.now.lines.from_orig (line_of h.0) Originator 1 (sent_by 0 Originator h.1) (h.2.read.lines Originator)
+    record {
+      sendable = c.codable_slots_fit.ensures.sendable _ Originator _ _ _ c.args.sent.orig h.2.read.orig.holds.codable;
+      room = room-of c.args.self.now.lines.from_orig (line_of h.0) Originator 1 (sent_by 0 Originator h.1) (h.2.read.lines Originator);
+    }
 
-pub put-requires-2-clause-room : goal.put-requires-2-clause-room
-put-requires-2-clause-room g c =
+pub put-requires-2 : goal.put-requires-2
+put-requires-2 g c =
     let h = c.requires.stands in
-    room-of c.args.self.now.lines.from_answ (line_of h.0) Answerer 1 (sent_by 0 Answerer h.1) (h.2.read.lines Answerer)
-
-pub returns-clause-ok : goal.returns-clause-ok
-returns-clause-ok g c = λ x ts k.
-    let slots : Both Slot = slots_as c.args.sent c.args.labels in
-    let sent : Both Sent = c.args.sent in
-    let tap : Tap = c.args.self.now in
-    let new : Tap = record tap {
-      lines = record { from_orig = c.put.new.self; from_answ = c.put-2.new.self };
-      at = tap.at + c.len.result;
-      turn = tap.turn + 1;
-    } in (
-      after-going x ts tap new c.args.hearing.now slots sent k (record {
-        script = refl;
-        orig = refl;
-        answ = refl;
-        at = ap (λ n. tap.at + n) (c.len.ensures ∙ tap.orig.piece.ok.0);
-        turn = refl;
-        from_orig = record {
-          stands = c.put.ensures.stands;
-          sender = c.put.ensures.sender;
-          delay = c.put.ensures.delay;
-          lag = c.put.ensures.lag;
-          line = c.put.ensures.line;
-        };
-        from_answ = record {
-          stands = c.put-2.ensures.stands;
-          sender = c.put-2.ensures.sender;
-          delay = c.put-2.ensures.delay;
-          lag = c.put-2.ensures.lag;
-          line = c.put-2.ensures.line;
-        };
-        orig_sent = refl;
-        answ_sent = refl;
-      }),
-      subst (Appended (g.F.Folder.state c.args.folder.now) (g.F.Folder.state c.append_turn.new.folder) (named c.args.names.now).trace)
-          (text-is tap.turn x ts c.args.hearing.now (Some c.args.sent)
-          (record {
-            orig = Some (told (check_by (terms_of x)) slots.orig.sent);
-            answ = Some (told (check_by (terms_of x)) slots.answ.sent);
-          })
-          k.turn k.hears refl refl) c.in-Ok.ensures.ok,
-    )
-
-pub returns-in-Err-clause-ok : goal.returns-in-Err-clause-ok
-returns-in-Err-clause-ok g c = tt
-
-pub returns-in-Err-clause-orig : goal.returns-in-Err-clause-orig
-returns-in-Err-clause-orig g c = refl
-
-pub returns-in-Err-clause-answ : goal.returns-in-Err-clause-answ
-returns-in-Err-clause-answ g c = refl
-
-pub returns-in-Err-clause-script : goal.returns-in-Err-clause-script
-returns-in-Err-clause-script g c = refl
-
-pub returns-in-Err-clause-turn : goal.returns-in-Err-clause-turn
-returns-in-Err-clause-turn g c = tt
-
-pub returns-in-Err-clause-at : goal.returns-in-Err-clause-at
-returns-in-Err-clause-at g c = tt
-
-pub returns-in-Err-clause-stand : goal.returns-in-Err-clause-stand
-returns-in-Err-clause-stand g c = tt
-
-pub returns-in-Err-clause-only : goal.returns-in-Err-clause-only
-returns-in-Err-clause-only g c = c.in-Err.ensures.only
-
-pub returns-in-Err-clause-fails : goal.returns-in-Err-clause-fails
-returns-in-Err-clause-fails g c =
-    let n : TapNames = named c.args.names.now in
-    let old = g.F.Folder.state c.args.folder.now in
-    let new = g.F.Folder.state c.append_turn.new.folder in
-    write-among old new (n.got_o ∷ n.got_a ∷ []) n.trace [] c.in-Err.fault
-    (writes-fail old new n.trace c.in-Err.fault c.in-Err.ensures.cause c.in-Err.ensures.spared)
-
-pub returns-clause-err : goal.returns-clause-err
-returns-clause-err g c = tt
-
-pub returns-clause-orig : goal.returns-clause-orig
-returns-clause-orig g c = refl
-
-pub returns-clause-answ : goal.returns-clause-answ
-returns-clause-answ g c = refl
-
-pub returns-clause-script : goal.returns-clause-script
-returns-clause-script g c = refl
-
-pub returns-clause-turn : goal.returns-clause-turn
-returns-clause-turn g c = refl
-
-pub returns-clause-at : goal.returns-clause-at
-returns-clause-at g c = ap (λ n. c.args.self.now.at + n) (c.len.ensures ∙ c.args.self.now.orig.piece.ok.0)
-
-pub returns-clause-only : goal.returns-clause-only
-returns-clause-only g c = c.in-Ok.ensures.only
-
-pub returns-clause-stand : goal.returns-clause-stand
-returns-clause-stand g c = c.in-Ok.ensures.stand
-
-pub returns-clause-fails : goal.returns-clause-fails
-returns-clause-fails g c = tt
-
-pub put-requires-clause-sendable : goal.put-requires-clause-sendable
-put-requires-clause-sendable g c =
-    let h = c.requires.stands in
-    c.codable_slots_fit.ensures.sendable _ Originator _ _ _ c.args.sent.orig h.2.read.orig.holds.codable
-
-pub put-requires-2-clause-sendable : goal.put-requires-2-clause-sendable
-put-requires-2-clause-sendable g c =
-    let h = c.requires.stands in
-    c.codable_slots_fit.ensures.sendable _ Answerer _ _ _ c.args.sent.answ h.2.read.answ.holds.codable
+    record {
+      sendable = c.codable_slots_fit.ensures.sendable _ Answerer _ _ _ c.args.sent.answ h.2.read.answ.holds.codable;
+      room = room-of c.args.self.now.lines.from_answ (line_of h.0) Answerer 1 (sent_by 0 Answerer h.1) (h.2.read.lines Answerer);
+    }

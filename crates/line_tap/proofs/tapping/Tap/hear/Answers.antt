@@ -1,4 +1,4 @@
-use Rattle.std.proofs.Common.{refl, sym, subst}
+use Rattle.std.proofs.Common.{refl, sym, subst, rules}
 use Rattle.frame_check.specs.declared.check.Check.{Check}
 use Rattle.shared_terms.specs.declared.role.Role.TheVariants.{Originator, Answerer}
 use Rattle.shared_terms.specs.Both.{Both, of}
@@ -13,33 +13,29 @@ use Rattle.line_tap.proofs.HeardSo.{LoneLaws, are-due, are-few, listens-too, end
 use Rattle.line_tap.proofs.tapping.Tap.hear.Goals as goal
 use Rattle.line_world.specs.Faults.{end_of}
 
-pub arrive-requires-clause-few : goal.arrive-requires-clause-few
-arrive-requires-clause-few c =
+pub arrive-requires : goal.arrive-requires
+arrive-requires c =
     let laws : LoneLaws = record {
       due = c.slots_are_due_alone.ensures.due;
       counted = c.slots_are_due_alone.ensures.counted;
       delays = c.scripts_make_links.ensures.delays;
     } in
-    are-few laws c.args.self.now c.requires
-
-pub arrive-requires-clause-due : goal.arrive-requires-clause-due
-arrive-requires-clause-due c =
-    let laws : LoneLaws = record {
-      due = c.slots_are_due_alone.ensures.due;
-      counted = c.slots_are_due_alone.ensures.counted;
-      delays = c.scripts_make_links.ensures.delays;
-    } in
-    let r = c.requires in
-    let b = r.after.behind in (
-      line_of r.what,
-      1,
-      r.turns,
-      both_sent_by 0 r.turns,
-      r.after.lines,
-      are-due laws r.what r.turns (subst IsInLimits b.script_is r.limits) b.tells,
-      sym b.script_is,
-      b.turn,
-    )
+    record {
+      channel = search rules;
+      few = are-few laws c.args.self.now c.requires;
+      due =
+          let r = c.requires in
+          let b = r.after.behind in (
+            line_of r.what,
+            1,
+            r.turns,
+            both_sent_by 0 r.turns,
+            r.after.lines,
+            are-due laws r.what r.turns (subst IsInLimits b.script_is r.limits) b.tells,
+            sym b.script_is,
+            b.turn,
+          );
+    }
 
 pub returns-in-Ok-clause-hears : goal.returns-in-Ok-clause-hears
 returns-in-Ok-clause-hears c = λ x ts h.

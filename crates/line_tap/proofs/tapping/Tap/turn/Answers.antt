@@ -1,4 +1,4 @@
-use Rattle.std.proofs.Common.{◌≡◌, ◌+◌, ◌∙◌, refl, sym, ap, subst}
+use Rattle.std.proofs.Common.{List, ◌≡◌, ◌+◌, ◌∙◌, refl, sym, ap, subst}
 use Rattle.noise_script.specs.Script.{IsInLimits}
 use Rattle.outside_calls.specs.Folder.{FolderState}
 use Rattle.outside_calls.proofs.Steps.{CountsStand-refl, CountsStand-trans}
@@ -8,256 +8,42 @@ use Rattle.line_tap.specs.Ends.{EndsLine}
 use Rattle.command_base.specs.declared.stop.Stop.TheVariants.{Read, Write}
 use Rattle.command_base.proofs.Jobs.{stop-earlier}
 use Rattle.line_tap.specs.Names.{TapNames, named, outputs_of, recordings_of}
-use Rattle.line_tap.specs.Tap.{IsToGo, going_in, slots_as}
+use Rattle.link_run.specs.Run.{Turn}
+use Rattle.line_tap.specs.Tapping.{Tapping}
+use Rattle.line_tap.specs.Tap.{AreReadTo, HearsSo, InTurn, IsToGo, TapAfter, going_in, slots_as}
 use Rattle.line_tap.proofs.Turning.{HasPieces, now_of, loses-line, stops-delivering, stops-reading, ends-whole, stops-ending, ends-badly}
-use Rattle.line_tap.proofs.Turning.{so-heard, has-pieces, only-read}
-use Rattle.line_tap.proofs.Turning.{is-stopped, is-done, within-still, early-still, nearer-by, within-by}
+use Rattle.line_tap.proofs.Turning.{so-heard, has-pieces, only-read, is-stopped, is-done, within-still, early-still, nearer-by, within-by}
 use Rattle.line_tap.proofs.Turning.{to-go, goes-on-by, stops-going, only-written, whole-orig, some-octets, ready-again}
+use Rattle.line_tap.proofs.tapping.Tap.turn.Given.{Over}
+use Rattle.line_tap.proofs.tapping.Tap.turn.Goals.{In-Ok-read, In-Ok-look}
 use Rattle.line_tap.proofs.tapping.Tap.turn.Goals as goal
 use Rattle.line_world.specs.Faults.{end_of}
 
-pub returns-in-Err-Lost-clause-turn : goal.returns-in-Err-Lost-clause-turn
-returns-in-Err-Lost-clause-turn g c = λ start x ts h read.
-    rw (c.in-Err-Lost.field-0-is)
-    (loses-line start (g.F.Folder.state c.args.folder.now) (named c.args.names.now) x ts c.in-Err-Lost.role c.in-Err-Lost.symbol
-    h.behind.tells read
-    (subst (λ (e : LineEnd). EndsLine x ts (end_of e)) c.in-Err-Lost.field-0-is (c.in-Err-Lost.ensures.hears x ts h)))
-
-pub returns-in-Err-Chance-clause-turn : goal.returns-in-Err-Chance-clause-turn
-returns-in-Err-Chance-clause-turn g c = λ start x ts h read.
-    c.meet_chance.ensures.meets start x ts (c.in-Err-Chance.ensures.turn ∙ h.behind.turn) h.behind.tells
-    (rw (c.in-Err-Chance.field-0-is)
-    (subst (λ (e : LineEnd). EndsLine x ts (end_of e)) c.in-Err-Chance.field-0-is (c.in-Err-Chance.ensures.hears x ts h))) read
-
-pub returns-in-Err-clause-turn : goal.returns-in-Err-clause-turn
-returns-in-Err-clause-turn g c = λ start x ts h read.
-    let heard = c.in-Ok.ensures.hears x ts h in
-    stops-delivering start (g.F.Folder.state c.args.folder.now) (g.F.Folder.state c.deliver.new.folder) (named c.args.names.now) x ts
-    c.in-Ok.hearing.heard c.requires.apart h.behind.tells read heard.0.hears c.in-Err.ensures.only
-    (c.in-Err.ensures.err x ts c.in-Ok.hearing.heard heard.0)
-
-pub returns-in-Err-read-clause-turn : goal.returns-in-Err-read-clause-turn
-returns-in-Err-read-clause-turn g c = λ start x ts h read.
-    let a : FolderState = g.F.Folder.state c.args.folder.now in
-    let b : FolderState = g.F.Folder.state c.deliver.new.folder in
-    let r : FolderState = g.F.Folder.state c.read.new.folder in
-    let n : TapNames = named c.args.names.now in
-    let heard = c.in-Ok.ensures.hears x ts h in
-    stops-reading start a b r n x ts c.in-Ok.hearing.heard c.requires.apart h.behind.tells read heard.0.hears c.in-Ok-deliver.ensures.only
-    (c.in-Ok-deliver.ensures.ok x ts c.in-Ok.hearing.heard heard.0) c.in-Err-read.ensures.reads
-
-pub returns-in-Err-look-clause-turn : goal.returns-in-Err-look-clause-turn
-returns-in-Err-look-clause-turn g c = λ start x ts h read.
-    let a : FolderState = g.F.Folder.state c.args.folder.now in
-    let b : FolderState = g.F.Folder.state c.deliver.new.folder in
-    let r : FolderState = g.F.Folder.state c.read.new.folder in
-    let n : TapNames = named c.args.names.now in
-    let k : HasPieces c.read.new.self start a b r n x ts c.in-Ok.hearing c.in-Ok-read.counts =
-    has-pieces c.hear.new.self c.deliver.new.self c.read.new.self start a b r n x ts c.in-Ok.hearing c.in-Ok-read.counts c.requires.apart
-    read (c.in-Ok.ensures.hears x ts h) c.in-Ok-deliver.ensures.only c.in-Ok-read.ensures.reads
+-- both pieces were read
+pieces-read : (g : Over) (c : In-Ok-read g) (start : FolderState) (x : Tapping) (ts : List Turn) → TapAfter c.args.self.now x ts
+    → AreReadTo start (g.F.Folder.state c.args.folder.now) (named c.args.names.now) x.bodies
+    → HasPieces c.read.new.self start (g.F.Folder.state c.args.folder.now) (g.F.Folder.state c.deliver.new.folder)
+    (g.F.Folder.state c.read.new.folder) (named c.args.names.now) x ts c.in-Ok.hearing c.in-Ok-read.counts
+pieces-read g c start x ts h read =
+    has-pieces c.hear.new.self c.deliver.new.self c.read.new.self start (g.F.Folder.state c.args.folder.now)
+    (g.F.Folder.state c.deliver.new.folder) (g.F.Folder.state c.read.new.folder) (named c.args.names.now) x ts c.in-Ok.hearing
+    c.in-Ok-read.counts c.requires.apart read (c.in-Ok.ensures.hears x ts h) c.in-Ok-deliver.ensures.only c.in-Ok-read.ensures.reads
     (c.in-Ok-deliver.ensures.ok x ts c.in-Ok.hearing.heard) (c.in-Ok-deliver.ensures.stands x ts c.in-Ok.hearing.heard)
-    (c.in-Ok-read.ensures.pieces start x ts c.in-Ok.hearing.heard) in
-    ends-badly c.keeps_taken.ensures c.read.new.self start a b r n x ts c.in-Ok.hearing c.in-Ok-read.counts c.in-Err-look.role
-    c.look.new.self.turn k
-    (c.if-are_none.ensures.some refl) (c.in-Err-look.ensures.turn ∙ k.pieces.turn.behind.turn)
-    (c.in-Err-look.ensures.looks x ts c.in-Ok.hearing.heard k.pieces.turn)
+    (c.in-Ok-read.ensures.pieces start x ts c.in-Ok.hearing.heard)
 
-pub returns-in-Ok-go_on-clause-turn : goal.returns-in-Ok-go_on-clause-turn
-returns-in-Ok-go_on-clause-turn g c = λ start x ts h read.
-    let a : FolderState = g.F.Folder.state c.args.folder.now in
-    let b : FolderState = g.F.Folder.state c.deliver.new.folder in
-    let r : FolderState = g.F.Folder.state c.read.new.folder in
-    let n : TapNames = named c.args.names.now in
-    let d : FolderState = g.F.Folder.state c.go_on.new.folder in
-    let k : HasPieces c.read.new.self start a b r n x ts c.in-Ok.hearing c.in-Ok-read.counts =
-    has-pieces c.hear.new.self c.deliver.new.self c.read.new.self start a b r n x ts c.in-Ok.hearing c.in-Ok-read.counts c.requires.apart
-    read (c.in-Ok.ensures.hears x ts h) c.in-Ok-deliver.ensures.only c.in-Ok-read.ensures.reads
-    (c.in-Ok-deliver.ensures.ok x ts c.in-Ok.hearing.heard) (c.in-Ok-deliver.ensures.stands x ts c.in-Ok.hearing.heard)
-    (c.in-Ok-read.ensures.pieces start x ts c.in-Ok.hearing.heard) in
-    let go : IsToGo c.look.new.self (now_of c.read.new.self x c.in-Ok-read.counts) ts c.in-Ok.hearing
-    (slots_as c.in-Ok-look.sent c.look.new.labels) =
-    to-go c.read.new.self c.look.new.self x ts c.in-Ok.hearing c.in-Ok-read.counts (slots_as c.in-Ok-look.sent c.look.new.labels)
-    k.pieces.turn k.hears
-    (c.in-Ok-look.ensures.looks x ts c.in-Ok.hearing.heard k.pieces.turn) c.in-Ok-look.ensures.script c.in-Ok-look.ensures.turn
+-- both were looked at, and the turn goes on
+going-on : (g : Over) (c : In-Ok-look g) (x : Tapping) (ts : List Turn) → InTurn c.read.new.self x ts c.in-Ok.hearing.heard
+    → HearsSo x ts c.in-Ok.hearing
+    → IsToGo c.look.new.self (now_of c.read.new.self x c.in-Ok-read.counts) ts c.in-Ok.hearing
+    (slots_as c.in-Ok-look.sent c.look.new.labels)
+going-on g c x ts turn hears =
+    to-go c.read.new.self c.look.new.self x ts c.in-Ok.hearing c.in-Ok-read.counts (slots_as c.in-Ok-look.sent c.look.new.labels) turn hears
+    (c.in-Ok-look.ensures.looks x ts c.in-Ok.hearing.heard turn) c.in-Ok-look.ensures.script c.in-Ok-look.ensures.turn
     c.in-Ok-look.ensures.at c.in-Ok-look.ensures.orig c.in-Ok-look.ensures.answ c.in-Ok-look.ensures.orig_piece
-    c.in-Ok-look.ensures.answ_piece in
-    let after = c.in-Ok-go_on.ensures.ok (now_of c.read.new.self x c.in-Ok-read.counts) ts go in
-    goes-on-by c.read.new.self c.go_on.new.self start a b r d n x ts c.in-Ok.hearing c.in-Ok-read.counts
-    (slots_as c.in-Ok-look.sent c.look.new.labels) k after.0
-    c.in-Ok-go_on.ensures.only after.1
+    c.in-Ok-look.ensures.answ_piece
 
-pub returns-in-Err-go_on-clause-turn : goal.returns-in-Err-go_on-clause-turn
-returns-in-Err-go_on-clause-turn g c = λ start x ts h read.
-    let a : FolderState = g.F.Folder.state c.args.folder.now in
-    let b : FolderState = g.F.Folder.state c.deliver.new.folder in
-    let r : FolderState = g.F.Folder.state c.read.new.folder in
-    let n : TapNames = named c.args.names.now in
-    let d : FolderState = g.F.Folder.state c.go_on.new.folder in
-    let k : HasPieces c.read.new.self start a b r n x ts c.in-Ok.hearing c.in-Ok-read.counts =
-    has-pieces c.hear.new.self c.deliver.new.self c.read.new.self start a b r n x ts c.in-Ok.hearing c.in-Ok-read.counts c.requires.apart
-    read (c.in-Ok.ensures.hears x ts h) c.in-Ok-deliver.ensures.only c.in-Ok-read.ensures.reads
-    (c.in-Ok-deliver.ensures.ok x ts c.in-Ok.hearing.heard) (c.in-Ok-deliver.ensures.stands x ts c.in-Ok.hearing.heard)
-    (c.in-Ok-read.ensures.pieces start x ts c.in-Ok.hearing.heard) in
-    let go : IsToGo c.look.new.self (now_of c.read.new.self x c.in-Ok-read.counts) ts c.in-Ok.hearing
-    (slots_as c.in-Ok-look.sent c.look.new.labels) =
-    to-go c.read.new.self c.look.new.self x ts c.in-Ok.hearing c.in-Ok-read.counts (slots_as c.in-Ok-look.sent c.look.new.labels)
-    k.pieces.turn k.hears
-    (c.in-Ok-look.ensures.looks x ts c.in-Ok.hearing.heard k.pieces.turn) c.in-Ok-look.ensures.script c.in-Ok-look.ensures.turn
-    c.in-Ok-look.ensures.at c.in-Ok-look.ensures.orig c.in-Ok-look.ensures.answ c.in-Ok-look.ensures.orig_piece
-    c.in-Ok-look.ensures.answ_piece in
-    stops-going c.read.new.self c.look.new.self start a b r d n x ts c.in-Ok.hearing c.in-Ok-read.counts
-    (slots_as c.in-Ok-look.sent c.look.new.labels) k go
-    c.in-Err-go_on.ensures.only (c.in-Err-go_on.ensures.err (now_of c.read.new.self x c.in-Ok-read.counts) ts go)
-
-pub returns-in-Ok-finish-clause-turn : goal.returns-in-Ok-finish-clause-turn
-returns-in-Ok-finish-clause-turn g c = λ start x ts h read.
-    let a : FolderState = g.F.Folder.state c.args.folder.now in
-    let b : FolderState = g.F.Folder.state c.deliver.new.folder in
-    let r : FolderState = g.F.Folder.state c.read.new.folder in
-    let n : TapNames = named c.args.names.now in
-    let d : FolderState = g.F.Folder.state c.finish.new.folder in
-    let k : HasPieces c.read.new.self start a b r n x ts c.in-Ok.hearing c.in-Ok-read.counts =
-    has-pieces c.hear.new.self c.deliver.new.self c.read.new.self start a b r n x ts c.in-Ok.hearing c.in-Ok-read.counts c.requires.apart
-    read (c.in-Ok.ensures.hears x ts h) c.in-Ok-deliver.ensures.only c.in-Ok-read.ensures.reads
-    (c.in-Ok-deliver.ensures.ok x ts c.in-Ok.hearing.heard) (c.in-Ok-deliver.ensures.stands x ts c.in-Ok.hearing.heard)
-    (c.in-Ok-read.ensures.pieces start x ts c.in-Ok.hearing.heard) in
-    ends-whole c.keeps_taken.ensures c.read.new.self start a b r d n x ts c.in-Ok.hearing c.in-Ok-read.counts (c.read.new.self.turn + 1) k
-    (c.if-are_none.ensures.orig refl) (c.if-are_none.ensures.answ refl) (ap (λ m. m + 1) k.pieces.turn.behind.turn)
-    c.in-Ok-finish.ensures.only
-    (c.in-Ok-finish.ensures.ok x ts k.pieces.turn.behind.turn k.hears)
-
-pub returns-in-Err-finish-clause-turn : goal.returns-in-Err-finish-clause-turn
-returns-in-Err-finish-clause-turn g c = λ start x ts h read.
-    let a : FolderState = g.F.Folder.state c.args.folder.now in
-    let b : FolderState = g.F.Folder.state c.deliver.new.folder in
-    let r : FolderState = g.F.Folder.state c.read.new.folder in
-    let n : TapNames = named c.args.names.now in
-    let d : FolderState = g.F.Folder.state c.finish.new.folder in
-    let k : HasPieces c.read.new.self start a b r n x ts c.in-Ok.hearing c.in-Ok-read.counts =
-    has-pieces c.hear.new.self c.deliver.new.self c.read.new.self start a b r n x ts c.in-Ok.hearing c.in-Ok-read.counts c.requires.apart
-    read (c.in-Ok.ensures.hears x ts h) c.in-Ok-deliver.ensures.only c.in-Ok-read.ensures.reads
-    (c.in-Ok-deliver.ensures.ok x ts c.in-Ok.hearing.heard) (c.in-Ok-deliver.ensures.stands x ts c.in-Ok.hearing.heard)
-    (c.in-Ok-read.ensures.pieces start x ts c.in-Ok.hearing.heard) in
-    stops-ending c.read.new.self start a b r d n x ts c.in-Ok.hearing c.in-Ok-read.counts k
-    (c.if-are_none.ensures.orig refl) (c.if-are_none.ensures.answ refl) c.in-Err-finish.ensures.only
-    (c.in-Err-finish.ensures.err x ts k.pieces.turn.behind.turn k.hears)
-
-pub look-requires-clause-stands : goal.look-requires-clause-stands
-look-requires-clause-stands g c =
-    let r0 = c.requires.ready in
-    let heard = c.in-Ok.ensures.hears r0.what r0.turns r0.after in
-    let turn = c.in-Ok-read.ensures.stands r0.what r0.turns c.in-Ok.hearing.heard
-    (c.in-Ok-deliver.ensures.stands r0.what r0.turns c.in-Ok.hearing.heard heard.0) in
-    (r0.what, r0.turns, c.in-Ok.hearing.heard, turn)
-
-pub returns-in-Err-read-clause-only : goal.returns-in-Err-read-clause-only
-returns-in-Err-read-clause-only g c =
-    only-read _ _ _ (named c.args.names.now) c.in-Ok-deliver.ensures.only c.in-Err-read.ensures.reads
-
-pub returns-in-Err-look-clause-only : goal.returns-in-Err-look-clause-only
-returns-in-Err-look-clause-only g c =
-    only-read _ _ _ (named c.args.names.now) c.in-Ok-deliver.ensures.only c.in-Ok-read.ensures.reads
-
-pub returns-in-Err-read-clause-counts : goal.returns-in-Err-read-clause-counts
-returns-in-Err-read-clause-counts g c =
-    stop-earlier (g.F.Folder.state c.args.folder.now) (g.F.Folder.state c.deliver.new.folder) (g.F.Folder.state c.read.new.folder)
-    (recordings_of (named c.args.names.now)) (outputs_of (named c.args.names.now)) (Read c.in-Err-read.fault) c.in-Ok-deliver.ensures.stand
-    c.in-Err-read.ensures.fails
-
-pub returns-in-Err-look-clause-counts : goal.returns-in-Err-look-clause-counts
-returns-in-Err-look-clause-counts g c =
-    (tt, CountsStand-trans c.in-Ok-deliver.ensures.stand c.in-Ok-read.ensures.stand)
-
-pub returns-in-Ok-go_on-clause-only : goal.returns-in-Ok-go_on-clause-only
-returns-in-Ok-go_on-clause-only g c =
-    only-written _ _ _ _ (named c.args.names.now) c.in-Ok-deliver.ensures.only c.in-Ok-read.ensures.reads c.in-Ok-go_on.ensures.only
-
-pub returns-in-Ok-go_on-clause-counts : goal.returns-in-Ok-go_on-clause-counts
-returns-in-Ok-go_on-clause-counts g c =
-    CountsStand-trans (CountsStand-trans c.in-Ok-deliver.ensures.stand c.in-Ok-read.ensures.stand) c.in-Ok-go_on.ensures.stand
-
-pub returns-in-Err-go_on-clause-only : goal.returns-in-Err-go_on-clause-only
-returns-in-Err-go_on-clause-only g c =
-    only-written _ _ _ _ (named c.args.names.now) c.in-Ok-deliver.ensures.only c.in-Ok-read.ensures.reads c.in-Err-go_on.ensures.only
-
-pub returns-in-Err-go_on-clause-counts : goal.returns-in-Err-go_on-clause-counts
-returns-in-Err-go_on-clause-counts g c =
-    stop-earlier (g.F.Folder.state c.args.folder.now) (g.F.Folder.state c.read.new.folder) (g.F.Folder.state c.go_on.new.folder)
-    (recordings_of (named c.args.names.now)) (outputs_of (named c.args.names.now)) (Write c.in-Err-go_on.fault)
-    (CountsStand-trans c.in-Ok-deliver.ensures.stand c.in-Ok-read.ensures.stand) c.in-Err-go_on.ensures.fails
-
-pub returns-in-Ok-finish-clause-only : goal.returns-in-Ok-finish-clause-only
-returns-in-Ok-finish-clause-only g c =
-    only-written _ _ _ _ (named c.args.names.now) c.in-Ok-deliver.ensures.only c.in-Ok-read.ensures.reads c.in-Ok-finish.ensures.only
-
-pub returns-in-Ok-finish-clause-counts : goal.returns-in-Ok-finish-clause-counts
-returns-in-Ok-finish-clause-counts g c =
-    CountsStand-trans (CountsStand-trans c.in-Ok-deliver.ensures.stand c.in-Ok-read.ensures.stand) c.in-Ok-finish.ensures.stand
-
-pub returns-in-Err-finish-clause-only : goal.returns-in-Err-finish-clause-only
-returns-in-Err-finish-clause-only g c =
-    only-written _ _ _ _ (named c.args.names.now) c.in-Ok-deliver.ensures.only c.in-Ok-read.ensures.reads c.in-Err-finish.ensures.only
-
-pub returns-in-Err-finish-clause-counts : goal.returns-in-Err-finish-clause-counts
-returns-in-Err-finish-clause-counts g c =
-    stop-earlier (g.F.Folder.state c.args.folder.now) (g.F.Folder.state c.read.new.folder) (g.F.Folder.state c.finish.new.folder)
-    (recordings_of (named c.args.names.now)) (outputs_of (named c.args.names.now)) (Write c.in-Err-finish.fault)
-    (CountsStand-trans c.in-Ok-deliver.ensures.stand c.in-Ok-read.ensures.stand) c.in-Err-finish.ensures.fails
-
-pub go_on-requires-clause-stands : goal.go_on-requires-clause-stands
-go_on-requires-clause-stands g c =
-    let r0 = c.requires.ready in
-    let x = r0.what in
-    let ts = r0.turns in
-    let heard = c.in-Ok.ensures.hears x ts r0.after in
-    let turn = c.in-Ok-read.ensures.stands x ts c.in-Ok.hearing.heard (c.in-Ok-deliver.ensures.stands x ts c.in-Ok.hearing.heard heard.0) in
-    let go : IsToGo c.look.new.self (now_of c.read.new.self x c.in-Ok-read.counts) ts c.in-Ok.hearing
-    (slots_as c.in-Ok-look.sent c.look.new.labels) =
-    to-go c.read.new.self c.look.new.self x ts c.in-Ok.hearing c.in-Ok-read.counts (slots_as c.in-Ok-look.sent c.look.new.labels) turn
-    (so-heard c.hear.new.self x ts c.in-Ok.hearing heard) (c.in-Ok-look.ensures.looks x ts c.in-Ok.hearing.heard turn)
-    c.in-Ok-look.ensures.script c.in-Ok-look.ensures.turn c.in-Ok-look.ensures.at
-    c.in-Ok-look.ensures.orig c.in-Ok-look.ensures.answ c.in-Ok-look.ensures.orig_piece c.in-Ok-look.ensures.answ_piece in
-    (now_of c.read.new.self x c.in-Ok-read.counts, ts, go)
-
-pub returns-in-Ok-go_on-clause-ready : goal.returns-in-Ok-go_on-clause-ready
-returns-in-Ok-go_on-clause-ready g c = λ same.
-    let r0 = c.requires.ready in
-    let x = r0.what in
-    let ts = r0.turns in
-    let heard = c.in-Ok.ensures.hears x ts r0.after in
-    let turn = c.in-Ok-read.ensures.stands x ts c.in-Ok.hearing.heard (c.in-Ok-deliver.ensures.stands x ts c.in-Ok.hearing.heard heard.0) in
-    let go : IsToGo c.look.new.self (now_of c.read.new.self x c.in-Ok-read.counts) ts c.in-Ok.hearing
-    (slots_as c.in-Ok-look.sent c.look.new.labels) =
-    to-go c.read.new.self c.look.new.self x ts c.in-Ok.hearing c.in-Ok-read.counts (slots_as c.in-Ok-look.sent c.look.new.labels) turn
-    (so-heard c.hear.new.self x ts c.in-Ok.hearing heard) (c.in-Ok-look.ensures.looks x ts c.in-Ok.hearing.heard turn)
-    c.in-Ok-look.ensures.script c.in-Ok-look.ensures.turn c.in-Ok-look.ensures.at
-    c.in-Ok-look.ensures.orig c.in-Ok-look.ensures.answ c.in-Ok-look.ensures.orig_piece c.in-Ok-look.ensures.answ_piece in
-    let room = some-octets c.read.new.self c.look.new.self x ts c.in-Ok.hearing.heard
-    (c.slots_have_room.ensures.room x.script (subst IsInLimits r0.after.behind.script_is r0.limits)).0 turn
-    c.in-Ok-look.ensures.orig_piece in
-    let same : c.look.new.self.at ≡ c.args.self.now.at =
-    c.in-Ok-look.ensures.at ∙ c.in-Ok-read.ensures.at ∙ c.in-Ok-deliver.ensures.at ∙ c.in-Ok.ensures.at in
-    let more = nearer-by c.args.self.now c.look.new.self c.go_on.new.self same room c.in-Ok-go_on.ensures.at in
-    let whole = whole-orig c.read.new.self c.look.new.self x ts c.in-Ok.hearing c.in-Ok-read.counts
-    (slots_as c.in-Ok-look.sent c.look.new.labels) turn
-    c.in-Ok-read.ensures.orig_few go in
-    let within = within-by c.read.new.self c.look.new.self c.go_on.new.self c.deliver.new.self.at c.in-Ok-read.counts.orig
-    c.in-Ok-read.ensures.at
-    c.in-Ok-look.ensures.at c.in-Ok-look.ensures.orig_piece whole c.in-Ok-read.ensures.within c.in-Ok-go_on.ensures.at in
-    ready-again c.args.self.now c.deliver.new.self c.go_on.new.self (now_of c.read.new.self x c.in-Ok-read.counts)
-    (going_in (now_of c.read.new.self x c.in-Ok-read.counts) ts c.in-Ok.hearing.heard (slots_as c.in-Ok-look.sent c.look.new.labels)) ts r0
-    (c.in-Ok-go_on.ensures.ok (now_of c.read.new.self x c.in-Ok-read.counts) ts go).0
-    (c.in-Ok-go_on.ensures.script ∙ c.in-Ok-look.ensures.script ∙ c.in-Ok-read.ensures.script ∙ c.in-Ok-deliver.ensures.script
-    ∙ c.in-Ok.ensures.script) (c.in-Ok-deliver.ensures.orig (c.args.self.now.turn + 1) c.in-Ok.ensures.orig)
-    (c.in-Ok-deliver.ensures.answ (c.args.self.now.turn + 1) c.in-Ok.ensures.answ)
-    (c.in-Ok-go_on.ensures.orig ∙ c.in-Ok-look.ensures.orig ∙ c.in-Ok-read.ensures.orig)
-    (c.in-Ok-go_on.ensures.answ ∙ c.in-Ok-look.ensures.answ ∙ c.in-Ok-read.ensures.answ)
-    (c.in-Ok-go_on.ensures.turn
-    ∙ ap (λ n. n + 1) (c.in-Ok-look.ensures.turn ∙ c.in-Ok-read.ensures.turn ∙ c.in-Ok-deliver.ensures.turn ∙ c.in-Ok.ensures.turn)) more
-    within
-
-pub returns-in-Ok-go_on-clause-nearer : goal.returns-in-Ok-go_on-clause-nearer
-returns-in-Ok-go_on-clause-nearer g c = λ same.
+pub returns-in-Ok-go_on : goal.returns-in-Ok-go_on
+returns-in-Ok-go_on g c =
     let r0 = c.requires.ready in
     let x = r0.what in
     let ts = r0.turns in
@@ -266,104 +52,179 @@ returns-in-Ok-go_on-clause-nearer g c = λ same.
     let room = some-octets c.read.new.self c.look.new.self x ts c.in-Ok.hearing.heard
     (c.slots_have_room.ensures.room x.script (subst IsInLimits r0.after.behind.script_is r0.limits)).0 turn
     c.in-Ok-look.ensures.orig_piece in
-    nearer-by c.args.self.now c.look.new.self c.go_on.new.self
-    (c.in-Ok-look.ensures.at ∙ c.in-Ok-read.ensures.at ∙ c.in-Ok-deliver.ensures.at ∙ c.in-Ok.ensures.at) room c.in-Ok-go_on.ensures.at
+    record {
+      turn = λ start x ts h read.
+          let n : TapNames = named c.args.names.now in
+          let k = pieces-read g (goal.at.returns-in-Ok-go_on g c).In-Ok-read start x ts h read in
+          let go = going-on g (goal.at.returns-in-Ok-go_on g c).In-Ok-look x ts k.pieces.turn k.hears in
+          let after = c.in-Ok-go_on.ensures.ok (now_of c.read.new.self x c.in-Ok-read.counts) ts go in
+          goes-on-by c.read.new.self start _ _ _ _ n x ts c.in-Ok.hearing c.in-Ok-read.counts k c.in-Ok-go_on.ensures.only
+          c.go_on.new.self (slots_as c.in-Ok-look.sent c.look.new.labels) after.0 after.1;
+      script =
+          c.in-Ok-go_on.ensures.script ∙ c.in-Ok-look.ensures.script ∙ c.in-Ok-read.ensures.script
+          ∙ c.in-Ok-deliver.ensures.script ∙ c.in-Ok.ensures.script;
+      ready = λ same.
+          let go = going-on g (goal.at.returns-in-Ok-go_on g c).In-Ok-look x ts turn (so-heard c.hear.new.self x ts c.in-Ok.hearing heard)
+          in
+          let same : c.look.new.self.at ≡ c.args.self.now.at =
+          c.in-Ok-look.ensures.at ∙ c.in-Ok-read.ensures.at ∙ c.in-Ok-deliver.ensures.at ∙ c.in-Ok.ensures.at in
+          let more = nearer-by c.args.self.now c.look.new.self c.go_on.new.self same room c.in-Ok-go_on.ensures.at in
+          let whole = whole-orig c.read.new.self c.look.new.self x ts c.in-Ok.hearing c.in-Ok-read.counts
+          (slots_as c.in-Ok-look.sent c.look.new.labels) turn
+          c.in-Ok-read.ensures.orig_few go in
+          let within = within-by c.read.new.self c.look.new.self c.go_on.new.self c.deliver.new.self.at c.in-Ok-read.counts.orig
+          c.in-Ok-read.ensures.at
+          c.in-Ok-look.ensures.at c.in-Ok-look.ensures.orig_piece whole c.in-Ok-read.ensures.within c.in-Ok-go_on.ensures.at in
+          ready-again c.args.self.now c.deliver.new.self c.go_on.new.self (now_of c.read.new.self x c.in-Ok-read.counts)
+          (going_in (now_of c.read.new.self x c.in-Ok-read.counts) ts c.in-Ok.hearing.heard
+          (slots_as c.in-Ok-look.sent c.look.new.labels)) ts r0
+          (c.in-Ok-go_on.ensures.ok (now_of c.read.new.self x c.in-Ok-read.counts) ts go).0
+          (c.in-Ok-go_on.ensures.script ∙ c.in-Ok-look.ensures.script ∙ c.in-Ok-read.ensures.script ∙ c.in-Ok-deliver.ensures.script
+          ∙ c.in-Ok.ensures.script) (c.in-Ok-deliver.ensures.orig (c.args.self.now.turn + 1) c.in-Ok.ensures.orig)
+          (c.in-Ok-deliver.ensures.answ (c.args.self.now.turn + 1) c.in-Ok.ensures.answ)
+          (c.in-Ok-go_on.ensures.orig ∙ c.in-Ok-look.ensures.orig ∙ c.in-Ok-read.ensures.orig)
+          (c.in-Ok-go_on.ensures.answ ∙ c.in-Ok-look.ensures.answ ∙ c.in-Ok-read.ensures.answ)
+          (c.in-Ok-go_on.ensures.turn
+          ∙ ap (λ n. n + 1) (c.in-Ok-look.ensures.turn ∙ c.in-Ok-read.ensures.turn ∙ c.in-Ok-deliver.ensures.turn ∙ c.in-Ok.ensures.turn))
+          more within;
+      nearer = λ same.
+          nearer-by c.args.self.now c.look.new.self c.go_on.new.self
+          (c.in-Ok-look.ensures.at ∙ c.in-Ok-read.ensures.at ∙ c.in-Ok-deliver.ensures.at ∙ c.in-Ok.ensures.at) room
+          c.in-Ok-go_on.ensures.at;
+      only =
+          only-written _ _ _ _ (named c.args.names.now) c.in-Ok-deliver.ensures.only c.in-Ok-read.ensures.reads c.in-Ok-go_on.ensures.only;
+      counts = CountsStand-trans (CountsStand-trans c.in-Ok-deliver.ensures.stand c.in-Ok-read.ensures.stand) c.in-Ok-go_on.ensures.stand;
+    }
 
-pub returns-in-Err-Lost-clause-script : goal.returns-in-Err-Lost-clause-script
-returns-in-Err-Lost-clause-script g c = c.in-Err-Lost.ensures.script
+pub returns-in-Err-read : goal.returns-in-Err-read
+returns-in-Err-read g c = record {
+  turn = λ start x ts h read.
+      let n : TapNames = named c.args.names.now in
+      let heard = c.in-Ok.ensures.hears x ts h in
+      stops-reading start _ _ _ n x ts c.in-Ok.hearing.heard c.requires.apart h.behind.tells read heard.0.hears c.in-Ok-deliver.ensures.only
+      (c.in-Ok-deliver.ensures.ok x ts c.in-Ok.hearing.heard heard.0) c.in-Err-read.ensures.reads;
+  script = c.in-Err-read.ensures.script ∙ c.in-Ok-deliver.ensures.script ∙ c.in-Ok.ensures.script;
+  ready = λ same. is-stopped same;
+  nearer = λ same. is-stopped same;
+  only = only-read _ _ _ (named c.args.names.now) c.in-Ok-deliver.ensures.only c.in-Err-read.ensures.reads;
+  counts =
+      stop-earlier (g.F.Folder.state c.args.folder.now) (g.F.Folder.state c.deliver.new.folder) (g.F.Folder.state c.read.new.folder)
+      (recordings_of (named c.args.names.now)) (outputs_of (named c.args.names.now)) (Read c.in-Err-read.fault)
+      c.in-Ok-deliver.ensures.stand
+      c.in-Err-read.ensures.fails;
+}
 
-pub returns-in-Err-Chance-clause-script : goal.returns-in-Err-Chance-clause-script
-returns-in-Err-Chance-clause-script g c = c.in-Err-Chance.ensures.script
+pub returns-in-Ok-finish : goal.returns-in-Ok-finish
+returns-in-Ok-finish g c = record {
+  turn = λ start x ts h read.
+      let n : TapNames = named c.args.names.now in
+      let k = pieces-read g (goal.at.returns-in-Ok-finish g c).In-Ok-read start x ts h read in
+      ends-whole c.read.new.self start _ _ _ _ n x ts c.in-Ok.hearing c.in-Ok-read.counts k c.in-Ok-finish.ensures.only
+      c.keeps_taken.ensures (c.read.new.self.turn + 1) (c.if-are_none.ensures.orig refl) (c.if-are_none.ensures.answ refl)
+      (ap (λ m. m + 1) k.pieces.turn.behind.turn) (c.in-Ok-finish.ensures.ok x ts k.pieces.turn.behind.turn k.hears);
+  script = c.in-Ok-read.ensures.script ∙ c.in-Ok-deliver.ensures.script ∙ c.in-Ok.ensures.script;
+  ready = λ same. is-done same;
+  nearer = λ same. is-done same;
+  only = only-written _ _ _ _ (named c.args.names.now) c.in-Ok-deliver.ensures.only c.in-Ok-read.ensures.reads c.in-Ok-finish.ensures.only;
+  counts = CountsStand-trans (CountsStand-trans c.in-Ok-deliver.ensures.stand c.in-Ok-read.ensures.stand) c.in-Ok-finish.ensures.stand;
+}
 
-pub returns-in-Err-clause-script : goal.returns-in-Err-clause-script
-returns-in-Err-clause-script g c = c.in-Err.ensures.script ∙ c.in-Ok.ensures.script
+pub returns-in-Err-finish : goal.returns-in-Err-finish
+returns-in-Err-finish g c = record {
+  turn = λ start x ts h read.
+      let n : TapNames = named c.args.names.now in
+      let k = pieces-read g (goal.at.returns-in-Err-finish g c).In-Ok-read start x ts h read in
+      stops-ending c.read.new.self start _ _ _ _ n x ts c.in-Ok.hearing c.in-Ok-read.counts k c.in-Err-finish.ensures.only
+      (c.if-are_none.ensures.orig refl) (c.if-are_none.ensures.answ refl)
+      (c.in-Err-finish.ensures.err x ts k.pieces.turn.behind.turn k.hears);
+  script = c.in-Ok-read.ensures.script ∙ c.in-Ok-deliver.ensures.script ∙ c.in-Ok.ensures.script;
+  ready = λ same. is-stopped same;
+  nearer = λ same. is-stopped same;
+  only = only-written _ _ _ _ (named c.args.names.now) c.in-Ok-deliver.ensures.only c.in-Ok-read.ensures.reads c.in-Err-finish.ensures.only;
+  counts =
+      stop-earlier (g.F.Folder.state c.args.folder.now) (g.F.Folder.state c.read.new.folder) (g.F.Folder.state c.finish.new.folder)
+      (recordings_of (named c.args.names.now)) (outputs_of (named c.args.names.now)) (Write c.in-Err-finish.fault)
+      (CountsStand-trans c.in-Ok-deliver.ensures.stand c.in-Ok-read.ensures.stand) c.in-Err-finish.ensures.fails;
+}
 
-pub returns-in-Err-read-clause-script : goal.returns-in-Err-read-clause-script
-returns-in-Err-read-clause-script g c = c.in-Err-read.ensures.script ∙ c.in-Ok-deliver.ensures.script ∙ c.in-Ok.ensures.script
+pub returns-in-Err-look : goal.returns-in-Err-look
+returns-in-Err-look g c = record {
+  turn = λ start x ts h read.
+      let n : TapNames = named c.args.names.now in
+      let k = pieces-read g (goal.at.returns-in-Err-look g c).In-Ok-read start x ts h read in
+      ends-badly c.keeps_taken.ensures c.read.new.self start _ _ _ n x ts c.in-Ok.hearing c.in-Ok-read.counts c.in-Err-look.role
+      c.look.new.self.turn k
+      (c.if-are_none.ensures.some refl) (c.in-Err-look.ensures.turn ∙ k.pieces.turn.behind.turn)
+      (c.in-Err-look.ensures.looks x ts c.in-Ok.hearing.heard k.pieces.turn);
+  script =
+      c.in-Err-look.ensures.script ∙ c.in-Ok-read.ensures.script ∙ c.in-Ok-deliver.ensures.script
+      ∙ c.in-Ok.ensures.script;
+  ready = λ same. is-stopped same;
+  nearer = λ same. is-stopped same;
+  only = only-read _ _ _ (named c.args.names.now) c.in-Ok-deliver.ensures.only c.in-Ok-read.ensures.reads;
+  counts = (tt, CountsStand-trans c.in-Ok-deliver.ensures.stand c.in-Ok-read.ensures.stand);
+}
 
-pub returns-in-Ok-finish-clause-script : goal.returns-in-Ok-finish-clause-script
-returns-in-Ok-finish-clause-script g c = c.in-Ok-read.ensures.script ∙ c.in-Ok-deliver.ensures.script ∙ c.in-Ok.ensures.script
+pub returns-in-Err-go_on : goal.returns-in-Err-go_on
+returns-in-Err-go_on g c = record {
+  turn = λ start x ts h read.
+      let n : TapNames = named c.args.names.now in
+      let k = pieces-read g (goal.at.returns-in-Err-go_on g c).In-Ok-read start x ts h read in
+      let go = going-on g (goal.at.returns-in-Err-go_on g c).In-Ok-look x ts k.pieces.turn k.hears in
+      stops-going c.read.new.self start _ _ _ _ n x ts c.in-Ok.hearing c.in-Ok-read.counts k c.in-Err-go_on.ensures.only c.look.new.self
+      (slots_as c.in-Ok-look.sent c.look.new.labels) go (c.in-Err-go_on.ensures.err (now_of c.read.new.self x c.in-Ok-read.counts) ts go);
+  script =
+      c.in-Err-go_on.ensures.script ∙ c.in-Ok-look.ensures.script ∙ c.in-Ok-read.ensures.script
+      ∙ c.in-Ok-deliver.ensures.script ∙ c.in-Ok.ensures.script;
+  ready = λ same. is-stopped same;
+  nearer = λ same. is-stopped same;
+  only = only-written _ _ _ _ (named c.args.names.now) c.in-Ok-deliver.ensures.only c.in-Ok-read.ensures.reads c.in-Err-go_on.ensures.only;
+  counts =
+      stop-earlier (g.F.Folder.state c.args.folder.now) (g.F.Folder.state c.read.new.folder) (g.F.Folder.state c.go_on.new.folder)
+      (recordings_of (named c.args.names.now)) (outputs_of (named c.args.names.now)) (Write c.in-Err-go_on.fault)
+      (CountsStand-trans c.in-Ok-deliver.ensures.stand c.in-Ok-read.ensures.stand) c.in-Err-go_on.ensures.fails;
+}
 
-pub returns-in-Err-finish-clause-script : goal.returns-in-Err-finish-clause-script
-returns-in-Err-finish-clause-script g c = c.in-Ok-read.ensures.script ∙ c.in-Ok-deliver.ensures.script ∙ c.in-Ok.ensures.script
+pub returns-in-Err-Lost : goal.returns-in-Err-Lost
+returns-in-Err-Lost g c = record {
+  turn = λ start x ts h read.
+      rw (c.in-Err-Lost.field-0-is)
+      (loses-line start (g.F.Folder.state c.args.folder.now) (named c.args.names.now) x ts c.in-Err-Lost.role c.in-Err-Lost.symbol
+      h.behind.tells read
+      (subst (λ (e : LineEnd). EndsLine x ts (end_of e)) c.in-Err-Lost.field-0-is (c.in-Err-Lost.ensures.hears x ts h)));
+  script = c.in-Err-Lost.ensures.script;
+  ready = λ same. is-stopped same;
+  nearer = λ same. is-stopped same;
+  only = OnlyPuts-refl (g.F.Folder.state c.args.folder.now) (outputs_of (named c.args.names.now));
+  counts = (tt, CountsStand-refl (g.F.Folder.state c.args.folder.now));
+}
 
-pub returns-in-Err-look-clause-script : goal.returns-in-Err-look-clause-script
-returns-in-Err-look-clause-script g c = c.in-Err-look.ensures.script ∙ c.in-Ok-read.ensures.script ∙ c.in-Ok-deliver.ensures.script
-    ∙ c.in-Ok.ensures.script
+pub returns-in-Err-Chance : goal.returns-in-Err-Chance
+returns-in-Err-Chance g c = record {
+  turn = λ start x ts h read.
+      c.meet_chance.ensures.meets start x ts (c.in-Err-Chance.ensures.turn ∙ h.behind.turn) h.behind.tells
+      (rw (c.in-Err-Chance.field-0-is)
+      (subst (λ (e : LineEnd). EndsLine x ts (end_of e)) c.in-Err-Chance.field-0-is (c.in-Err-Chance.ensures.hears x ts h))) read;
+  script = c.in-Err-Chance.ensures.script;
+  ready = λ same. is-stopped same;
+  nearer = λ same. is-stopped same;
+  only = c.meet_chance.ensures.only;
+  counts = c.meet_chance.ensures.counts;
+}
 
-pub returns-in-Ok-go_on-clause-script : goal.returns-in-Ok-go_on-clause-script
-returns-in-Ok-go_on-clause-script g c = c.in-Ok-go_on.ensures.script ∙ c.in-Ok-look.ensures.script ∙ c.in-Ok-read.ensures.script
-    ∙ c.in-Ok-deliver.ensures.script ∙ c.in-Ok.ensures.script
-
-pub returns-in-Err-go_on-clause-script : goal.returns-in-Err-go_on-clause-script
-returns-in-Err-go_on-clause-script g c = c.in-Err-go_on.ensures.script ∙ c.in-Ok-look.ensures.script ∙ c.in-Ok-read.ensures.script
-    ∙ c.in-Ok-deliver.ensures.script ∙ c.in-Ok.ensures.script
-
-pub returns-in-Err-Lost-clause-ready : goal.returns-in-Err-Lost-clause-ready
-returns-in-Err-Lost-clause-ready g c = λ same. is-stopped same
-
-pub returns-in-Err-Lost-clause-nearer : goal.returns-in-Err-Lost-clause-nearer
-returns-in-Err-Lost-clause-nearer g c = λ same. is-stopped same
-
-pub returns-in-Err-Chance-clause-ready : goal.returns-in-Err-Chance-clause-ready
-returns-in-Err-Chance-clause-ready g c = λ same. is-stopped same
-
-pub returns-in-Err-Chance-clause-nearer : goal.returns-in-Err-Chance-clause-nearer
-returns-in-Err-Chance-clause-nearer g c = λ same. is-stopped same
-
-pub returns-in-Err-clause-ready : goal.returns-in-Err-clause-ready
-returns-in-Err-clause-ready g c = λ same. is-stopped same
-
-pub returns-in-Err-clause-nearer : goal.returns-in-Err-clause-nearer
-returns-in-Err-clause-nearer g c = λ same. is-stopped same
-
-pub returns-in-Err-read-clause-ready : goal.returns-in-Err-read-clause-ready
-returns-in-Err-read-clause-ready g c = λ same. is-stopped same
-
-pub returns-in-Err-read-clause-nearer : goal.returns-in-Err-read-clause-nearer
-returns-in-Err-read-clause-nearer g c = λ same. is-stopped same
-
-pub returns-in-Ok-finish-clause-ready : goal.returns-in-Ok-finish-clause-ready
-returns-in-Ok-finish-clause-ready g c = λ same. is-done same
-
-pub returns-in-Ok-finish-clause-nearer : goal.returns-in-Ok-finish-clause-nearer
-returns-in-Ok-finish-clause-nearer g c = λ same. is-done same
-
-pub returns-in-Err-finish-clause-ready : goal.returns-in-Err-finish-clause-ready
-returns-in-Err-finish-clause-ready g c = λ same. is-stopped same
-
-pub returns-in-Err-finish-clause-nearer : goal.returns-in-Err-finish-clause-nearer
-returns-in-Err-finish-clause-nearer g c = λ same. is-stopped same
-
-pub returns-in-Err-look-clause-ready : goal.returns-in-Err-look-clause-ready
-returns-in-Err-look-clause-ready g c = λ same. is-stopped same
-
-pub returns-in-Err-look-clause-nearer : goal.returns-in-Err-look-clause-nearer
-returns-in-Err-look-clause-nearer g c = λ same. is-stopped same
-
-pub returns-in-Err-go_on-clause-ready : goal.returns-in-Err-go_on-clause-ready
-returns-in-Err-go_on-clause-ready g c = λ same. is-stopped same
-
-pub returns-in-Err-go_on-clause-nearer : goal.returns-in-Err-go_on-clause-nearer
-returns-in-Err-go_on-clause-nearer g c = λ same. is-stopped same
-
-pub returns-in-Err-Lost-clause-only : goal.returns-in-Err-Lost-clause-only
-returns-in-Err-Lost-clause-only g c = OnlyPuts-refl (g.F.Folder.state c.args.folder.now) (outputs_of (named c.args.names.now))
-
-pub returns-in-Err-Lost-clause-counts : goal.returns-in-Err-Lost-clause-counts
-returns-in-Err-Lost-clause-counts g c = (tt, CountsStand-refl (g.F.Folder.state c.args.folder.now))
-
-pub returns-in-Err-Chance-clause-only : goal.returns-in-Err-Chance-clause-only
-returns-in-Err-Chance-clause-only g c = c.meet_chance.ensures.only
-
-pub returns-in-Err-Chance-clause-counts : goal.returns-in-Err-Chance-clause-counts
-returns-in-Err-Chance-clause-counts g c = c.meet_chance.ensures.counts
-
-pub returns-in-Err-clause-only : goal.returns-in-Err-clause-only
-returns-in-Err-clause-only g c = c.in-Err.ensures.only
-
-pub returns-in-Err-clause-counts : goal.returns-in-Err-clause-counts
-returns-in-Err-clause-counts g c = c.in-Err.ensures.fails
+pub returns-in-Err : goal.returns-in-Err
+returns-in-Err g c = record {
+  turn = λ start x ts h read.
+      let heard = c.in-Ok.ensures.hears x ts h in
+      stops-delivering start (g.F.Folder.state c.args.folder.now) (g.F.Folder.state c.deliver.new.folder) (named c.args.names.now) x ts
+      c.in-Ok.hearing.heard c.requires.apart h.behind.tells read heard.0.hears c.in-Err.ensures.only
+      (c.in-Err.ensures.err x ts c.in-Ok.hearing.heard heard.0);
+  script = c.in-Err.ensures.script ∙ c.in-Ok.ensures.script;
+  ready = λ same. is-stopped same;
+  nearer = λ same. is-stopped same;
+  only = c.in-Err.ensures.only;
+  counts = c.in-Err.ensures.fails;
+}
 
 pub hear-requires : goal.hear-requires
 hear-requires g c = c.requires.ready
@@ -377,22 +238,36 @@ deliver-requires g c = c.requires.apart
 pub read-requires : goal.read-requires
 read-requires g c = within-still c.args.self.now c.deliver.new.self c.requires.ready (c.in-Ok-deliver.ensures.at ∙ c.in-Ok.ensures.at)
 
-pub look-requires-clause-limits : goal.look-requires-clause-limits
-look-requires-clause-limits g c = subst IsInLimits
-    (sym (c.in-Ok-read.ensures.script ∙ c.in-Ok-deliver.ensures.script ∙ c.in-Ok.ensures.script)) c.requires.ready.limits
+pub look-requires : goal.look-requires
+look-requires g c = record {
+  limits =
+      subst IsInLimits
+      (sym (c.in-Ok-read.ensures.script ∙ c.in-Ok-deliver.ensures.script ∙ c.in-Ok.ensures.script)) c.requires.ready.limits;
+  orig = c.in-Ok-read.ensures.orig_few;
+  answ = c.in-Ok-read.ensures.answ_few;
+  stands =
+      let r0 = c.requires.ready in
+      let heard = c.in-Ok.ensures.hears r0.what r0.turns r0.after in
+      let turn = c.in-Ok-read.ensures.stands r0.what r0.turns c.in-Ok.hearing.heard
+      (c.in-Ok-deliver.ensures.stands r0.what r0.turns c.in-Ok.hearing.heard heard.0) in
+      (r0.what, r0.turns, c.in-Ok.hearing.heard, turn);
+}
 
-pub look-requires-clause-orig : goal.look-requires-clause-orig
-look-requires-clause-orig g c = c.in-Ok-read.ensures.orig_few
-
-pub look-requires-clause-answ : goal.look-requires-clause-answ
-look-requires-clause-answ g c = c.in-Ok-read.ensures.answ_few
-
-pub go_on-requires-clause-early : goal.go_on-requires-clause-early
-go_on-requires-clause-early g c =
-    early-still c.args.self.now c.look.new.self c.requires.ready
-    (c.in-Ok-look.ensures.turn ∙ c.in-Ok-read.ensures.turn ∙ c.in-Ok-deliver.ensures.turn ∙ c.in-Ok.ensures.turn)
-
-pub go_on-requires-clause-within : goal.go_on-requires-clause-within
-go_on-requires-clause-within g c =
-    within-still c.args.self.now c.look.new.self c.requires.ready
-    (c.in-Ok-look.ensures.at ∙ c.in-Ok-read.ensures.at ∙ c.in-Ok-deliver.ensures.at ∙ c.in-Ok.ensures.at)
+pub go_on-requires : goal.go_on-requires
+go_on-requires g c = record {
+  early =
+      early-still c.args.self.now c.look.new.self c.requires.ready
+      (c.in-Ok-look.ensures.turn ∙ c.in-Ok-read.ensures.turn ∙ c.in-Ok-deliver.ensures.turn ∙ c.in-Ok.ensures.turn);
+  within =
+      within-still c.args.self.now c.look.new.self c.requires.ready
+      (c.in-Ok-look.ensures.at ∙ c.in-Ok-read.ensures.at ∙ c.in-Ok-deliver.ensures.at ∙ c.in-Ok.ensures.at);
+  stands =
+      let r0 = c.requires.ready in
+      let x = r0.what in
+      let ts = r0.turns in
+      let heard = c.in-Ok.ensures.hears x ts r0.after in
+      let turn = c.in-Ok-read.ensures.stands x ts c.in-Ok.hearing.heard
+      (c.in-Ok-deliver.ensures.stands x ts c.in-Ok.hearing.heard heard.0) in
+      let go = going-on g (goal.at.go_on-requires g c).In-Ok-look x ts turn (so-heard c.hear.new.self x ts c.in-Ok.hearing heard) in
+      (now_of c.read.new.self x c.in-Ok-read.counts, ts, go);
+}

@@ -1,4 +1,4 @@
-use Rattle.std.proofs.Common.{◌+◌, length, refl, sym, ◌∙◌, ap, subst, Some, None, arith}
+use Rattle.std.proofs.Common.{◌+◌, length, refl, sym, ◌∙◌, ap, subst, Some, None, arith, rules}
 use Rattle.outside_calls.specs.Folder.{Appended, PartlyAppended}
 use Rattle.shared_terms.specs.declared.role.Role.TheVariants.{Originator, Answerer}
 use Rattle.noise_script.specs.Script.{ScriptValue, IsInLimits}
@@ -11,8 +11,7 @@ use Rattle.line_run.specs.Names.{written}
 use Rattle.line_world.specs.Mid.{served, turn_in}
 use Rattle.line_world.proofs.Hearing.{none-sent}
 use Rattle.line_world.proofs.Speaking.{SpokenTurn, GoingLaws, spoken_by, ends_of, spoken-turn, broken-turn, text-is, all-codable, put_by}
-use Rattle.line_world.proofs.Speaking.{are-put}
-use Rattle.line_world.proofs.Speaking.{goes-on, ends-so, counts-so, stops-so, adds-part}
+use Rattle.line_world.proofs.Speaking.{are-put, goes-on, ends-so, counts-so, stops-so, adds-part}
 use Rattle.line_world.proofs.modems.Modems.speak.Goals as goal
 
 -- the turn that both ends' words make
@@ -35,32 +34,6 @@ returns-in-Err-write_turn-clause-speaks g c = λ channel links streams files ts 
     stops-so channel f new n files ts ends c.args.heard.now mid c.in-Err-write_turn.fault c.in-Err-write_turn.ensures.write
     (adds-part channel f new n files ts ends c.args.heard.now mid sents Going o (ends_of t.orig t.answ, t.going, t.mid_is)
     (subst (PartlyAppended f new n.trace) text c.in-Err-write_turn.ensures.err))
-
-pub send-requires-in-Ok-clause-codable : goal.send-requires-in-Ok-clause-codable
-send-requires-in-Ok-clause-codable g c =
-    let w = c.requires.stands in
-    let channel = w.0 in
-    let v : ScriptValue = channel.script in
-    let files = w.3 in
-    let ts = w.4 in
-    let ends = w.5 in
-    let mid = w.6 in
-    let is = w.7 in
-    let h = w.8 in
-    let o = h.stands.overhears in
-    let t : SpokenTurn channel files ts ends c.args.heard.now mid c.in-Ok.sent.orig c.in-Ok.sent.answ c.speak.new.self =
-    spoken-turn channel files ts ends c.args.heard.now mid c.in-Ok.sent.orig c.in-Ok.sent.answ c.speak.new.self c.args.self.now.turn
-    h.stands.turn o h.going
-    (subst (λ x. SaysBoth c.speak.new.self files (link_of x files) c.args.self.now.turn (served v files (length ts) mid) c.in-Ok.sent.orig
-    c.in-Ok.sent.answ) (sym is.script_is) (c.in-Ok.ensures.speaks files (served v files (length ts) mid) h.stands.link)) in
-    all-codable c.slots_have_room.ensures.codable channel files ts ends c.args.heard.now mid c.in-Ok.sent.orig c.in-Ok.sent.answ
-    c.in-Ok.sent c.speak.new.self c.args.lines.now w.1 w.2 c.args.self.now.dlci c.checks-checks.result
-    (is.symbols_are ∙ ap (λ x. slot_symbols (longest_of x)) (sym is.script_is)) (subst IsInLimits (sym is.script_is) c.requires.limits) o t
-    w.9
-    c.in-Ok.ensures.orig_sendable c.in-Ok.ensures.answ_sendable
-    refl refl
-    (c.checks-checks.ensures files (ends_of t.orig t.answ) t.stands Originator)
-    (c.checks-checks.ensures files (ends_of t.orig t.answ) t.stands Answerer)
 
 pub link_fault-requires : goal.link_fault-requires
 link_fault-requires g c =
@@ -213,25 +186,47 @@ returns-in-Err-write_turn-2-clause-only g c = c.write_turn-in-Err.ensures.only
 pub returns-in-Err-write_turn-2-clause-counts : goal.returns-in-Err-write_turn-2-clause-counts
 returns-in-Err-write_turn-2-clause-counts g c = c.in-Err-write_turn-2.ensures.counts
 
-pub send-requires-clause-again : goal.send-requires-clause-again
-send-requires-clause-again g c = omega (arith, c.requires.few.again, c.requires.early)
+pub send-requires : goal.send-requires
+send-requires g c = record {
+  again = omega (arith, c.requires.few.again, c.requires.early);
+  orig = omega (arith, c.requires.few.orig, c.requires.early);
+  answ = omega (arith, c.requires.few.answ, c.requires.early);
+}
 
-pub send-requires-clause-orig : goal.send-requires-clause-orig
-send-requires-clause-orig g c = omega (arith, c.requires.few.orig, c.requires.early)
-
-pub send-requires-clause-answ : goal.send-requires-clause-answ
-send-requires-clause-answ g c = omega (arith, c.requires.few.answ, c.requires.early)
-
-pub send-requires-in-Ok-clause-orig_sendable : goal.send-requires-in-Ok-clause-orig_sendable
-send-requires-in-Ok-clause-orig_sendable g c = c.in-Ok.ensures.orig_sendable
-
-pub send-requires-in-Ok-clause-answ_sendable : goal.send-requires-in-Ok-clause-answ_sendable
-send-requires-in-Ok-clause-answ_sendable g c = c.in-Ok.ensures.answ_sendable
-
-pub send-requires-in-Ok-clause-room : goal.send-requires-in-Ok-clause-room
-send-requires-in-Ok-clause-room g c =
+pub send-requires-in-Ok : goal.send-requires-in-Ok
+send-requires-in-Ok g c =
     let w = c.requires.stands in
-    (w.0, w.1, w.2, w.9)
+    record {
+      channel = search rules;
+      orig_sendable = c.in-Ok.ensures.orig_sendable;
+      answ_sendable = c.in-Ok.ensures.answ_sendable;
+      codable =
+          let channel = w.0 in
+          let v : ScriptValue = channel.script in
+          let files = w.3 in
+          let ts = w.4 in
+          let ends = w.5 in
+          let mid = w.6 in
+          let is = w.7 in
+          let h = w.8 in
+          let o = h.stands.overhears in
+          let t : SpokenTurn channel files ts ends c.args.heard.now mid c.in-Ok.sent.orig c.in-Ok.sent.answ c.speak.new.self =
+          spoken-turn channel files ts ends c.args.heard.now mid c.in-Ok.sent.orig c.in-Ok.sent.answ c.speak.new.self c.args.self.now.turn
+          h.stands.turn o h.going
+          (subst (λ x. SaysBoth c.speak.new.self files (link_of x files) c.args.self.now.turn (served v files (length ts) mid)
+          c.in-Ok.sent.orig
+          c.in-Ok.sent.answ) (sym is.script_is) (c.in-Ok.ensures.speaks files (served v files (length ts) mid) h.stands.link)) in
+          all-codable c.slots_have_room.ensures.codable channel files ts ends c.args.heard.now mid c.in-Ok.sent.orig c.in-Ok.sent.answ
+          c.in-Ok.sent c.speak.new.self c.args.lines.now w.1 w.2 c.args.self.now.dlci c.checks-checks.result
+          (is.symbols_are ∙ ap (λ x. slot_symbols (longest_of x)) (sym is.script_is))
+          (subst IsInLimits (sym is.script_is) c.requires.limits) o t
+          w.9
+          c.in-Ok.ensures.orig_sendable c.in-Ok.ensures.answ_sendable
+          refl refl
+          (c.checks-checks.ensures files (ends_of t.orig t.answ) t.stands Originator)
+          (c.checks-checks.ensures files (ends_of t.orig t.answ) t.stands Answerer);
+      room = (w.0, w.1, w.2, w.9);
+    }
 
 pub overflow_add-self : goal.overflow_add-self
 overflow_add-self g c = omega (arith, c.requires.early)

@@ -1,11 +1,8 @@
-use Rattle.std.proofs.Common.{ℕ, Bool, List, ◌++◌, take, ap, sym, ◌∙◌, subst, arith, append-nil}
+use Rattle.std.proofs.Common.{ℕ, Bool, List, ◌++◌, take, ap, sym, ◌∙◌, subst, arith, append-nil, ◌≡◌}
 use Rattle.frame_check.specs.Bits.{octet_bits, bits_of}
-use Rattle.line_world.specs.OneEnd.Heard.{IsHeard, filled}
+use Rattle.line_world.specs.OneEnd.Heard.{IsHeard, filled, slot_octets}
 use Rattle.detection.specs.Ear.{HasHeard}
-use Rattle.line_world.proofs.OneEnd.Hearing.{append-again, slot-more}
-use Rattle.std.proofs.Common.{◌≡◌}
-use Rattle.line_world.specs.OneEnd.Heard.{slot_octets}
-use Rattle.line_world.proofs.OneEnd.Hearing.{slot-whole}
+use Rattle.line_world.proofs.OneEnd.Hearing.{append-again, slot-more, slot-whole}
 use Rattle.line_world.proofs.one_end.ear.hear_slot.Goals as goal
 
 pub loop-place-init : goal.loop-place-init
@@ -41,17 +38,15 @@ octet_at-requires-clause-short c = c.requires
 pub hear_octet-requires : goal.hear_octet-requires
 hear_octet-requires c = c.loop-place.invariant.numbers
 
-pub returns-clause-stands : goal.returns-clause-stands
-returns-clause-stands c = λ bits h.
+pub returns : goal.returns
+returns c =
     let all : c.loop-place.place ≡ slot_octets = omega (arith, c.loop-place-test.false, c.loop-place.auto.place-end) in
-    subst (λ (o : List ℕ). HasHeard c.loop-place.ear (bits ++ bits_of o))
-    (ap (λ n. take n (filled c.args.slot.now)) all ∙ slot-whole c.args.slot.now c.requires) (c.loop-place.invariant.stands bits h)
-
-pub returns-clause-heard : goal.returns-clause-heard
-returns-clause-heard c = λ bits h.
-    let all : c.loop-place.place ≡ slot_octets = omega (arith, c.loop-place-test.false, c.loop-place.auto.place-end) in
-    subst (λ (o : List ℕ). IsHeard c.args.peer bits (bits_of o) c.loop-place.heard)
-    (ap (λ n. take n (filled c.args.slot.now)) all ∙ slot-whole c.args.slot.now c.requires) (c.loop-place.invariant.heard bits h)
-
-pub returns-clause-numbers : goal.returns-clause-numbers
-returns-clause-numbers c = c.loop-place.invariant.numbers
+    record {
+      stands = λ bits h.
+          subst (λ (o : List ℕ). HasHeard c.loop-place.ear (bits ++ bits_of o))
+          (ap (λ n. take n (filled c.args.slot.now)) all ∙ slot-whole c.args.slot.now c.requires) (c.loop-place.invariant.stands bits h);
+      heard = λ bits h.
+          subst (λ (o : List ℕ). IsHeard c.args.peer bits (bits_of o) c.loop-place.heard)
+          (ap (λ n. take n (filled c.args.slot.now)) all ∙ slot-whole c.args.slot.now c.requires) (c.loop-place.invariant.heard bits h);
+      numbers = c.loop-place.invariant.numbers;
+    }

@@ -2,8 +2,7 @@ use Rattle.std.proofs.Common.{ℕ, List, arith, refl, sym, subst}
 use Rattle.outside_calls.specs.Folder.{FolderState, Appended, PartlyAppended, Rose}
 use Rattle.outside_calls.proofs.Steps.{CountsStand-refl, CountsStand-trans, FaultsStand-trans}
 use Rattle.line_world.specs.declared.station.Station.{Station}
-use Rattle.line_world.proofs.Handing.{handing-starts, handing-next, handing-ends, handing-stops, handed-segment, writes-on}
-use Rattle.line_world.proofs.Handing.{writes-none}
+use Rattle.line_world.proofs.Handing.{handing-starts, handing-next, handing-ends, handing-stops, handed-segment, writes-on, writes-none}
 use Rattle.line_world.proofs.Standing.{takes-on}
 use Rattle.line_world.proofs.Offering.{no-fault}
 use Rattle.line_world.proofs.station.Station.deliver.Goals as goal
@@ -39,7 +38,6 @@ returns-then-not-deliver-clause-ok g c = λ file a h.
 
 pub loop-segment-preserved : goal.loop-segment-preserved
 loop-segment-preserved g c =
-    let start : FolderState = g.F.Folder.state c.args.folder.now in
     let now : FolderState = g.F.Folder.state c.loop-segment.folder in
     let next : FolderState = g.F.Folder.state c.append.new.self in
     let name : List ℕ = c.args.name.now in
@@ -50,18 +48,17 @@ loop-segment-preserved g c =
           let i = old.hands file a h in
           let e = handed-segment c.loop-segment.self.end c.deliver.new.out i.after i.stands.end
           (c.if-not-deliver.ensures.answer i.after i.stands.end) c.if-not-deliver.ensures.segment in
-          handing-next start now next name c.deliver.new.out c.loop-segment.self _ file a old.only.goes_on i e
+          handing-next _ now next name c.deliver.new.out c.loop-segment.self _ file a old.only.goes_on i e
           (c.if-not-deliver.ensures.account i.after i.stands.end) refl put;
       takes = takes-on _ _ _ old.takes c.if-not-deliver.ensures.takes_nothing;
       breaks = old.breaks;
-      only = writes-on start now next name old.only c.in-Ok.ensures.only;
+      only = writes-on _ now next name old.only c.in-Ok.ensures.only;
       stand = CountsStand-trans old.stand c.in-Ok.ensures.stand;
       came = g.met.F.Folder.came_on _ _ _ old.came c.append.ensures.came;
     }
 
 pub returns-in-Err-clause-err : goal.returns-in-Err-clause-err
 returns-in-Err-clause-err g c = λ file a h.
-    let start : FolderState = g.F.Folder.state c.args.folder.now in
     let now : FolderState = g.F.Folder.state c.loop-segment.folder in
     let next : FolderState = g.F.Folder.state c.append.new.self in
     let name : List ℕ = c.args.name.now in
@@ -70,7 +67,7 @@ returns-in-Err-clause-err g c = λ file a h.
     let i = c.loop-segment.invariant.hands file a h in
     let e = handed-segment c.loop-segment.self.end c.deliver.new.out i.after i.stands.end
     (c.if-not-deliver.ensures.answer i.after i.stands.end) c.if-not-deliver.ensures.segment in
-    handing-stops start now next name c.deliver.new.out c.loop-segment.self file a c.loop-segment.invariant.only.goes_on i e part
+    handing-stops _ now next name c.deliver.new.out c.loop-segment.self file a c.loop-segment.invariant.only.goes_on i e part
 
 pub returns-in-Err-clause-only : goal.returns-in-Err-clause-only
 returns-in-Err-clause-only g c =

@@ -3,22 +3,20 @@ use Rattle.lapm_link.specs.Stands.{StandsFor, taken_of}
 use Rattle.line_world.proofs.Standing.{kept-heard, kept-counted, heard-gives-up}
 use Rattle.line_world.proofs.station.Station.hear.Goals as goal
 
-pub returns-clause-hears : goal.returns-clause-hears
-returns-clause-hears c = λ file a h.
-    kept-heard c.segments_are_offered_as_they_are_read.ensures.heard c.args.turn c.args.arrived.now file a
-    c.args.self.now c.keep_end.new.self c.hear-became.result c.keep_end.result h
-    (c.keep_end.ensures.breaks ∙ c.take_end.ensures.breaks) c.keep_end.ensures.kept
-    (c.hear-became.ensures.hears a (subst (λ e. StandsFor e a) (sym c.take_end.ensures.end) h.end))
-
-pub returns-clause-counted : goal.returns-clause-counted
-returns-clause-counted c =
-    kept-counted c.args.self.now c.keep_end.new.self c.args.turn c.hear-became.result c.keep_end.result
-    (c.keep_end.ensures.breaks ∙ c.take_end.ensures.breaks) c.keep_end.ensures.kept
-    (subst (λ before. IfOk c.hear-became.result (λ end. taken_of end ≤ taken_of before + 128)) c.take_end.ensures.end
-    c.hear-became.ensures.counted) c.requires.counted
-
-pub returns-clause-over : goal.returns-clause-over
-returns-clause-over c =
-    heard-gives-up c.args.turn c.args.arrived.now c.args.self.now c.keep_end.new.self c.hear-became.result c.keep_end.result
-    (c.keep_end.ensures.breaks ∙ c.take_end.ensures.breaks) c.keep_end.ensures.kept
-    (λ a h. c.hear-became.ensures.hears a (subst (λ e. StandsFor e a) (sym c.take_end.ensures.end) h))
+pub returns : goal.returns
+returns c = record {
+  hears = λ file a h.
+      kept-heard c.segments_are_offered_as_they_are_read.ensures.heard c.args.turn c.args.arrived.now file a
+      c.args.self.now c.keep_end.new.self c.hear-became.result c.keep_end.result h
+      (c.keep_end.ensures.breaks ∙ c.take_end.ensures.breaks) c.keep_end.ensures.kept
+      (c.hear-became.ensures.hears a (subst (λ e. StandsFor e a) (sym c.take_end.ensures.end) h.end));
+  counted =
+      kept-counted c.args.self.now c.keep_end.new.self c.args.turn c.hear-became.result c.keep_end.result
+      (c.keep_end.ensures.breaks ∙ c.take_end.ensures.breaks) c.keep_end.ensures.kept
+      (subst (λ before. IfOk c.hear-became.result (λ end. taken_of end ≤ taken_of before + 128)) c.take_end.ensures.end
+      c.hear-became.ensures.counted) c.requires.counted;
+  over =
+      heard-gives-up c.args.turn c.args.arrived.now c.args.self.now c.keep_end.new.self c.hear-became.result c.keep_end.result
+      (c.keep_end.ensures.breaks ∙ c.take_end.ensures.breaks) c.keep_end.ensures.kept
+      (λ a h. c.hear-became.ensures.hears a (subst (λ e. StandsFor e a) (sym c.take_end.ensures.end) h));
+}

@@ -1,13 +1,12 @@
-use Rattle.std.proofs.Common.{◌≡◌, ◌<◌, ◌^◌, ℕ, List, length, take, arith, refl, sym, ap, subst, ◌∙◌, Option}
+use Rattle.std.proofs.Common.{◌≡◌, ◌<◌, ◌^◌, ℕ, List, length, take, arith, refl, sym, ap, subst, ◌∙◌, Option, rules}
 use Rattle.std.proofs.lemmas.List.{length-take-le}
 use Rattle.std.specs.Option.{IsSomeAnd}
 use Rattle.outside_calls.specs.Folder.{FolderState, Rose}
 use Rattle.outside_calls.proofs.Steps.{OnlyReads-refl, OnlyReads-trans, CountsStand-refl, CountsStand-trans, FaultsStand-trans, told_later}
 use Rattle.outside_calls.proofs.Steps.{octets-kept}
 use Rattle.link_run.specs.End.{piece_at}
-use Rattle.line_world.proofs.Offering.{supplying-starts, supplying-next, supplying-ends, wants-within, as-err}
+use Rattle.line_world.proofs.Offering.{supplying-starts, supplying-next, supplying-ends, wants-within, as-err, no-fault}
 use Rattle.line_world.proofs.Standing.{idle-on, counted-on, takes-on}
-use Rattle.line_world.proofs.Offering.{no-fault}
 use Rattle.line_world.proofs.station.Station.supply.Goals as goal
 
 pub loop-number-init : goal.loop-number-init
@@ -87,37 +86,33 @@ loop-number-preserved g c =
       came = g.met.F.Folder.came_on _ _ _ old.came c.read_segment.ensures.came;
     }
 
-pub returns-in-Err-clause-only : goal.returns-in-Err-clause-only
-returns-in-Err-clause-only g c = OnlyReads-trans c.loop-number.invariant.only c.read_segment.ensures.only
-
-pub returns-in-Err-clause-spared : goal.returns-in-Err-clause-spared
-returns-in-Err-clause-spared g c = λ e. FaultsStand-trans c.loop-number.invariant.stand.faults
-    (c.in-Err.ensures.spared (as-err c.in-Err.fault _ e))
-
 pub returns-in-None-clause-idle : goal.returns-in-None-clause-idle
 returns-in-None-clause-idle g c = idle-on c.args.self.now _ c.loop-number.invariant.takes
 
 pub returns-in-None-clause-counted : goal.returns-in-None-clause-counted
 returns-in-None-clause-counted g c = counted-on c.args.self.now _ c.loop-number.invariant.takes c.loop-number.invariant.breaks
 
-pub returns-in-Err-clause-idle : goal.returns-in-Err-clause-idle
-returns-in-Err-clause-idle g c = idle-on c.args.self.now _ c.loop-number.invariant.takes
-
-pub returns-in-Err-clause-counted : goal.returns-in-Err-clause-counted
-returns-in-Err-clause-counted g c = counted-on c.args.self.now _ c.loop-number.invariant.takes c.loop-number.invariant.breaks
-
-pub returns-in-Err-clause-cause : goal.returns-in-Err-clause-cause
-returns-in-Err-clause-cause g c =
-    let next : FolderState = g.F.Folder.state c.read_segment.new.folder in
-    let stand = c.loop-number.invariant.stand in
-    record {
-      failed = λ e. subst (λ before. Rose before (next.read_faults c.args.name.now)) (stand.faults.reads c.args.name.now)
-          (c.in-Err.ensures.cause.failed (as-err c.in-Err.fault _ e));
-      memory = λ e. subst (λ before. Rose before next.refusals) stand.refusals (c.in-Err.ensures.cause.memory (as-err c.in-Err.fault _ e));
-    }
-
-pub returns-in-Err-clause-came : goal.returns-in-Err-clause-came
-returns-in-Err-clause-came g c = g.met.F.Folder.came_on _ _ _ c.loop-number.invariant.came c.read_segment.ensures.came
+pub returns-in-Err : goal.returns-in-Err
+returns-in-Err g c = record {
+  stands = search rules;
+  idle = idle-on c.args.self.now _ c.loop-number.invariant.takes;
+  counted = counted-on c.args.self.now _ c.loop-number.invariant.takes c.loop-number.invariant.breaks;
+  only = OnlyReads-trans c.loop-number.invariant.only c.read_segment.ensures.only;
+  cause =
+      let next : FolderState = g.F.Folder.state c.read_segment.new.folder in
+      let stand = c.loop-number.invariant.stand in
+      record {
+        failed = λ e. subst (λ before. Rose before (next.read_faults c.args.name.now)) (stand.faults.reads c.args.name.now)
+            (c.in-Err.ensures.cause.failed (as-err c.in-Err.fault _ e));
+        memory =
+            λ e. subst (λ before. Rose before next.refusals) stand.refusals (c.in-Err.ensures.cause.memory (as-err c.in-Err.fault _ e));
+      };
+  stand = search rules;
+  spared =
+      λ e. FaultsStand-trans c.loop-number.invariant.stand.faults
+      (c.in-Err.ensures.spared (as-err c.in-Err.fault _ e));
+  came = g.met.F.Folder.came_on _ _ _ c.loop-number.invariant.came c.read_segment.ensures.came;
+}
 
 pub returns-in-None-clause-cause : goal.returns-in-None-clause-cause
 returns-in-None-clause-cause g c = record { failed = λ e. no-fault e; memory = λ e. no-fault e }

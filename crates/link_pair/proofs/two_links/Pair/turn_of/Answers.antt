@@ -52,7 +52,7 @@ returns-in-Err-clause-comes g c =
     let new : FolderState = g.F.Folder.state c.turn.new.folder in
     let around : Leaves old new n m n = record { apart = c.requires.apart; only = c.turn.ensures.only } in
     let ready = subst (λ w. Awaits c.args.self.now old n m (which w)) c.in-First.is c.requires.ready in
-    fault-first laws c.args.self.now c.turn.new.self c.turn.new.lines old new n m ready c.in-Err.fault around c.in-Err.ensures.turn
+    fault-first laws c.args.self.now c.turn.new.self c.turn.new.lines old new n m ready around c.in-Err.fault c.in-Err.ensures.turn
 
 pub returns-in-Ok-clause-only : goal.returns-in-Ok-clause-only
 returns-in-Ok-clause-only g c = only-first _ _ (written c.args.names.now.first) (written c.args.names.now.second) c.turn.ensures.only
@@ -111,8 +111,8 @@ returns-in-Err-turn-clause-comes g c =
     let new : FolderState = g.F.Folder.state c.turn-in-Second.new.folder in
     let around : Leaves old new n m m = record { apart = c.requires.apart; only = c.turn-in-Second.ensures.only } in
     let ready = subst (λ w. Awaits c.args.self.now old n m (which w)) c.in-Second.is c.requires.ready in
-    fault-second laws c.args.self.now c.turn-in-Second.new.self c.turn-in-Second.new.lines old new n m ready c.in-Err-turn.fault around
-    c.in-Err-turn.ensures.turn
+    fault-second laws c.args.self.now c.turn-in-Second.new.self c.turn-in-Second.new.lines old new n m ready around
+    c.in-Err-turn.fault c.in-Err-turn.ensures.turn
 
 pub returns-in-Ok-turn-clause-only : goal.returns-in-Ok-turn-clause-only
 returns-in-Ok-turn-clause-only g c =
@@ -131,6 +131,5 @@ pub overflow_add-self : goal.overflow_add-self
 overflow_add-self g c =
     let n : Written = written c.args.names.now.first in
     let m : Written = written c.args.names.now.second in
-    let old : FolderState = g.F.Folder.state c.args.folder.now in
-    let few = few-rounds c.pairs_have_few_rounds.ensures c.args.self.now old n m (which c.args.link) c.requires.ready in
+    let few = few-rounds c.pairs_have_few_rounds.ensures c.args.self.now _ n m (which c.args.link) c.requires.ready in
     omega (arith, few)

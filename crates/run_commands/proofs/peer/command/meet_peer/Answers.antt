@@ -9,27 +9,6 @@ use Rattle.run_commands.proofs.Peering.Reaching.{bits-fail, file-fails}
 use Rattle.run_commands.proofs.Peering.Starting.{bits-refused, file-refused, refused-counts}
 use Rattle.run_commands.proofs.peer.command.meet_peer.Goals as goal
 
-pub returns-clause-ends : goal.returns-clause-ends
-returns-clause-ends g c =
-    let n : Names = named c.args.words.now in
-    let old : FolderState = g.F.Folder.state c.args.folder.now in
-    let mid : FolderState = g.F.Folder.state c.within_limit.new.folder in
-    c.run_single.ensures.ends old (record {
-      bits_within = c.in-Ok.ensures.within;
-      file_within = within-earlier old mid n.file FILE_LIMIT c.in-Ok.ensures.reads c.in-Ok-within_limit.ensures.within;
-      reads = OnlyReads-trans c.in-Ok.ensures.reads c.in-Ok-within_limit.ensures.reads;
-      stand = CountsStand-trans c.in-Ok.ensures.stand c.in-Ok-within_limit.ensures.stand;
-    })
-
-pub returns-clause-counts : goal.returns-clause-counts
-returns-clause-counts g c =
-    let n : Names = named c.args.words.now in
-    let old : FolderState = g.F.Folder.state c.args.folder.now in
-    let mid : FolderState = g.F.Folder.state c.within_limit-2.new.folder in
-    let new : FolderState = g.F.Folder.state c.run_single.new.folder in
-    end-earlier old mid new (inputs_of n) (outputs_of n) c.run_single.result
-    (CountsStand-trans c.in-Ok.ensures.stand c.in-Ok-within_limit.ensures.stand) c.run_single.ensures.counts
-
 -- ---- the bits are not taken
 
 pub returns-in-Err-clause-ends : goal.returns-in-Err-clause-ends
@@ -50,53 +29,59 @@ returns-in-Err-clause-counts g c =
 
 -- ---- the file is not taken
 
-pub returns-in-Err-within_limit-clause-ends : goal.returns-in-Err-within_limit-clause-ends
-returns-in-Err-within_limit-clause-ends g c =
-    file-refused (g.F.Folder.state c.args.folder.now) (g.F.Folder.state c.within_limit.new.folder)
-    (g.F.Folder.state c.within_limit-2.new.folder) (named c.args.words.now) c.in-Err-within_limit.stop c.in-Ok.ensures.reads
-    c.in-Ok.ensures.stand c.in-Err-within_limit.ensures.reads c.in-Ok.ensures.within c.in-Err-within_limit.ensures.refused
-
-pub returns-in-Err-within_limit-clause-only : goal.returns-in-Err-within_limit-clause-only
-returns-in-Err-within_limit-clause-only g c =
-    OnlyPuts-reads (g.F.Folder.state c.args.folder.now) (g.F.Folder.state c.within_limit-2.new.folder) (outputs_of (named c.args.words.now))
-    (OnlyReads-trans c.in-Ok.ensures.reads c.in-Err-within_limit.ensures.reads)
-
-pub returns-in-Err-within_limit-clause-counts : goal.returns-in-Err-within_limit-clause-counts
-returns-in-Err-within_limit-clause-counts g c =
-    let n : Names = named c.args.words.now in
-    let old : FolderState = g.F.Folder.state c.args.folder.now in
-    let mid : FolderState = g.F.Folder.state c.within_limit.new.folder in
-    let new : FolderState = g.F.Folder.state c.within_limit-2.new.folder in
-    stop-earlier old mid new (inputs_of n) (outputs_of n) c.in-Err-within_limit.stop c.in-Ok.ensures.stand
-    (refused-counts mid new n n.file 2 c.in-Err-within_limit.stop (file-fails mid new n) c.in-Err-within_limit.ensures.refused)
+pub returns-in-Err-within_limit : goal.returns-in-Err-within_limit
+returns-in-Err-within_limit g c = record {
+  ends =
+      file-refused (g.F.Folder.state c.args.folder.now) (g.F.Folder.state c.within_limit.new.folder)
+      (g.F.Folder.state c.within_limit-2.new.folder) (named c.args.words.now) c.in-Err-within_limit.stop c.in-Ok.ensures.reads
+      c.in-Ok.ensures.stand c.in-Err-within_limit.ensures.reads c.in-Ok.ensures.within c.in-Err-within_limit.ensures.refused;
+  only =
+      OnlyPuts-reads (g.F.Folder.state c.args.folder.now) (g.F.Folder.state c.within_limit-2.new.folder)
+      (outputs_of (named c.args.words.now))
+      (OnlyReads-trans c.in-Ok.ensures.reads c.in-Err-within_limit.ensures.reads);
+  counts =
+      let n : Names = named c.args.words.now in
+      let old : FolderState = g.F.Folder.state c.args.folder.now in
+      let mid : FolderState = g.F.Folder.state c.within_limit.new.folder in
+      let new : FolderState = g.F.Folder.state c.within_limit-2.new.folder in
+      stop-earlier old mid new (inputs_of n) (outputs_of n) c.in-Err-within_limit.stop c.in-Ok.ensures.stand
+      (refused-counts mid new n n.file 2 c.in-Err-within_limit.stop (file-fails mid new n) c.in-Err-within_limit.ensures.refused);
+}
 
 -- ---- there is no memory
 
-pub returns-in-Err-new-clause-ends : goal.returns-in-Err-new-clause-ends
-returns-in-Err-new-clause-ends g c =
+pub returns-in-Err-new : goal.returns-in-Err-new
+returns-in-Err-new g c = record {
+  ends =
+      let n : Names = named c.args.words.now in
+      let reads = OnlyReads-trans c.in-Ok.ensures.reads c.in-Ok-within_limit.ensures.reads in (
+        reads.names,
+        c.in-Ok.ensures.within,
+        within-earlier _ _ n.file FILE_LIMIT c.in-Ok.ensures.reads c.in-Ok-within_limit.ensures.within,
+      );
+  only =
+      OnlyPuts-reads (g.F.Folder.state c.args.folder.now) (g.F.Folder.state c.within_limit-2.new.folder)
+      (outputs_of (named c.args.words.now))
+      (OnlyReads-trans c.in-Ok.ensures.reads c.in-Ok-within_limit.ensures.reads);
+  counts = FaultsStand-trans c.in-Ok.ensures.stand.faults c.in-Ok-within_limit.ensures.stand.faults;
+}
+
+pub returns : goal.returns
+returns g c =
     let n : Names = named c.args.words.now in
-    let old : FolderState = g.F.Folder.state c.args.folder.now in
-    let mid : FolderState = g.F.Folder.state c.within_limit.new.folder in
-    let reads = OnlyReads-trans c.in-Ok.ensures.reads c.in-Ok-within_limit.ensures.reads in (
-      reads.names,
-      c.in-Ok.ensures.within,
-      within-earlier old mid n.file FILE_LIMIT c.in-Ok.ensures.reads c.in-Ok-within_limit.ensures.within,
-    )
-
-pub returns-in-Err-new-clause-only : goal.returns-in-Err-new-clause-only
-returns-in-Err-new-clause-only g c =
-    OnlyPuts-reads (g.F.Folder.state c.args.folder.now) (g.F.Folder.state c.within_limit-2.new.folder) (outputs_of (named c.args.words.now))
-    (OnlyReads-trans c.in-Ok.ensures.reads c.in-Ok-within_limit.ensures.reads)
-
-pub returns-in-Err-new-clause-counts : goal.returns-in-Err-new-clause-counts
-returns-in-Err-new-clause-counts g c = FaultsStand-trans c.in-Ok.ensures.stand.faults c.in-Ok-within_limit.ensures.stand.faults
-
-pub returns-clause-only : goal.returns-clause-only
-returns-clause-only g c =
-    let n : Names = named c.args.words.now in
-    let old : FolderState = g.F.Folder.state c.args.folder.now in
-    let mid : FolderState = g.F.Folder.state c.within_limit-2.new.folder in
-    let new : FolderState = g.F.Folder.state c.run_single.new.folder in
-    OnlyPuts-trans old mid new (outputs_of n)
-    (OnlyPuts-reads old mid (outputs_of n) (OnlyReads-trans c.in-Ok.ensures.reads c.in-Ok-within_limit.ensures.reads))
-    c.run_single.ensures.only
+    record {
+      ends =
+          c.run_single.ensures.ends _ (record {
+            bits_within = c.in-Ok.ensures.within;
+            file_within = within-earlier _ _ n.file FILE_LIMIT c.in-Ok.ensures.reads c.in-Ok-within_limit.ensures.within;
+            reads = OnlyReads-trans c.in-Ok.ensures.reads c.in-Ok-within_limit.ensures.reads;
+            stand = CountsStand-trans c.in-Ok.ensures.stand c.in-Ok-within_limit.ensures.stand;
+          });
+      only =
+          OnlyPuts-trans _ _ _ (outputs_of n)
+          (OnlyPuts-reads _ _ (outputs_of n) (OnlyReads-trans c.in-Ok.ensures.reads c.in-Ok-within_limit.ensures.reads))
+          c.run_single.ensures.only;
+      counts =
+          end-earlier _ _ _ (inputs_of n) (outputs_of n) c.run_single.result
+          (CountsStand-trans c.in-Ok.ensures.stand c.in-Ok-within_limit.ensures.stand) c.run_single.ensures.counts;
+    }

@@ -1,5 +1,4 @@
 use Rattle.std.proofs.Common.{◌∙◌, [], sym, subst}
-use Rattle.outside_calls.specs.Folder.{FolderState}
 use Rattle.noise_script.specs.Script.{ScriptValue}
 use Rattle.link_run.specs.Run.{start}
 use Rattle.line_run.specs.Scripted.{link_of}
@@ -12,14 +11,6 @@ use Rattle.run_commands.specs.Running.Ends.{IsBegun}
 use Rattle.run_commands.proofs.Running.Runs.{ends-refused}
 use Rattle.run_commands.proofs.run.command.run_to_end.Goals as goal
 
-pub returns-in-Err-clause-ends : goal.returns-in-Err-clause-ends
-returns-in-Err-clause-ends g c =
-    ends-refused LIMITS (g.F.Folder.state c.args.folder.now) (g.F.Folder.state c.open_inputs.new.folder)
-    (named c.args.words.now) c.in-Err.stop c.in-Err.ensures.reads c.in-Err.ensures.refused
-
-pub returns-in-Err-clause-counts : goal.returns-in-Err-clause-counts
-returns-in-Err-clause-counts g c = c.in-Err.ensures.counts (outputs_of (named c.args.words.now))
-
 pub returns-in-Err-new-clause-counts : goal.returns-in-Err-new-clause-counts
 returns-in-Err-new-clause-counts g c = let counts = c.in-Ok.ensures.counts (outputs_of (named c.args.words.now)) in counts.faults
 
@@ -28,38 +19,15 @@ run_world-requires-clause-first g c = λ files.
     subst (λ (s : ScriptValue). WorldAfter c.in-Ok-new.world files [] (start (link_of s files))) (sym c.in-Ok-new.ensures.script)
     (c.in-Ok-new.ensures.world files)
 
-pub returns-clause-ends : goal.returns-clause-ends
-returns-clause-ends g c =
-    let old : FolderState = g.F.Folder.state c.args.folder.now in
-    let mid : FolderState = g.F.Folder.state c.open_inputs.new.folder in
-    c.run_world.ensures.ends old
-    (subst (IsBegun LIMITS old mid (named c.args.words.now)) (sym c.in-Ok-new.ensures.script)
-    (record {
-      opens = c.in-Ok.ensures.opened;
-      limits = c.is_in_limits.ensures;
-      reads = c.in-Ok.ensures.reads;
-      stand = c.in-Ok.ensures.counts (outputs_of (named c.args.words.now));
-    }))
-
-pub returns-clause-only : goal.returns-clause-only
-returns-clause-only g c =
-    let n : RunNames = named c.args.words.now in
-    OnlyOutputs-trans (outputs_of n) (OnlyOutputs-reads (outputs_of n) c.in-Ok.ensures.reads) c.run_world.ensures.only
-
-pub returns-clause-counts : goal.returns-clause-counts
-returns-clause-counts g c =
-    let old : FolderState = g.F.Folder.state c.args.folder.now in
-    let mid : FolderState = g.F.Folder.state c.open_inputs.new.folder in
-    let next : FolderState = g.F.Folder.state c.run_world.new.folder in
-    let n : RunNames = named c.args.words.now in
-    end-earlier old mid next (inputs_of n) (outputs_of n) c.run_world.result
-    (c.in-Ok.ensures.counts (outputs_of n)) c.run_world.ensures.counts
-
-pub returns-in-Err-clause-only : goal.returns-in-Err-clause-only
-returns-in-Err-clause-only g c = OnlyOutputs-reads (outputs_of (named c.args.words.now)) c.in-Err.ensures.reads
-
-pub returns-in-Err-clause-said : goal.returns-in-Err-clause-said
-returns-in-Err-clause-said g c = c.in-Err.ensures.reads.said
+pub returns-in-Err : goal.returns-in-Err
+returns-in-Err g c = record {
+  ends =
+      ends-refused LIMITS (g.F.Folder.state c.args.folder.now) (g.F.Folder.state c.open_inputs.new.folder)
+      (named c.args.words.now) c.in-Err.stop c.in-Err.ensures.reads c.in-Err.ensures.refused;
+  only = OnlyOutputs-reads (outputs_of (named c.args.words.now)) c.in-Err.ensures.reads;
+  said = c.in-Err.ensures.reads.said;
+  counts = c.in-Err.ensures.counts (outputs_of (named c.args.words.now));
+}
 
 pub returns-in-Err-new-clause-only : goal.returns-in-Err-new-clause-only
 returns-in-Err-new-clause-only g c = OnlyOutputs-reads (outputs_of (named c.args.words.now)) c.in-Ok.ensures.reads
@@ -67,5 +35,22 @@ returns-in-Err-new-clause-only g c = OnlyOutputs-reads (outputs_of (named c.args
 pub returns-in-Err-new-clause-said : goal.returns-in-Err-new-clause-said
 returns-in-Err-new-clause-said g c = c.in-Ok.ensures.reads.said
 
-pub returns-clause-said : goal.returns-clause-said
-returns-clause-said g c = c.run_world.ensures.said ∙ c.in-Ok.ensures.reads.said
+pub returns : goal.returns
+returns g c =
+    let n : RunNames = named c.args.words.now in
+    record {
+      ends =
+          c.run_world.ensures.ends _
+          (subst (IsBegun LIMITS _ _ (named c.args.words.now)) (sym c.in-Ok-new.ensures.script)
+          (record {
+            opens = c.in-Ok.ensures.opened;
+            limits = c.is_in_limits.ensures;
+            reads = c.in-Ok.ensures.reads;
+            stand = c.in-Ok.ensures.counts (outputs_of (named c.args.words.now));
+          }));
+      only = OnlyOutputs-trans (outputs_of n) (OnlyOutputs-reads (outputs_of n) c.in-Ok.ensures.reads) c.run_world.ensures.only;
+      said = c.run_world.ensures.said ∙ c.in-Ok.ensures.reads.said;
+      counts =
+          end-earlier _ _ _ (inputs_of n) (outputs_of n) c.run_world.result
+          (c.in-Ok.ensures.counts (outputs_of n)) c.run_world.ensures.counts;
+    }

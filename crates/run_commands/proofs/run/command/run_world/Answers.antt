@@ -1,4 +1,4 @@
-use Rattle.std.proofs.Common.{inl, inr, ◌++◌, sym, subst}
+use Rattle.std.proofs.Common.{inl, inr, ◌++◌, sym, subst, rules}
 use Rattle.outside_calls.specs.Folder.{FolderState}
 use Rattle.outside_calls.proofs.Steps.{CountsStand-trans}
 use Rattle.noise_script.specs.Script.{ScriptValue}
@@ -21,12 +21,10 @@ use Rattle.run_commands.proofs.run.command.run_world.Goals as goal
 
 pub returns-in-Err-clause-ends : goal.returns-in-Err-clause-ends
 returns-in-Err-clause-ends g c = λ begin b.
-    let mid : FolderState = g.F.Folder.state c.args.folder.now in
-    let now : FolderState = g.F.Folder.state c.make_outputs.new.folder in
     let n : RunNames = named c.args.words.now in
     elim c.in-Err.ensures.err [
-      | inl part ↦ inl (ends-creating LIMITS begin mid now n (script_of c.args.world.now) b part)
-      | inr (created, heads) ↦ inr (inl (ends-heading LIMITS begin mid now n (script_of c.args.world.now) b created heads))
+      | inl part ↦ inl (ends-creating LIMITS begin _ _ n (script_of c.args.world.now) b part)
+      | inr (created, heads) ↦ inr (inl (ends-heading LIMITS begin _ _ n (script_of c.args.world.now) b created heads))
     ]
 
 pub run_turns-requires-clause-apart : goal.run_turns-requires-clause-apart
@@ -40,31 +38,8 @@ run_turns-requires-clause-apart g c =
 pub run_turns-requires-clause-created : goal.run_turns-requires-clause-created
 run_turns-requires-clause-created g c = c.in-Ok.ensures.created
 
-pub returns-in-Ok-run_turns-clause-ends : goal.returns-in-Ok-run_turns-clause-ends
-returns-in-Ok-run_turns-clause-ends g c = λ begin b.
-    let mid : FolderState = g.F.Folder.state c.args.folder.now in
-    let now : FolderState = g.F.Folder.state c.make_outputs.new.folder in
-    let next : FolderState = g.F.Folder.state c.run_turns.new.folder in
-    let n : RunNames = named c.args.words.now in
-    let script : ScriptValue = script_of c.args.world.now in
-    let end = runs.IsDone c.in-Ok-run_turns.turn in
-    let turns : OnlyPuts now next (outputs_of n) =
-    (subst (λ (tapes : Tapes). OnlyPuts now next (written.outputs_of n.names ++ tapes_of tapes)) c.in-Ok.ensures.ok.0
-    c.in-Ok-run_turns.ensures.only) in
-    ran-to begin mid now next n script end (record {
-      begun = b;
-      creates = c.in-Ok.ensures.only;
-      turns = turns;
-      apart = (apart-names n (c.apart_names_differ.ensures.outputs (inputs_of n) (outputs_of n) c.requires.apart)
-          (c.apart_names_differ.ensures.inputs (inputs_of n) (outputs_of n) c.requires.apart)).1;
-      stand = c.in-Ok.ensures.stand;
-    })
-    (subst (λ (tapes : Tapes). RunEnds script next n.names tapes end) c.in-Ok.ensures.ok.0
-    c.in-Ok-run_turns.ensures.run)
-
-pub returns-in-Ok-run_turns-clause-only : goal.returns-in-Ok-run_turns-clause-only
-returns-in-Ok-run_turns-clause-only g c =
-    let mid : FolderState = g.F.Folder.state c.args.folder.now in
+pub returns-in-Ok-run_turns : goal.returns-in-Ok-run_turns
+returns-in-Ok-run_turns g c =
     let now : FolderState = g.F.Folder.state c.make_outputs.new.folder in
     let next : FolderState = g.F.Folder.state c.run_turns.new.folder in
     let n : RunNames = named c.args.words.now in
@@ -72,14 +47,26 @@ returns-in-Ok-run_turns-clause-only g c =
     let turns : OnlyPuts now next (outputs_of n) =
     (subst (λ (tapes : Tapes). OnlyPuts now next (written.outputs_of n.names ++ tapes_of tapes)) c.in-Ok.ensures.ok.0
     c.in-Ok-run_turns.ensures.only) in
-    OnlyOutputs-trans (outputs_of n) c.in-Ok.ensures.only (OnlyOutputs-puts (outputs_of n) turns)
+    record {
+      ends = λ begin b.
+          let end = runs.IsDone c.in-Ok-run_turns.turn in
+          ran-to begin _ now next n script end (record {
+            begun = b;
+            creates = c.in-Ok.ensures.only;
+            turns = turns;
+            apart = (apart-names n (c.apart_names_differ.ensures.outputs (inputs_of n) (outputs_of n) c.requires.apart)
+                (c.apart_names_differ.ensures.inputs (inputs_of n) (outputs_of n) c.requires.apart)).1;
+            stand = c.in-Ok.ensures.stand;
+          })
+          (subst (λ (tapes : Tapes). RunEnds script next n.names tapes end) c.in-Ok.ensures.ok.0
+          c.in-Ok-run_turns.ensures.run);
+      only = OnlyOutputs-trans (outputs_of n) c.in-Ok.ensures.only (OnlyOutputs-puts (outputs_of n) turns);
+      said = search rules;
+      counts = CountsStand-trans c.in-Ok.ensures.stand c.in-Ok-run_turns.ensures.counts;
+    }
 
-pub returns-in-Ok-run_turns-clause-counts : goal.returns-in-Ok-run_turns-clause-counts
-returns-in-Ok-run_turns-clause-counts g c = CountsStand-trans c.in-Ok.ensures.stand c.in-Ok-run_turns.ensures.counts
-
-pub returns-in-Err-run_turns-clause-ends : goal.returns-in-Err-run_turns-clause-ends
-returns-in-Err-run_turns-clause-ends g c = λ begin b.
-    let mid : FolderState = g.F.Folder.state c.args.folder.now in
+pub returns-in-Err-run_turns : goal.returns-in-Err-run_turns
+returns-in-Err-run_turns g c =
     let now : FolderState = g.F.Folder.state c.make_outputs.new.folder in
     let next : FolderState = g.F.Folder.state c.run_turns.new.folder in
     let n : RunNames = named c.args.words.now in
@@ -88,44 +75,29 @@ returns-in-Err-run_turns-clause-ends g c = λ begin b.
     let turns : OnlyPuts now next (outputs_of n) =
     (subst (λ (tapes : Tapes). OnlyPuts now next (written.outputs_of n.names ++ tapes_of tapes)) c.in-Ok.ensures.ok.0
     c.in-Err-run_turns.ensures.only) in
-    subst (EndsBy LIMITS begin next n) (sym c.stop_of.ensures)
-    (ends-in-turn c.line_runs_end_soon.ensures.soon begin mid now next n script fault (record {
-      begun = b;
-      creates = c.in-Ok.ensures.only;
-      turns = turns;
-      apart = (apart-names n (c.apart_names_differ.ensures.outputs (inputs_of n) (outputs_of n) c.requires.apart)
-          (c.apart_names_differ.ensures.inputs (inputs_of n) (outputs_of n) c.requires.apart)).1;
-      stand = c.in-Ok.ensures.stand;
-    })
-    (subst (λ (tapes : Tapes). FaultCountsOver now next (written.inputs_of n.names) (written.outputs_of n.names ++ tapes_of tapes) fault)
-    c.in-Ok.ensures.ok.0
-    c.in-Err-run_turns.ensures.counts)
-    (subst (λ (tapes : Tapes). FaultEnds script next n.names tapes fault) c.in-Ok.ensures.ok.0
-    c.in-Err-run_turns.ensures.run))
-
-pub returns-in-Err-run_turns-clause-only : goal.returns-in-Err-run_turns-clause-only
-returns-in-Err-run_turns-clause-only g c =
-    let mid : FolderState = g.F.Folder.state c.args.folder.now in
-    let now : FolderState = g.F.Folder.state c.make_outputs.new.folder in
-    let next : FolderState = g.F.Folder.state c.run_turns.new.folder in
-    let n : RunNames = named c.args.words.now in
-    let script : ScriptValue = script_of c.args.world.now in
-    let turns : OnlyPuts now next (outputs_of n) =
-    (subst (λ (tapes : Tapes). OnlyPuts now next (written.outputs_of n.names ++ tapes_of tapes)) c.in-Ok.ensures.ok.0
-    c.in-Err-run_turns.ensures.only) in
-    OnlyOutputs-trans (outputs_of n) c.in-Ok.ensures.only (OnlyOutputs-puts (outputs_of n) turns)
-
-pub returns-in-Err-run_turns-clause-counts : goal.returns-in-Err-run_turns-clause-counts
-returns-in-Err-run_turns-clause-counts g c =
-    let mid : FolderState = g.F.Folder.state c.args.folder.now in
-    let now : FolderState = g.F.Folder.state c.make_outputs.new.folder in
-    let next : FolderState = g.F.Folder.state c.run_turns.new.folder in
-    let n : RunNames = named c.args.words.now in
-    let script : ScriptValue = script_of c.args.world.now in
-    let fault = c.in-Err-run_turns.fault in
-    subst (StopCounts mid next (inputs_of n) (outputs_of n)) (sym c.stop_of.ensures)
-    (stop-earlier mid now next (inputs_of n) (outputs_of n) _ c.in-Ok.ensures.stand
-    (turn-counts now next n fault
-    (subst (λ (tapes : Tapes). FaultCountsOver now next (written.inputs_of n.names) (written.outputs_of n.names ++ tapes_of tapes) fault)
-    c.in-Ok.ensures.ok.0
-    c.in-Err-run_turns.ensures.counts)))
+    record {
+      ends = λ begin b.
+          subst (EndsBy LIMITS begin next n) (sym c.stop_of.ensures)
+          (ends-in-turn c.line_runs_end_soon.ensures.soon begin _ now next n script fault (record {
+            begun = b;
+            creates = c.in-Ok.ensures.only;
+            turns = turns;
+            apart = (apart-names n (c.apart_names_differ.ensures.outputs (inputs_of n) (outputs_of n) c.requires.apart)
+                (c.apart_names_differ.ensures.inputs (inputs_of n) (outputs_of n) c.requires.apart)).1;
+            stand = c.in-Ok.ensures.stand;
+          })
+          (subst (λ (tapes : Tapes). FaultCountsOver now next (written.inputs_of n.names) (written.outputs_of n.names ++ tapes_of tapes)
+          fault) c.in-Ok.ensures.ok.0
+          c.in-Err-run_turns.ensures.counts)
+          (subst (λ (tapes : Tapes). FaultEnds script next n.names tapes fault) c.in-Ok.ensures.ok.0
+          c.in-Err-run_turns.ensures.run));
+      only = OnlyOutputs-trans (outputs_of n) c.in-Ok.ensures.only (OnlyOutputs-puts (outputs_of n) turns);
+      said = search rules;
+      counts =
+          subst (StopCounts _ next (inputs_of n) (outputs_of n)) (sym c.stop_of.ensures)
+          (stop-earlier _ now next (inputs_of n) (outputs_of n) _ c.in-Ok.ensures.stand
+          (turn-counts now next n fault
+          (subst (λ (tapes : Tapes). FaultCountsOver now next (written.inputs_of n.names) (written.outputs_of n.names ++ tapes_of tapes)
+          fault) c.in-Ok.ensures.ok.0
+          c.in-Err-run_turns.ensures.counts)));
+    }

@@ -1,4 +1,4 @@
-use Rattle.std.proofs.Common.{◌∙◌, inl, inr}
+use Rattle.std.proofs.Common.{◌∙◌, inl, inr, rules}
 use Rattle.outside_calls.specs.Folder.{FolderState}
 use Rattle.outside_calls.proofs.Steps.{CountsStand-trans}
 use Rattle.line_run.specs.Recorded.{tapes_of}
@@ -9,19 +9,6 @@ use Rattle.run_commands.proofs.run.outputs.make_outputs.Goals as goal
 
 pub returns-in-Err-clause-err : goal.returns-in-Err-clause-err
 returns-in-Err-clause-err g c = inl c.in-Err.ensures.err
-
-pub returns-in-Ok-begin_tapes-clause-created : goal.returns-in-Ok-begin_tapes-clause-created
-returns-in-Ok-begin_tapes-clause-created g c =
-    let now : FolderState = g.F.Folder.state c.create_all.new.folder in
-    let next : FolderState = g.F.Folder.state c.begin_tapes.new.folder in
-    let n : RunNames = named c.args.words.now in
-    creates-kept now next (texts_of n) c.in-Ok-begin_tapes.ensures.only.goes_on
-    (keeps-front now next (texts_of n) (tapes_of n.tapes) (c.apart_names_differ.ensures.outputs (inputs_of n) (outputs_of n) c.requires)
-    (record {
-      goes_on = c.in-Ok-begin_tapes.ensures.only.goes_on;
-      names = c.in-Ok-begin_tapes.ensures.only.names;
-      said = c.in-Ok-begin_tapes.ensures.said;
-    })) (creates-front now n c.in-Ok.ensures.ok)
 
 pub returns-in-Err-begin_tapes-clause-err : goal.returns-in-Err-begin_tapes-clause-err
 returns-in-Err-begin_tapes-clause-err g c =
@@ -58,19 +45,28 @@ returns-in-Err-clause-said g c = c.in-Err.ensures.said
 pub returns-in-Err-clause-fails : goal.returns-in-Err-clause-fails
 returns-in-Err-clause-fails g c = c.in-Err.ensures.fails
 
-pub returns-in-Ok-begin_tapes-clause-ok : goal.returns-in-Ok-begin_tapes-clause-ok
-returns-in-Ok-begin_tapes-clause-ok g c = c.in-Ok-begin_tapes.ensures.ok
-
-pub returns-in-Ok-begin_tapes-clause-only : goal.returns-in-Ok-begin_tapes-clause-only
-returns-in-Ok-begin_tapes-clause-only g c =
-    touches-tapes (g.F.Folder.state c.args.folder.now) (g.F.Folder.state c.create_all.new.folder)
-    (g.F.Folder.state c.begin_tapes.new.folder) (named c.args.words.now) c.in-Ok.ensures.only c.in-Ok-begin_tapes.ensures.only
-
-pub returns-in-Ok-begin_tapes-clause-said : goal.returns-in-Ok-begin_tapes-clause-said
-returns-in-Ok-begin_tapes-clause-said g c = c.in-Ok-begin_tapes.ensures.said ∙ c.in-Ok.ensures.said
-
-pub returns-in-Ok-begin_tapes-clause-stand : goal.returns-in-Ok-begin_tapes-clause-stand
-returns-in-Ok-begin_tapes-clause-stand g c = CountsStand-trans c.in-Ok.ensures.stand c.in-Ok-begin_tapes.ensures.stand
+pub returns-in-Ok-begin_tapes : goal.returns-in-Ok-begin_tapes
+returns-in-Ok-begin_tapes g c = record {
+  ok = c.in-Ok-begin_tapes.ensures.ok;
+  created =
+      let now : FolderState = g.F.Folder.state c.create_all.new.folder in
+      let next : FolderState = g.F.Folder.state c.begin_tapes.new.folder in
+      let n : RunNames = named c.args.words.now in
+      creates-kept now next (texts_of n) c.in-Ok-begin_tapes.ensures.only.goes_on
+      (keeps-front now next (texts_of n) (tapes_of n.tapes) (c.apart_names_differ.ensures.outputs (inputs_of n) (outputs_of n) c.requires)
+      (record {
+        goes_on = c.in-Ok-begin_tapes.ensures.only.goes_on;
+        names = c.in-Ok-begin_tapes.ensures.only.names;
+        said = c.in-Ok-begin_tapes.ensures.said;
+      })) (creates-front now n c.in-Ok.ensures.ok);
+  err = search rules;
+  only =
+      touches-tapes (g.F.Folder.state c.args.folder.now) (g.F.Folder.state c.create_all.new.folder)
+      (g.F.Folder.state c.begin_tapes.new.folder) (named c.args.words.now) c.in-Ok.ensures.only c.in-Ok-begin_tapes.ensures.only;
+  said = c.in-Ok-begin_tapes.ensures.said ∙ c.in-Ok.ensures.said;
+  stand = CountsStand-trans c.in-Ok.ensures.stand c.in-Ok-begin_tapes.ensures.stand;
+  fails = search rules;
+}
 
 pub returns-in-Err-begin_tapes-clause-only : goal.returns-in-Err-begin_tapes-clause-only
 returns-in-Err-begin_tapes-clause-only g c =

@@ -1,6 +1,5 @@
 use Rattle.std.proofs.Common.{ℕ, Ok, Err, sym, subst}
-use Rattle.outside_calls.specs.Outputs.{Creates}
-use Rattle.outside_calls.specs.Outputs.{AreApartFrom}
+use Rattle.outside_calls.specs.Outputs.{Creates, AreApartFrom}
 use Rattle.program_folders.specs.Sure.{sure_folder}
 use Rattle.line_run.specs.Names.{Written, inputs_of, outputs_of, written}
 use Rattle.line_world.specs.World.{script_of, lost_of, again_of}

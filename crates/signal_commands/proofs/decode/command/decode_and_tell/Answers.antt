@@ -1,5 +1,4 @@
 use Rattle.std.proofs.Common.{◌∙◌, Err}
-use Rattle.outside_calls.specs.Folder.{FolderState}
 use Rattle.command_base.proofs.Jobs.{answers-done, answers-stopped}
 use Rattle.outside_calls.proofs.OnlyOutputs.{OnlyOutputs-one}
 use Rattle.signal_commands.specs.Decoding.Words.{DecodeNames, named}
@@ -8,15 +7,13 @@ use Rattle.signal_commands.proofs.decode.command.decode_and_tell.Goals as goal
 
 pub returns-in-Ok : goal.returns-in-Ok
 returns-in-Ok g c =
-    let before : FolderState = g.F.Folder.state c.decode_recording.new.folder in
     let n : DecodeNames = named c.args.names.now in
-    answers-done _ _ _ before _ c.in-Ok.octets _ _ (c.in-Ok.ensures.ends, c.in-Ok.ensures.only.said) (OnlyOutputs-one n.file
+    answers-done _ _ _ _ _ c.in-Ok.octets _ _ (c.in-Ok.ensures.ends, c.in-Ok.ensures.only.said) (OnlyOutputs-one n.file
     c.in-Ok.ensures.only) c.in-Ok.ensures.counts (c.as_slice.ensures.items ∙ c.octets_line.ensures) c.tell.ensures
 
 pub returns-in-Err : goal.returns-in-Err
 returns-in-Err g c =
-    let before : FolderState = g.F.Folder.state c.decode_recording.new.folder in
     let n : DecodeNames = named c.args.names.now in
-    answers-stopped _ _ _ before _ c.in-Err.stop _ (c.in-Err.ensures.ends, c.in-Err.ensures.only.said) (OnlyOutputs-one n.file
-    c.in-Err.ensures.only) (refused-by (g.F.Folder.state c.args.folder.now) before n (Err c.in-Err.stop) c.in-Err.ensures.ends)
+    answers-stopped _ _ _ _ _ c.in-Err.stop _ (c.in-Err.ensures.ends, c.in-Err.ensures.only.said) (OnlyOutputs-one n.file
+    c.in-Err.ensures.only) (refused-by (g.F.Folder.state c.args.folder.now) _ n (Err c.in-Err.stop) c.in-Err.ensures.ends)
     c.in-Err.ensures.counts c.tell_stop.ensures

@@ -3,20 +3,14 @@ use Rattle.signal_commands.specs.declared.decode.octet_joiner.Bits.{Bits}
 use Rattle.signal_commands.proofs.Decoding.Joined.{above, not-wrapped}
 use Rattle.signal_commands.proofs.decode.octet_joiner.joined.Goals as goal
 
-pub returns-clause-bits : goal.returns-clause-bits
-returns-clause-bits c =
+pub returns : goal.returns
+returns c =
     let low : Bits = c.args.low in
     let high : Bits = c.args.high in
     let one : c.from.result ≡ c.args.low.number = search rules in
     let two : c.from-2.result ≡ c.args.high.number = search rules in
     let room = not-wrapped low.count high.count low.number high.number c.requires.count c.requires.few.0 c.requires.low c.requires.few.1 in
-    rw (one, two, room) (above low.count high.count low.number high.number c.requires.low c.requires.few.1).bits
-
-pub returns-clause-small : goal.returns-clause-small
-returns-clause-small c =
-    let low : Bits = c.args.low in
-    let high : Bits = c.args.high in
-    let one : c.from.result ≡ c.args.low.number = search rules in
-    let two : c.from-2.result ≡ c.args.high.number = search rules in
-    let room = not-wrapped low.count high.count low.number high.number c.requires.count c.requires.few.0 c.requires.low c.requires.few.1 in
-    rw (one, two, room) (above low.count high.count low.number high.number c.requires.low c.requires.few.1).small
+    record {
+      bits = rw (one, two, room) (above low.count high.count low.number high.number c.requires.low c.requires.few.1).bits;
+      small = rw (one, two, room) (above low.count high.count low.number high.number c.requires.low c.requires.few.1).small;
+    }

@@ -8,16 +8,6 @@ use Rattle.signal_commands.specs.Encoding.Ends.{WritesAll}
 use Rattle.signal_commands.proofs.Encoding.Making.{header-part, recorded-none}
 use Rattle.signal_commands.proofs.encode.recording.record_file.Goals as goal
 
-pub returns-in-Err-clause-ends : goal.returns-in-Err-clause-ends
-returns-in-Err-clause-ends g c = λ start b.
-    let old : FolderState = g.F.Folder.state c.args.folder.now in let new : FolderState = g.F.Folder.state c.append_output.new.folder in
-    let n : EncodeNames = named c.args.names.now in (
-      b.within,
-      header-part start old new n b c.in-Err.ensures.only
-          (subst (λ (xs : List ℕ). PartlyAppended old new n.rec xs) (c.as_slice.ensures.items
-          ∙ c.header_octets.ensures) c.in-Err.ensures.err),
-    )
-
 pub loop-count-init : goal.loop-count-init
 loop-count-init g c =
     let old : FolderState = g.F.Folder.state c.args.folder.now in
@@ -48,33 +38,35 @@ record_next-requires-clause-apart g c = c.requires.apart
 pub record_next-requires-clause-within : goal.record_next-requires-clause-within
 record_next-requires-clause-within g c = c.loop-count.invariant.within
 
-pub returns-in-Err-clause-only : goal.returns-in-Err-clause-only
-returns-in-Err-clause-only g c = OnlyOutput-writes c.args.names.now.rec.now c.in-Err.ensures.only
+pub returns-in-Err : goal.returns-in-Err
+returns-in-Err g c = record {
+  ends = λ start b.
+      let old : FolderState = g.F.Folder.state c.args.folder.now in let new : FolderState = g.F.Folder.state c.append_output.new.folder in
+      let n : EncodeNames = named c.args.names.now in (
+        b.within,
+        header-part start old new n b c.in-Err.ensures.only
+            (subst (λ (xs : List ℕ). PartlyAppended old new n.rec xs) (c.as_slice.ensures.items
+            ∙ c.header_octets.ensures) c.in-Err.ensures.err),
+      );
+  only = OnlyOutput-writes c.args.names.now.rec.now c.in-Err.ensures.only;
+  counts = c.in-Err.ensures.fails;
+}
 
-pub returns-in-Err-clause-counts : goal.returns-in-Err-clause-counts
-returns-in-Err-clause-counts g c = c.in-Err.ensures.fails
+pub returns-in-Ok-eq0 : goal.returns-in-Ok-eq0
+returns-in-Ok-eq0 g c = record {
+  ends = λ start b.
+      subst (WritesAll start _ (named c.args.names.now)) (sym c.samples.ensures)
+      ((c.in-Ok-eq0.ensures.ok start (c.loop-count.invariant.recorded start b)).1 c.in-Ok-eq0.field-0-test);
+  only = OnlyOutput-trans c.args.names.now.rec.now c.loop-count.invariant.only c.in-Ok-eq0.ensures.only;
+  counts = CountsStand-trans c.loop-count.invariant.stand c.in-Ok-eq0.ensures.counts;
+}
 
-pub returns-in-Ok-eq0-clause-ends : goal.returns-in-Ok-eq0-clause-ends
-returns-in-Ok-eq0-clause-ends g c start b =
-    let new : FolderState = g.F.Folder.state c.record_next.new.folder in
-    subst (WritesAll start new (named c.args.names.now)) (sym c.samples.ensures)
-    ((c.in-Ok-eq0.ensures.ok start (c.loop-count.invariant.recorded start b)).1 c.in-Ok-eq0.field-0-test)
-
-pub returns-in-Ok-eq0-clause-only : goal.returns-in-Ok-eq0-clause-only
-returns-in-Ok-eq0-clause-only g c = OnlyOutput-trans c.args.names.now.rec.now c.loop-count.invariant.only c.in-Ok-eq0.ensures.only
-
-pub returns-in-Ok-eq0-clause-counts : goal.returns-in-Ok-eq0-clause-counts
-returns-in-Ok-eq0-clause-counts g c = CountsStand-trans c.loop-count.invariant.stand c.in-Ok-eq0.ensures.counts
-
-pub returns-in-Err-record_next-clause-ends : goal.returns-in-Err-record_next-clause-ends
-returns-in-Err-record_next-clause-ends g c start b = c.in-Err-record_next.ensures.err start (c.loop-count.invariant.recorded start b)
-
-pub returns-in-Err-record_next-clause-only : goal.returns-in-Err-record_next-clause-only
-returns-in-Err-record_next-clause-only g c =
-    OnlyOutput-trans c.args.names.now.rec.now c.loop-count.invariant.only c.in-Err-record_next.ensures.only
-
-pub returns-in-Err-record_next-clause-counts : goal.returns-in-Err-record_next-clause-counts
-returns-in-Err-record_next-clause-counts g c =
-    stop-earlier (g.F.Folder.state c.args.folder.now) (g.F.Folder.state c.loop-count.folder) (g.F.Folder.state c.record_next.new.folder)
-    (c.args.names.now.file.now ∷ []) (c.args.names.now.rec.now ∷ []) c.in-Err-record_next.fault c.loop-count.invariant.stand
-    c.in-Err-record_next.ensures.counts
+pub returns-in-Err-record_next : goal.returns-in-Err-record_next
+returns-in-Err-record_next g c = record {
+  ends = λ start b. c.in-Err-record_next.ensures.err start (c.loop-count.invariant.recorded start b);
+  only = OnlyOutput-trans c.args.names.now.rec.now c.loop-count.invariant.only c.in-Err-record_next.ensures.only;
+  counts =
+      stop-earlier (g.F.Folder.state c.args.folder.now) (g.F.Folder.state c.loop-count.folder) (g.F.Folder.state c.record_next.new.folder)
+      (c.args.names.now.file.now ∷ []) (c.args.names.now.rec.now ∷ []) c.in-Err-record_next.fault c.loop-count.invariant.stand
+      c.in-Err-record_next.ensures.counts;
+}

@@ -1,5 +1,4 @@
 use Rattle.std.proofs.Common.{◌∙◌, [], Err}
-use Rattle.outside_calls.specs.Folder.{FolderState}
 use Rattle.command_base.specs.Lines.{margin_line}
 use Rattle.command_base.proofs.Jobs.{answers-done, answers-stopped}
 use Rattle.outside_calls.proofs.OnlyOutputs.{OnlyOutputs-reads}
@@ -8,14 +7,12 @@ use Rattle.signal_commands.proofs.margin.command.measure_and_tell.Goals as goal
 
 pub returns-in-Ok : goal.returns-in-Ok
 returns-in-Ok g c =
-    let before : FolderState = g.F.Folder.state c.measure.new.folder in
-    answers-done _ _ _ before _ c.in-Ok.margin _ _ (c.in-Ok.ensures.ends, c.in-Ok.ensures.reads.said) (OnlyOutputs-reads []
+    answers-done _ _ _ _ _ c.in-Ok.margin _ _ (c.in-Ok.ensures.ends, c.in-Ok.ensures.reads.said) (OnlyOutputs-reads []
     c.in-Ok.ensures.reads) c.in-Ok.ensures.counts (c.as_slice.ensures.items ∙ c.margin_line.ensures ∙ (λ i. margin_line
     (c.cost.ensures.kept i) (c.sure.ensures i))) c.tell.ensures
 
 pub returns-in-Err : goal.returns-in-Err
 returns-in-Err g c =
-    let before : FolderState = g.F.Folder.state c.measure.new.folder in
-    answers-stopped _ _ _ before _ c.in-Err.stop _ (c.in-Err.ensures.ends, c.in-Err.ensures.reads.said) (OnlyOutputs-reads []
-    c.in-Err.ensures.reads) (refused-by (g.F.Folder.state c.args.folder.now) before (Err c.in-Err.stop) (OnlyOutputs-reads []
+    answers-stopped _ _ _ _ _ c.in-Err.stop _ (c.in-Err.ensures.ends, c.in-Err.ensures.reads.said) (OnlyOutputs-reads []
+    c.in-Err.ensures.reads) (refused-by (g.F.Folder.state c.args.folder.now) _ (Err c.in-Err.stop) (OnlyOutputs-reads []
     c.in-Err.ensures.reads)) c.in-Err.ensures.counts c.tell_stop.ensures

@@ -1,5 +1,4 @@
 use Rattle.std.proofs.Common.{◌+◌, arith}
-use Rattle.outside_calls.specs.Folder.{FolderState}
 use Rattle.outside_calls.proofs.Steps.{OnlyReads-refl, OnlyReads-trans, CountsStand-refl, CountsStand-trans}
 use Rattle.signal_commands.specs.Margins.Words.{MarginNames, named}
 use Rattle.signal_commands.proofs.Margins.Measures.{measured-none, measures-all}
@@ -7,13 +6,12 @@ use Rattle.signal_commands.proofs.margin.measuring.measure_to_end.Goals as goal
 
 pub loop-margin-init : goal.loop-margin-init
 loop-margin-init g c =
-    let old : FolderState = g.F.Folder.state c.args.folder.now in
     record {
       within = omega arith;
       count = c.new-margin.ensures.count;
-      measured = λ start o. measured-none start old (named c.args.names.now) c.args.mode c.new-margin.result o c.new-margin.ensures.stands;
-      reads = OnlyReads-refl old;
-      stand = CountsStand-refl old;
+      measured = λ start o. measured-none start _ (named c.args.names.now) c.args.mode c.new-margin.result o c.new-margin.ensures.stands;
+      reads = OnlyReads-refl _;
+      stand = CountsStand-refl _;
     }
 
 pub loop-margin-preserved : goal.loop-margin-preserved
@@ -30,10 +28,9 @@ loop-margin-preserved g c =
 pub returns-in-Ok-eq0-clause-ends : goal.returns-in-Ok-eq0-clause-ends
 returns-in-Ok-eq0-clause-ends g c start o =
     let n : MarginNames = named c.args.names.now in
-    let new : FolderState = g.F.Folder.state c.measure_next.new.folder in
     let before = c.loop-margin.invariant.measured start o in
     let all = c.in-Ok-eq0.ensures.ok start c.args.mode before in
     let end = all.1 c.in-Ok-eq0.field-0-test in
-    measures-all start new n c.args.mode c.measure_next.new.margin (c.loop-margin.at + c.in-Ok-eq0.field-0)
+    measures-all start _ n c.args.mode c.measure_next.new.margin (c.loop-margin.at + c.in-Ok-eq0.field-0)
     all.0 (λ told. (let e = end.0 told in omega (arith, e)))
     (λ told. (let e = end.1 told in omega (arith, e)))

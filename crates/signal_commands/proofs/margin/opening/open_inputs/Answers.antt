@@ -1,4 +1,4 @@
-use Rattle.std.proofs.Common.{◌∙◌, ℕ, List, [], refl, sym, subst, take}
+use Rattle.std.proofs.Common.{◌∙◌, ℕ, List, [], refl, sym, subst, take, rules}
 use Rattle.outside_calls.specs.Folder.{FolderState, OnlyReads}
 use Rattle.outside_calls.proofs.Steps.{OnlyReads-trans, CountsStand-trans}
 use Rattle.command_base.specs.declared.stop.Stop.TheVariants.{Read}
@@ -23,51 +23,9 @@ returns-in-Err-clause-err g c =
 
 pub returns-in-Err-within_limit-clause-err : goal.returns-in-Err-within_limit-clause-err
 returns-in-Err-within_limit-clause-err g c =
-    let old : FolderState = g.F.Folder.state c.args.folder.now in
-    file-refused old (g.F.Folder.state c.within_limit.new.folder) (g.F.Folder.state c.within_limit-2.new.folder) (named c.args.names.now)
+    file-refused _ (g.F.Folder.state c.within_limit.new.folder) (g.F.Folder.state c.within_limit-2.new.folder) (named c.args.names.now)
     c.in-Err-within_limit.stop c.within_limit.ensures.reads c.in-Ok.ensures.stand c.in-Ok.ensures.within
     c.in-Err-within_limit.ensures.refused
-
-pub returns-in-Ok-read_header-clause-ok : goal.returns-in-Ok-read_header-clause-ok
-returns-in-Ok-read_header-clause-ok g c =
-    let rec : List ℕ = c.args.names.now.rec.now in
-    let old : FolderState = g.F.Folder.state c.args.folder.now in
-    let n1 : FolderState = g.F.Folder.state c.within_limit.new.folder in
-    let n2 : FolderState = g.F.Folder.state c.within_limit-2.new.folder in
-    let n3 : FolderState = g.F.Folder.state c.read_piece.new.folder in
-    let looked : OnlyReads old n2 = OnlyReads-trans c.within_limit.ensures.reads c.within_limit-2.ensures.reads in
-    let none : ReadTo old n2 rec RECORDING_LIMIT 0 [] =
-    ReadTo-none old n2 rec RECORDING_LIMIT c.in-Ok.ensures.within looked.goes_on (looked.names rec) in
-    record {
-      rec_within = c.in-Ok.ensures.within;
-      file_within = within-earlier old n1 c.args.names.now.file.now FILE_LIMIT c.within_limit.ensures.reads
-          c.in-Ok-within_limit.ensures.within;
-      header = λ told. sym c.in-Ok-read_header.ensures.ok
-          ∙ header-octets old n3 rec c.in-Ok-read_piece.count
-          (take c.in-Ok-read_piece.count c.read_piece.new.piece) c.in-Ok-read_piece.ensures.bound
-          (c.in-Ok-read_piece.ensures.more old [] none) (c.in-Ok-read_piece.ensures.end old [] none) told;
-    }
-
-pub returns-in-Err-read_header-clause-err : goal.returns-in-Err-read_header-clause-err
-returns-in-Err-read_header-clause-err g c =
-    let rec : List ℕ = c.args.names.now.rec.now in
-    let old : FolderState = g.F.Folder.state c.args.folder.now in
-    let n1 : FolderState = g.F.Folder.state c.within_limit.new.folder in
-    let n2 : FolderState = g.F.Folder.state c.within_limit-2.new.folder in
-    let n3 : FolderState = g.F.Folder.state c.read_piece.new.folder in
-    let looked : OnlyReads old n2 = OnlyReads-trans c.within_limit.ensures.reads c.within_limit-2.ensures.reads in
-    let none : ReadTo old n2 rec RECORDING_LIMIT 0 [] =
-    ReadTo-none old n2 rec RECORDING_LIMIT c.in-Ok.ensures.within looked.goes_on (looked.names rec) in
-    is_other c.in-Err-read_header.at refl
-    (within-earlier old n1 c.args.names.now.file.now FILE_LIMIT c.within_limit.ensures.reads c.in-Ok-within_limit.ensures.within)
-    (record {
-      within = c.in-Ok.ensures.within;
-      bad = λ told. subst (λ (xs : List ℕ). IsBadHeader rates.Trellis xs c.in-Err-read_header.at)
-          (header-octets old n3 rec c.in-Ok-read_piece.count
-          (take c.in-Ok-read_piece.count c.read_piece.new.piece) c.in-Ok-read_piece.ensures.bound
-          (c.in-Ok-read_piece.ensures.more old [] none) (c.in-Ok-read_piece.ensures.end old [] none) told)
-          c.in-Err-read_header.ensures.err;
-    })
 
 pub returns-in-Err-clause-reads : goal.returns-in-Err-clause-reads
 returns-in-Err-clause-reads g c = c.in-Err.ensures.reads
@@ -92,37 +50,69 @@ returns-in-Err-within_limit-clause-counts g c =
     (refused-counts mid new (named c.args.names.now) c.args.names.now.file.now FILE_LIMIT 2 c.in-Err-within_limit.stop
     (file-fails mid new (named c.args.names.now)) c.in-Err-within_limit.ensures.refused)
 
-pub returns-in-Ok-read_header-clause-reads : goal.returns-in-Ok-read_header-clause-reads
-returns-in-Ok-read_header-clause-reads g c =
-    OnlyReads-trans (OnlyReads-trans c.in-Ok.ensures.reads c.in-Ok-within_limit.ensures.reads) c.in-Ok-read_piece.ensures.reads
+pub returns-in-Ok-read_header : goal.returns-in-Ok-read_header
+returns-in-Ok-read_header g c = record {
+  ok =
+      let rec : List ℕ = c.args.names.now.rec.now in
+      let old : FolderState = g.F.Folder.state c.args.folder.now in
+      let n2 : FolderState = g.F.Folder.state c.within_limit-2.new.folder in
+      let looked : OnlyReads old n2 = OnlyReads-trans c.within_limit.ensures.reads c.within_limit-2.ensures.reads in
+      let none : ReadTo old n2 rec RECORDING_LIMIT 0 [] =
+      ReadTo-none old n2 rec RECORDING_LIMIT c.in-Ok.ensures.within looked.goes_on (looked.names rec) in
+      record {
+        rec_within = c.in-Ok.ensures.within;
+        file_within = within-earlier old _ c.args.names.now.file.now FILE_LIMIT c.within_limit.ensures.reads
+            c.in-Ok-within_limit.ensures.within;
+        header = λ told. sym c.in-Ok-read_header.ensures.ok
+            ∙ header-octets old _ rec c.in-Ok-read_piece.count
+            (take c.in-Ok-read_piece.count c.read_piece.new.piece) c.in-Ok-read_piece.ensures.bound
+            (c.in-Ok-read_piece.ensures.more old [] none) (c.in-Ok-read_piece.ensures.end old [] none) told;
+      };
+  err = search rules;
+  reads = OnlyReads-trans (OnlyReads-trans c.in-Ok.ensures.reads c.in-Ok-within_limit.ensures.reads) c.in-Ok-read_piece.ensures.reads;
+  counts = CountsStand-trans (CountsStand-trans c.in-Ok.ensures.stand c.in-Ok-within_limit.ensures.stand) c.in-Ok-read_piece.ensures.stand;
+}
 
-pub returns-in-Ok-read_header-clause-counts : goal.returns-in-Ok-read_header-clause-counts
-returns-in-Ok-read_header-clause-counts g c =
-    CountsStand-trans (CountsStand-trans c.in-Ok.ensures.stand c.in-Ok-within_limit.ensures.stand) c.in-Ok-read_piece.ensures.stand
+pub returns-in-Err-read_header : goal.returns-in-Err-read_header
+returns-in-Err-read_header g c = record {
+  ok = search rules;
+  err =
+      let rec : List ℕ = c.args.names.now.rec.now in
+      let old : FolderState = g.F.Folder.state c.args.folder.now in
+      let n1 : FolderState = g.F.Folder.state c.within_limit.new.folder in
+      let n2 : FolderState = g.F.Folder.state c.within_limit-2.new.folder in
+      let n3 : FolderState = g.F.Folder.state c.read_piece.new.folder in
+      let looked : OnlyReads old n2 = OnlyReads-trans c.within_limit.ensures.reads c.within_limit-2.ensures.reads in
+      let none : ReadTo old n2 rec RECORDING_LIMIT 0 [] =
+      ReadTo-none old n2 rec RECORDING_LIMIT c.in-Ok.ensures.within looked.goes_on (looked.names rec) in
+      is_other c.in-Err-read_header.at refl
+      (within-earlier old n1 c.args.names.now.file.now FILE_LIMIT c.within_limit.ensures.reads c.in-Ok-within_limit.ensures.within)
+      (record {
+        within = c.in-Ok.ensures.within;
+        bad = λ told. subst (λ (xs : List ℕ). IsBadHeader rates.Trellis xs c.in-Err-read_header.at)
+            (header-octets old n3 rec c.in-Ok-read_piece.count
+            (take c.in-Ok-read_piece.count c.read_piece.new.piece) c.in-Ok-read_piece.ensures.bound
+            (c.in-Ok-read_piece.ensures.more old [] none) (c.in-Ok-read_piece.ensures.end old [] none) told)
+            c.in-Err-read_header.ensures.err;
+      });
+  reads = OnlyReads-trans (OnlyReads-trans c.in-Ok.ensures.reads c.in-Ok-within_limit.ensures.reads) c.in-Ok-read_piece.ensures.reads;
+  counts =
+      (tt, CountsStand-trans (CountsStand-trans c.in-Ok.ensures.stand c.in-Ok-within_limit.ensures.stand) c.in-Ok-read_piece.ensures.stand);
+}
 
-pub returns-in-Err-read_header-clause-reads : goal.returns-in-Err-read_header-clause-reads
-returns-in-Err-read_header-clause-reads g c =
-    OnlyReads-trans (OnlyReads-trans c.in-Ok.ensures.reads c.in-Ok-within_limit.ensures.reads) c.in-Ok-read_piece.ensures.reads
-
-pub returns-in-Err-read_header-clause-counts : goal.returns-in-Err-read_header-clause-counts
-returns-in-Err-read_header-clause-counts g c =
-    (tt, CountsStand-trans (CountsStand-trans c.in-Ok.ensures.stand c.in-Ok-within_limit.ensures.stand) c.in-Ok-read_piece.ensures.stand)
-
-pub returns-in-Err-read_piece-clause-err : goal.returns-in-Err-read_piece-clause-err
-returns-in-Err-read_piece-clause-err g c =
-    one_unread c.in-Ok.ensures.within
-    (within-earlier (g.F.Folder.state c.args.folder.now) (g.F.Folder.state c.within_limit.new.folder) c.args.names.now.file.now FILE_LIMIT
-    c.in-Ok.ensures.reads
-    c.in-Ok-within_limit.ensures.within)
-
-pub returns-in-Err-read_piece-clause-reads : goal.returns-in-Err-read_piece-clause-reads
-returns-in-Err-read_piece-clause-reads g c =
-    OnlyReads-trans (OnlyReads-trans c.in-Ok.ensures.reads c.in-Ok-within_limit.ensures.reads) c.in-Err-read_piece.ensures.reads
-
-pub returns-in-Err-read_piece-clause-counts : goal.returns-in-Err-read_piece-clause-counts
-returns-in-Err-read_piece-clause-counts g c =
-    let mid : FolderState = g.F.Folder.state c.within_limit-2.new.folder in
-    let new : FolderState = g.F.Folder.state c.read_piece.new.folder in
-    stop-earlier (g.F.Folder.state c.args.folder.now) mid new (inputs_of (named c.args.names.now)) [] (Read c.in-Err-read_piece.fault)
-    (CountsStand-trans c.in-Ok.ensures.stand c.in-Ok-within_limit.ensures.stand)
-    (rec-fails mid new (named c.args.names.now) c.in-Err-read_piece.fault c.in-Err-read_piece.ensures.fails)
+pub returns-in-Err-read_piece : goal.returns-in-Err-read_piece
+returns-in-Err-read_piece g c = record {
+  ok = search rules;
+  err =
+      one_unread c.in-Ok.ensures.within
+      (within-earlier (g.F.Folder.state c.args.folder.now) (g.F.Folder.state c.within_limit.new.folder) c.args.names.now.file.now FILE_LIMIT
+      c.in-Ok.ensures.reads
+      c.in-Ok-within_limit.ensures.within);
+  reads = OnlyReads-trans (OnlyReads-trans c.in-Ok.ensures.reads c.in-Ok-within_limit.ensures.reads) c.in-Err-read_piece.ensures.reads;
+  counts =
+      let mid : FolderState = g.F.Folder.state c.within_limit-2.new.folder in
+      let new : FolderState = g.F.Folder.state c.read_piece.new.folder in
+      stop-earlier (g.F.Folder.state c.args.folder.now) mid new (inputs_of (named c.args.names.now)) [] (Read c.in-Err-read_piece.fault)
+      (CountsStand-trans c.in-Ok.ensures.stand c.in-Ok-within_limit.ensures.stand)
+      (rec-fails mid new (named c.args.names.now) c.in-Err-read_piece.fault c.in-Err-read_piece.ensures.fails);
+}

@@ -1,5 +1,4 @@
 use Rattle.std.proofs.Common.{[], refl}
-use Rattle.outside_calls.specs.Folder.{FolderState}
 use Rattle.outside_calls.proofs.OnlyOutputs.{OnlyOutputs-reads}
 use Rattle.recordings.specs.declared.rate.Rate.TheVariants as rates
 use Rattle.command_base.proofs.Behind.{behind-none}
@@ -8,11 +7,10 @@ use Rattle.signal_commands.proofs.pickup.command.pick_up_samples.Goals as goal
 
 pub returns-in-Ok-clause-ends : goal.returns-in-Ok-clause-ends
 returns-in-Ok-clause-ends g c start o =
-    let old : FolderState = g.F.Folder.state c.args.folder.now in
     c.play_to_end.ensures.ends start (record {
       content = [];
-      plays = plays-after start start old c.args.mode c.in-Ok.player [] o.reads (c.in-Ok.ensures.plays start);
+      plays = plays-after start start _ c.args.mode c.in-Ok.player [] o.reads (c.in-Ok.ensures.plays start);
       whole = refl;
-      behind = behind-none start old old c.args.rec.now rates.Trellis c.args.mode o o.reads.goes_on (o.reads.names c.args.rec.now);
+      behind = behind-none start _ _ c.args.rec.now rates.Trellis c.args.mode o o.reads.goes_on (o.reads.names c.args.rec.now);
       only = OnlyOutputs-reads [] o.reads;
     })

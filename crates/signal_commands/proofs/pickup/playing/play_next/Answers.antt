@@ -1,5 +1,5 @@
 use Rattle.std.proofs.Common.{◌≡◌, ◌≢◌, ◌∙◌, inl, inr, ℕ, ◌+◌, ◌-◌, ◌%◌, ◌++◌, ◌∷◌, [], List, length, length-append, take, refl, sym, subst}
-use Rattle.std.proofs.Common.{arith}
+use Rattle.std.proofs.Common.{arith, rules}
 use Rattle.std.proofs.lemmas.List.{length-take}
 use Rattle.outside_calls.specs.Folder.{FolderState}
 use Rattle.outside_calls.proofs.Steps.{CountsStand-trans}
@@ -18,130 +18,113 @@ use Rattle.signal_commands.proofs.PickingUp.Playings.{plays-after, ready-later}
 use Rattle.signal_commands.proofs.PickingUp.Parts.{front-part, stops-by, cut-by}
 use Rattle.signal_commands.proofs.pickup.playing.play_next.Goals as goal
 
-pub returns-in-Err-clause-err : goal.returns-in-Err-clause-err
-returns-in-Err-clause-err g c start h =
-    let old : FolderState = g.F.Folder.state c.args.folder.now in
-    let n1 : FolderState = g.F.Folder.state c.read_samples.new.folder in
-    inr (front-part start n1 c.args.rec.now c.args.mode c.args.player.now h.content
-    (reads-first start old c.args.rec.now rates.Trellis c.args.mode h.content c.args.at h.behind)
-    (plays-after start old n1 c.args.mode c.args.player.now (samples_in h.content) c.read_samples.ensures.reads h.plays)
-    c.requires.ready.not_lost c.requires.ready.all_taken)
+pub returns-in-Err : goal.returns-in-Err
+returns-in-Err g c = record {
+  size = c.read_samples.ensures.kept;
+  ok = search rules;
+  err = λ start h.
+      inr (front-part start _ c.args.rec.now c.args.mode c.args.player.now h.content
+      (reads-first start _ c.args.rec.now rates.Trellis c.args.mode h.content c.args.at h.behind)
+      (plays-after start _ _ c.args.mode c.args.player.now (samples_in h.content) c.read_samples.ensures.reads h.plays)
+      c.requires.ready.not_lost c.requires.ready.all_taken);
+  next = search rules;
+  only = OnlyOutputs-reads [] c.read_samples.ensures.reads;
+  counts = c.in-Err.ensures.fails;
+}
 
-pub returns-in-Err-play_piece-clause-err : goal.returns-in-Err-play_piece-clause-err
-returns-in-Err-play_piece-clause-err g c start h =
-    let old : FolderState = g.F.Folder.state c.args.folder.now in
-    let n1 : FolderState = g.F.Folder.state c.read_samples.new.folder in
-    let n2 : FolderState = g.F.Folder.state c.play_piece.new.folder in
+pub returns-in-Err-play_piece : goal.returns-in-Err-play_piece
+returns-in-Err-play_piece g c = record {
+  size = c.read_samples.ensures.kept;
+  ok = search rules;
+  err = λ start h.
+      let n1 : FolderState = g.F.Folder.state c.read_samples.new.folder in
+      let n2 : FolderState = g.F.Folder.state c.play_piece.new.folder in
+      let piece : List ℕ = take c.in-Ok.read c.read_samples.new.piece in
+      let behind : ReadBehind start n1 c.args.rec.now rates.Trellis c.args.mode (h.content ++ piece) (c.args.at + c.in-Ok.read) =
+      c.in-Ok.ensures.more start rates.Trellis c.args.mode h.content h.behind in
+      stops-by start n2 c.args.rec.now c.args.mode (h.content ++ piece) c.in-Err-play_piece.stop
+      (reads-first start n1 c.args.rec.now rates.Trellis c.args.mode (h.content ++ piece) (c.args.at + c.in-Ok.read) behind)
+      (subst (λ (xs : List Sample). StopsPlay start n2 c.args.mode xs c.in-Err-play_piece.stop)
+      (sym (samples_in-append h.content piece h.whole))
+      (c.in-Err-play_piece.ensures.err start (samples_in h.content)
+      (plays-after start _ n1 c.args.mode c.args.player.now (samples_in h.content) c.read_samples.ensures.reads h.plays)));
+  next = search rules;
+  only = OnlyOutputs-trans [] (OnlyOutputs-reads [] c.read_samples.ensures.reads) (OnlyOutputs-says [] c.play_piece.ensures.only);
+  counts =
+      stop-earlier (g.F.Folder.state c.args.folder.now) (g.F.Folder.state c.read_samples.new.folder)
+      (g.F.Folder.state c.play_piece.new.folder) (c.args.rec.now ∷ []) [] c.in-Err-play_piece.stop c.in-Ok.ensures.stand
+      (c.in-Err-play_piece.ensures.counts (c.args.rec.now ∷ []));
+}
+
+pub returns-then-read-ne0 : goal.returns-then-read-ne0
+returns-then-read-ne0 g c = record {
+  size = c.read_samples.ensures.kept;
+  ok = search rules;
+  err = λ start h.
+      let n1 : FolderState = g.F.Folder.state c.read_samples.new.folder in
+      let n2 : FolderState = g.F.Folder.state c.play_piece.new.folder in
+      let piece : List ℕ = take c.in-Ok.read c.read_samples.new.piece in
+      let long : length piece ≡ c.in-Ok.read =
+      length-take c.in-Ok.read c.read_samples.new.piece ∙ omega (arith, c.in-Ok.ensures.bound, c.read_samples.ensures.kept) in
+      let behind : ReadBehind start n1 c.args.rec.now rates.Trellis c.args.mode (h.content ++ piece) (c.args.at + c.in-Ok.read) =
+      c.in-Ok.ensures.more start rates.Trellis c.args.mode h.content h.behind in
+      let cut : c.in-Ok.read % 4 ≢ 0 = c.if-read-ne0.true in
+      let content_cut : length (h.content ++ piece) % 4 ≡ c.in-Ok.read % 4 = omega (arith, h.whole, length-append h.content piece, long) in
+      let ready = c.in-Ok-play_piece.ensures.ready c.args.at c.requires.ready in
+      is_cut (c.args.at + (c.in-Ok.read - c.in-Ok.read % 4)) refl
+      (cut-by start n2 c.args.rec.now c.args.mode c.play_piece.new.player (h.content ++ piece)
+      (c.args.at + (c.in-Ok.read - c.in-Ok.read % 4))
+      (reads-all start n1 c.args.rec.now rates.Trellis c.args.mode (h.content ++ piece) (c.args.at + c.in-Ok.read) behind
+      (c.in-Ok.ensures.end start rates.Trellis c.args.mode h.content h.behind (inl cut)))
+      (λ e. cut (sym content_cut ∙ e)) (omega (arith, behind.at_is, content_cut))
+      (subst (λ (xs : List Sample). Plays start n2 c.args.mode c.play_piece.new.player xs) (sym (samples_in-append h.content piece h.whole))
+      (c.in-Ok-play_piece.ensures.ok start (samples_in h.content)
+      (plays-after start _ n1 c.args.mode c.args.player.now (samples_in h.content) c.read_samples.ensures.reads h.plays)))
+      ready.not_lost ready.all_taken);
+  next = search rules;
+  only = OnlyOutputs-trans [] (OnlyOutputs-reads [] c.read_samples.ensures.reads) (OnlyOutputs-says [] c.play_piece.ensures.only);
+  counts = (tt, CountsStand-trans c.in-Ok.ensures.stand (c.in-Ok-play_piece.ensures.counts []));
+}
+
+pub returns : goal.returns
+returns g c =
     let piece : List ℕ = take c.in-Ok.read c.read_samples.new.piece in
-    let behind : ReadBehind start n1 c.args.rec.now rates.Trellis c.args.mode (h.content ++ piece) (c.args.at + c.in-Ok.read) =
-    c.in-Ok.ensures.more start rates.Trellis c.args.mode h.content h.behind in
-    stops-by start n2 c.args.rec.now c.args.mode (h.content ++ piece) c.in-Err-play_piece.stop
-    (reads-first start n1 c.args.rec.now rates.Trellis c.args.mode (h.content ++ piece) (c.args.at + c.in-Ok.read) behind)
-    (subst (λ (xs : List Sample). StopsPlay start n2 c.args.mode xs c.in-Err-play_piece.stop)
-    (sym (samples_in-append h.content piece h.whole))
-    (c.in-Err-play_piece.ensures.err start (samples_in h.content)
-    (plays-after start old n1 c.args.mode c.args.player.now (samples_in h.content) c.read_samples.ensures.reads h.plays)))
-
-pub returns-in-Err-play_piece-clause-counts : goal.returns-in-Err-play_piece-clause-counts
-returns-in-Err-play_piece-clause-counts g c =
-    stop-earlier (g.F.Folder.state c.args.folder.now) (g.F.Folder.state c.read_samples.new.folder)
-    (g.F.Folder.state c.play_piece.new.folder) (c.args.rec.now ∷ []) [] c.in-Err-play_piece.stop c.in-Ok.ensures.stand
-    (c.in-Err-play_piece.ensures.counts (c.args.rec.now ∷ []))
-
-pub returns-then-read-ne0-clause-err : goal.returns-then-read-ne0-clause-err
-returns-then-read-ne0-clause-err g c start h =
-    let old : FolderState = g.F.Folder.state c.args.folder.now in
-    let n1 : FolderState = g.F.Folder.state c.read_samples.new.folder in
-    let n2 : FolderState = g.F.Folder.state c.play_piece.new.folder in
-    let piece : List ℕ = take c.in-Ok.read c.read_samples.new.piece in
-    let long : length piece ≡ c.in-Ok.read =
-    length-take c.in-Ok.read c.read_samples.new.piece ∙ omega (arith, c.in-Ok.ensures.bound, c.read_samples.ensures.kept) in
-    let behind : ReadBehind start n1 c.args.rec.now rates.Trellis c.args.mode (h.content ++ piece) (c.args.at + c.in-Ok.read) =
-    c.in-Ok.ensures.more start rates.Trellis c.args.mode h.content h.behind in
-    let cut : c.in-Ok.read % 4 ≢ 0 = c.if-read-ne0.true in
-    let content_cut : length (h.content ++ piece) % 4 ≡ c.in-Ok.read % 4 = omega (arith, h.whole, length-append h.content piece, long) in
-    let ready = c.in-Ok-play_piece.ensures.ready c.args.at c.requires.ready in
-    is_cut (c.args.at + (c.in-Ok.read - c.in-Ok.read % 4)) refl
-    (cut-by start n2 c.args.rec.now c.args.mode c.play_piece.new.player (h.content ++ piece) (c.args.at + (c.in-Ok.read - c.in-Ok.read % 4))
-    (reads-all start n1 c.args.rec.now rates.Trellis c.args.mode (h.content ++ piece) (c.args.at + c.in-Ok.read) behind
-    (c.in-Ok.ensures.end start rates.Trellis c.args.mode h.content h.behind (inl cut)))
-    (λ e. cut (sym content_cut ∙ e)) (omega (arith, behind.at_is, content_cut))
-    (subst (λ (xs : List Sample). Plays start n2 c.args.mode c.play_piece.new.player xs) (sym (samples_in-append h.content piece h.whole))
-    (c.in-Ok-play_piece.ensures.ok start (samples_in h.content)
-    (plays-after start old n1 c.args.mode c.args.player.now (samples_in h.content) c.read_samples.ensures.reads h.plays)))
-    ready.not_lost ready.all_taken)
-
-pub returns-then-read-ne0-clause-counts : goal.returns-then-read-ne0-clause-counts
-returns-then-read-ne0-clause-counts g c = (tt, CountsStand-trans c.in-Ok.ensures.stand (c.in-Ok-play_piece.ensures.counts []))
-
-pub returns-clause-ok : goal.returns-clause-ok
-returns-clause-ok g c start h =
-    let old : FolderState = g.F.Folder.state c.args.folder.now in
-    let n1 : FolderState = g.F.Folder.state c.read_samples.new.folder in
-    let n2 : FolderState = g.F.Folder.state c.play_piece.new.folder in
-    let piece : List ℕ = take c.in-Ok.read c.read_samples.new.piece in
-    let long : length piece ≡ c.in-Ok.read =
-    length-take c.in-Ok.read c.read_samples.new.piece ∙ omega (arith, c.in-Ok.ensures.bound, c.read_samples.ensures.kept) in
-    let behind : ReadBehind start n1 c.args.rec.now rates.Trellis c.args.mode (h.content ++ piece) (c.args.at + c.in-Ok.read) =
-    c.in-Ok.ensures.more start rates.Trellis c.args.mode h.content h.behind in (
-      record {
-        content = h.content ++ piece;
-        plays = subst (λ (xs : List Sample). Plays start n2 c.args.mode c.play_piece.new.player xs)
-            (sym (samples_in-append h.content piece h.whole))
-            (c.in-Ok-play_piece.ensures.ok start (samples_in h.content)
-            (plays-after start old n1 c.args.mode c.args.player.now (samples_in h.content) c.read_samples.ensures.reads h.plays));
-        whole = omega (arith, h.whole, length-append h.content piece, long, c.if-read-ne0.false);
-        behind = behind-kept start n1 n2 c.args.rec.now rates.Trellis c.args.mode (h.content ++ piece)
-            (c.args.at + c.in-Ok.read) behind c.play_piece.ensures.only.goes_on (c.play_piece.ensures.only.names c.args.rec.now);
-        only = OnlyOutputs-trans [] h.only
-            (OnlyOutputs-trans [] (OnlyOutputs-reads [] c.read_samples.ensures.reads) (OnlyOutputs-says [] c.play_piece.ensures.only));
-      },
-      λ none told. (let e = c.in-Ok.ensures.end start rates.Trellis c.args.mode h.content h.behind (inr none)
-          told in omega (arith, e, none)),
-    )
-
-pub returns-clause-next : goal.returns-clause-next
-returns-clause-next g c =
-    let piece : List ℕ = take c.in-Ok.read c.read_samples.new.piece in
-    let long : length piece ≡ c.in-Ok.read =
-    length-take c.in-Ok.read c.read_samples.new.piece ∙ omega (arith, c.in-Ok.ensures.bound, c.read_samples.ensures.kept) in (
-      ready-later c.play_piece.new.player (c.args.at + length piece) (c.args.at + c.in-Ok.read) (omega (arith, long))
-          (c.in-Ok-play_piece.ensures.ready c.args.at c.requires.ready),
-      c.in-Ok.ensures.within,
-    )
-
-pub returns-clause-counts : goal.returns-clause-counts
-returns-clause-counts g c = CountsStand-trans c.in-Ok.ensures.stand (c.in-Ok-play_piece.ensures.counts [])
-
-pub returns-in-Err-clause-size : goal.returns-in-Err-clause-size
-returns-in-Err-clause-size g c = c.read_samples.ensures.kept
-
-pub returns-in-Err-clause-only : goal.returns-in-Err-clause-only
-returns-in-Err-clause-only g c = OnlyOutputs-reads [] c.read_samples.ensures.reads
-
-pub returns-in-Err-clause-counts : goal.returns-in-Err-clause-counts
-returns-in-Err-clause-counts g c = c.in-Err.ensures.fails
-
-pub returns-in-Err-play_piece-clause-size : goal.returns-in-Err-play_piece-clause-size
-returns-in-Err-play_piece-clause-size g c = c.read_samples.ensures.kept
-
-pub returns-in-Err-play_piece-clause-only : goal.returns-in-Err-play_piece-clause-only
-returns-in-Err-play_piece-clause-only g c =
-    OnlyOutputs-trans [] (OnlyOutputs-reads [] c.read_samples.ensures.reads) (OnlyOutputs-says [] c.play_piece.ensures.only)
-
-pub returns-then-read-ne0-clause-size : goal.returns-then-read-ne0-clause-size
-returns-then-read-ne0-clause-size g c = c.read_samples.ensures.kept
-
-pub returns-then-read-ne0-clause-only : goal.returns-then-read-ne0-clause-only
-returns-then-read-ne0-clause-only g c =
-    OnlyOutputs-trans [] (OnlyOutputs-reads [] c.read_samples.ensures.reads) (OnlyOutputs-says [] c.play_piece.ensures.only)
-
-pub returns-clause-size : goal.returns-clause-size
-returns-clause-size g c = c.read_samples.ensures.kept
-
-pub returns-clause-only : goal.returns-clause-only
-returns-clause-only g c =
-    OnlyOutputs-trans [] (OnlyOutputs-reads [] c.read_samples.ensures.reads) (OnlyOutputs-says [] c.play_piece.ensures.only)
+    record {
+      size = c.read_samples.ensures.kept;
+      ok = λ start h.
+          let n1 : FolderState = g.F.Folder.state c.read_samples.new.folder in
+          let n2 : FolderState = g.F.Folder.state c.play_piece.new.folder in
+          let long : length piece ≡ c.in-Ok.read =
+          length-take c.in-Ok.read c.read_samples.new.piece ∙ omega (arith, c.in-Ok.ensures.bound, c.read_samples.ensures.kept) in
+          let behind : ReadBehind start n1 c.args.rec.now rates.Trellis c.args.mode (h.content ++ piece) (c.args.at + c.in-Ok.read) =
+          c.in-Ok.ensures.more start rates.Trellis c.args.mode h.content h.behind in (
+            record {
+              content = h.content ++ piece;
+              plays = subst (λ (xs : List Sample). Plays start n2 c.args.mode c.play_piece.new.player xs)
+                  (sym (samples_in-append h.content piece h.whole))
+                  (c.in-Ok-play_piece.ensures.ok start (samples_in h.content)
+                  (plays-after start _ n1 c.args.mode c.args.player.now (samples_in h.content) c.read_samples.ensures.reads h.plays));
+              whole = omega (arith, h.whole, length-append h.content piece, long, c.if-read-ne0.false);
+              behind = behind-kept start n1 n2 c.args.rec.now rates.Trellis c.args.mode (h.content ++ piece)
+                  (c.args.at + c.in-Ok.read) behind c.play_piece.ensures.only.goes_on (c.play_piece.ensures.only.names c.args.rec.now);
+              only = OnlyOutputs-trans [] h.only
+                  (OnlyOutputs-trans [] (OnlyOutputs-reads [] c.read_samples.ensures.reads)
+                  (OnlyOutputs-says [] c.play_piece.ensures.only));
+            },
+            λ none told. (let e = c.in-Ok.ensures.end start rates.Trellis c.args.mode h.content h.behind (inr none)
+                told in omega (arith, e, none)),
+          );
+      err = search rules;
+      next =
+          let long : length piece ≡ c.in-Ok.read =
+          length-take c.in-Ok.read c.read_samples.new.piece ∙ omega (arith, c.in-Ok.ensures.bound, c.read_samples.ensures.kept) in (
+            ready-later c.play_piece.new.player (c.args.at + length piece) (c.args.at + c.in-Ok.read) (omega (arith, long))
+                (c.in-Ok-play_piece.ensures.ready c.args.at c.requires.ready),
+            c.in-Ok.ensures.within,
+          );
+      only = OnlyOutputs-trans [] (OnlyOutputs-reads [] c.read_samples.ensures.reads) (OnlyOutputs-says [] c.play_piece.ensures.only);
+      counts = CountsStand-trans c.in-Ok.ensures.stand (c.in-Ok-play_piece.ensures.counts []);
+    }
 
 pub play_piece-requires-clause-few : goal.play_piece-requires-clause-few
 play_piece-requires-clause-few g c = omega (arith, length-take c.in-Ok.read c.read_samples.new.piece, c.in-Ok.ensures.bound)

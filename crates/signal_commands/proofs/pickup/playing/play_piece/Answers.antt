@@ -13,26 +13,21 @@ use Rattle.signal_commands.proofs.Batches.{some-more, some-heard}
 use Rattle.signal_commands.proofs.PickingUp.Playings.{ready-later, stops-longer}
 use Rattle.signal_commands.proofs.pickup.playing.play_piece.Goals as goal
 
-pub push_some-requires-clause-some : goal.push_some-requires-clause-some
-push_some-requires-clause-some g c =
+pub push_some-requires : goal.push_some-requires
+push_some-requires g c =
     let copied = c.copy_samples-count in
-    subst (λ (n : ℕ). 1 ≤ n)
-    (sym (length-take-le copied.result copied.new.samples (omega (arith, copied.array_long, copied.ensures.few))))
-    (copied.ensures.some (omega (arith, c.loop-at-test.true)))
-
-pub push_some-requires-clause-taken : goal.push_some-requires-clause-taken
-push_some-requires-clause-taken g c = let r = c.loop-at.invariant.ready RECORDING_LIMIT c.requires.ready in r.all_taken
-
-pub push_some-requires-clause-count : goal.push_some-requires-clause-count
-push_some-requires-clause-count g c =
     let r = c.loop-at.invariant.ready RECORDING_LIMIT c.requires.ready in
-    let copied = c.copy_samples-count in
-    let long = length-take-le copied.result copied.new.samples (omega (arith, copied.array_long, copied.ensures.few)) in
-    omega (arith, long, copied.ensures.few, r.count, c.loop-at-test.true, c.requires.few)
-
-pub push_some-requires-clause-pieces : goal.push_some-requires-clause-pieces
-push_some-requires-clause-pieces g c = let r = c.loop-at.invariant.ready RECORDING_LIMIT c.requires.ready in
-    omega (arith, r.pieces, c.loop-at-test.true, c.requires.few)
+    record {
+      some =
+          subst (λ (n : ℕ). 1 ≤ n)
+          (sym (length-take-le copied.result copied.new.samples (omega (arith, copied.array_long, copied.ensures.few))))
+          (copied.ensures.some (omega (arith, c.loop-at-test.true)));
+      taken = let r = c.loop-at.invariant.ready RECORDING_LIMIT c.requires.ready in r.all_taken;
+      count =
+          let long = length-take-le copied.result copied.new.samples (omega (arith, copied.array_long, copied.ensures.few)) in
+          omega (arith, long, copied.ensures.few, r.count, c.loop-at-test.true, c.requires.few);
+      pieces = omega (arith, r.pieces, c.loop-at-test.true, c.requires.few);
+    }
 
 pub returns-in-Err-clause-err : goal.returns-in-Err-clause-err
 returns-in-Err-clause-err g c start samples h =
@@ -59,8 +54,6 @@ returns-in-Err-clause-counts g c inputs =
 pub loop-at-preserved : goal.loop-at-preserved
 loop-at-preserved g c =
     let i = c.loop-at.invariant in
-    let old : FolderState = g.F.Folder.state c.args.folder.now in
-    let now : FolderState = g.F.Folder.state c.loop-at.folder in
     let new : FolderState = g.F.Folder.state c.push_some.new.folder in
     let copied = c.copy_samples-count in
     let heard = c.in-Ok.heard in
@@ -74,7 +67,7 @@ loop-at-preserved g c =
           (c.in-Ok.ensures.ok start (samples ++ samples_in (take (4 * c.loop-at.at) c.args.piece.now)) (i.plays start samples h));
       ready = λ most r. (let same : most + c.loop-at.at + heard ≡ most + (c.loop-at.at + heard) = omega arith in
           subst (λ (m : ℕ). IsReady c.push_some.new.self m) same (c.in-Ok.ensures.ready (most + c.loop-at.at) (i.ready most r)));
-      only = says-trans old now new i.only c.push_some.ensures.only;
+      only = says-trans _ _ new i.only c.push_some.ensures.only;
       stand = CountsStand-trans i.stand (c.in-Ok.ensures.counts []);
       within = omega (arith, copied.ensures.within, few.1);
     }

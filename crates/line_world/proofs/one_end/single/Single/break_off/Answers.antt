@@ -15,8 +15,6 @@ pub returns-in-Err-clause-ends : goal.returns-in-Err-clause-ends
 returns-in-Err-clause-ends g c = λ p slot b.
     let s = c.args.self.now in
     let k = c.args.breaking in
-    let a = g.F.Folder.state c.args.folder.now in
-    let z = g.F.Folder.state c.write.new.folder in
-    ends-part s a z c.args.trace.now p slot [] c.in-Err.fault c.in-Err.ensures.write
-    (adds-part s a z c.args.trace.now p slot [] (Broken k.fault) (silent-turn k.arrived None) None b.turn refl
+    ends-part s _ _ c.args.trace.now p slot [] c.in-Err.fault c.in-Err.ensures.write
+    (adds-part s _ _ c.args.trace.now p slot [] (Broken k.fault) (silent-turn k.arrived None) None b.turn refl
     (breaking-off s p slot k.arrived k.fault b) c.in-Err.ensures.err)

@@ -1,5 +1,4 @@
-use Rattle.std.proofs.Common.{arith}
-use Rattle.std.proofs.Common.{◌∙◌, sym, subst, [], ◌∷◌}
+use Rattle.std.proofs.Common.{arith, ◌∙◌, sym, subst, [], ◌∷◌}
 use Rattle.link_run.specs.End.{delivered}
 use Rattle.line_world.specs.OneEnd.Mid.{IsWriting}
 use Rattle.line_world.specs.OneEnd.Turn.{FaultCounts}

@@ -5,10 +5,10 @@ use Rattle.link_run.specs.End.{deliveries}
 use Rattle.line_world.specs.Station.{SpeaksAs}
 use Rattle.line_world.specs.OneEnd.Peer.{Broken}
 use Rattle.line_world.specs.OneEnd.Mid.{served_with}
-use Rattle.line_world.proofs.OneEnd.Turning.{silent-turn, spoke, finishes, said-well, said-badly, gone, gone-part, broken, adds-line}
-use Rattle.line_world.proofs.OneEnd.Turning.{adds-part}
+use Rattle.line_world.proofs.OneEnd.Turning.{silent-turn, spoke, finishes, said-well, gone, gone-part, broken, adds-line, adds-part}
 use Rattle.line_world.proofs.OneEnd.Turning.{ends-part}
 use Rattle.line_world.proofs.one_end.single.Single.speak.Goals as goal
+use Rattle.line_world.proofs.Linking.{broken-so as said-badly}
 
 pub returns-in-Ok-write-clause-speaks : goal.returns-in-Ok-write-clause-speaks
 returns-in-Ok-write-clause-speaks g c = λ p slot mid h up given.
@@ -28,10 +28,9 @@ returns-in-Err-write-clause-speaks g c = λ p slot mid h up given.
     let w = said-well (speak s.turn (finishes s.turn a) a) p.file c.speak.new.sent c.speak.new.self _
     (subst (λ (r : Bool). SpeaksAs (speak s.turn r a) p.file c.speak.new.sent c.speak.new.self (Ok c.in-Ok.field-0))
     (c.is_finished-release.ensures p.file a h.station) (c.in-Ok.ensures.speaks p.file a h.station)) in
-    gone-part s c.speak.new.self (g.F.Folder.state c.args.folder.now)
-    (g.F.Folder.state c.write.new.folder) c.args.trace.now p slot c.args.arrived mid c.args.given c.speak.new.sent
-    c.in-Err-write.fault h up given w
-    c.in-Err-write.ensures.write c.in-Err-write.ensures.err
+    gone-part s c.speak.new.self (g.F.Folder.state c.args.folder.now) (g.F.Folder.state c.write.new.folder) c.args.trace.now p slot
+    c.args.arrived mid c.args.given c.speak.new.sent h up given w c.in-Err-write.fault c.in-Err-write.ensures.write
+    c.in-Err-write.ensures.err
 
 pub returns-in-Ok-write-2-clause-speaks : goal.returns-in-Ok-write-2-clause-speaks
 returns-in-Ok-write-2-clause-speaks g c = λ p slot mid h up given.

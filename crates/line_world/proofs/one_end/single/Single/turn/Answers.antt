@@ -1,4 +1,4 @@
-use Rattle.std.proofs.Common.{◌≡◌, ◌+◌, ◌∙◌, [], ◌∷◌, sym, ap, subst}
+use Rattle.std.proofs.Common.{◌≡◌, ◌+◌, ◌∙◌, [], ◌∷◌, sym, ap, subst, ◌<◌, ◌^◌}
 use Rattle.std.specs.List.{concat}
 use Rattle.outside_calls.proofs.Steps.{CountsStand-trans}
 use Rattle.outside_calls.proofs.Putting.{OnlyPuts-trans, OnlyPuts-reads, KeepsEach-reads, AddEach-kept}
@@ -10,70 +10,11 @@ use Rattle.line_world.specs.OneEnd.Single.{inputs_of, named, outputs_of}
 use Rattle.line_world.specs.OneEnd.Turn.{EndsBy}
 use Rattle.line_world.proofs.OneEnd.Folders.{got-only, trace-only, trace-counts, read-counts, counts-later, stays-known, others-known}
 use Rattle.line_world.proofs.OneEnd.Turning.{broke-off, hands-over, not-handed, not-read, writing-ends, reading-ends, made, stopped-so}
-use Rattle.line_world.proofs.OneEnd.Turning.{ended, gone-on}
-use Rattle.line_world.proofs.OneEnd.Turning.{counted-later}
+use Rattle.line_world.proofs.OneEnd.Turning.{ended, gone-on, no-step, closed-no-step}
 use Rattle.line_world.specs.OneEnd.Mid.{handed}
-use Rattle.std.proofs.Common.{◌<◌, ◌^◌}
-use Rattle.line_world.proofs.OneEnd.Turning.{no-step, closed-no-step}
 use Rattle.line_world.proofs.OneEnd.Folders.{got-counts}
 use Rattle.line_world.proofs.one_end.single.Single.turn.Goals as goal
-
-pub returns-in-Err-clause-turn : goal.returns-in-Err-clause-turn
-returns-in-Err-clause-turn g c = λ p h within.
-    broke-off c.hear.new.self (g.F.Folder.state c.args.folder.now) (g.F.Folder.state c.break_off.new.folder)
-    (named c.args.file.now c.args.got.now c.args.trace.now) p c.args.bits.now c.break_off.result
-    c.requires.apart within c.break_off.ensures.only (c.break_off.ensures.ends p c.args.bits.now (c.in-Err.ensures.hears p h))
-
-pub returns-in-Err-hand_over-clause-turn : goal.returns-in-Err-hand_over-clause-turn
-returns-in-Err-hand_over-clause-turn g c = λ p h within.
-    let a = g.F.Folder.state c.args.folder.now in
-    let b = g.F.Folder.state c.hand_over.new.folder in
-    let n = named c.args.file.now c.args.got.now c.args.trace.now in
-    let has = c.in-Ok.ensures.hears p h in
-    subst (λ (r : Role). EndsBy r a b n p c.args.bits.now c.in-Err-hand_over.fault) (sym c.hand_over.ensures.role)
-    (writing-ends c.hear.new.self.role a b n p c.args.bits.now c.in-Err-hand_over.fault c.in-Err-hand_over.ensures.write
-    (not-handed c.one_lone_run.ensures.made c.hear.new.self a b n p c.args.bits.now c.in-Ok.arrived has.0 c.requires.apart within has.1
-    c.hand_over.ensures.only
-    (c.in-Err-hand_over.ensures.part p c.args.bits.now c.in-Ok.arrived has.0 has.1)))
-
-pub returns-in-Ok-finish-clause-turn : goal.returns-in-Ok-finish-clause-turn
-returns-in-Ok-finish-clause-turn g c = λ p h within.
-    let a = g.F.Folder.state c.args.folder.now in
-    let b = g.F.Folder.state c.hand_over.new.folder in
-    let z = g.F.Folder.state c.finish.new.folder in
-    let n = named c.args.file.now c.args.got.now c.args.trace.now in
-    let slot = c.args.bits.now in
-    let arrived = c.in-Ok.arrived in
-    let has = c.in-Ok.ensures.hears p h in
-    let mid = has.0 in
-    let now = c.in-Ok-hand_over.ensures.stands p slot arrived mid has.1 in
-    let closed = sym (c.hangs_up.ensures p slot arrived mid now) ∙ c.if-hangs_up.true in
-    let only = OnlyPuts-trans a b z (outputs_of n) (got-only a b n c.hand_over.ensures.only) (trace-only b z n c.finish.ensures.only) in
-    made c.hand_over.new.self a b z n p slot (concat (deliveries mid)) p.file Closed c.requires.apart c.hand_over.ensures.only.goes_on
-    (hands-over a b n (concat (deliveries mid)) c.requires.apart c.hand_over.ensures.only
-    (c.in-Ok-hand_over.ensures.adds p slot arrived mid has.1)) c.finish.ensures.only
-    (stays-known a z n p.file c.requires.apart only within)
-    (c.in-Ok-finish.ensures.adds p slot mid now closed (c.in-Ok-hand_over.ensures.given p slot arrived mid has.1))
-
-pub returns-in-Err-finish-clause-turn : goal.returns-in-Err-finish-clause-turn
-returns-in-Err-finish-clause-turn g c = λ p h within.
-    let a = g.F.Folder.state c.args.folder.now in
-    let b = g.F.Folder.state c.hand_over.new.folder in
-    let z = g.F.Folder.state c.finish.new.folder in
-    let n = named c.args.file.now c.args.got.now c.args.trace.now in
-    let slot = c.args.bits.now in
-    let arrived = c.in-Ok.arrived in
-    let has = c.in-Ok.ensures.hears p h in
-    let mid = has.0 in
-    let now = c.in-Ok-hand_over.ensures.stands p slot arrived mid has.1 in
-    let closed = sym (c.hangs_up.ensures p slot arrived mid now) ∙ c.if-hangs_up.true in
-    let only = OnlyPuts-trans a b z (outputs_of n) (got-only a b n c.hand_over.ensures.only) (trace-only b z n c.finish.ensures.only) in
-    stopped-so c.hand_over.new.self a b z n p slot
-    (concat (deliveries mid)) p.file c.in-Err-finish.fault c.requires.apart c.hand_over.ensures.only.goes_on
-    (hands-over a b n (concat (deliveries mid)) c.requires.apart c.hand_over.ensures.only
-    (c.in-Ok-hand_over.ensures.adds p slot arrived mid has.1)) c.finish.ensures.only
-    (stays-known a z n p.file c.requires.apart only within) c.in-Err-finish.ensures.write
-    (c.in-Err-finish.ensures.part p slot mid now closed (c.in-Ok-hand_over.ensures.given p slot arrived mid has.1))
+use Rattle.line_world.proofs.Linking.{counted-later}
 
 pub serve-requires : goal.serve-requires
 serve-requires g c =
@@ -91,281 +32,241 @@ serve-requires g c =
       );
     }
 
-pub returns-in-Err-serve-clause-turn : goal.returns-in-Err-serve-clause-turn
-returns-in-Err-serve-clause-turn g c = λ p h within.
-    let a = g.F.Folder.state c.args.folder.now in
-    let b = g.F.Folder.state c.hand_over.new.folder in
-    let d = g.F.Folder.state c.serve.new.folder in
-    let n = named c.args.file.now c.args.got.now c.args.trace.now in
-    let slot = c.args.bits.now in
-    let arrived = c.in-Ok.arrived in
-    let has = c.in-Ok.ensures.hears p h in
-    let now = c.in-Ok-hand_over.ensures.stands p slot arrived has.0 has.1 in
-    subst (λ (r : Role). EndsBy r a d n p slot c.in-Err-serve.fault) (sym c.serve.ensures.role)
-    (reading-ends c.hand_over.new.self.role a d n p slot c.in-Err-serve.fault c.in-Err-serve.ensures.read
-    (not-read c.one_lone_run.ensures.made c.hand_over.new.self a d n p slot arrived has.0 (handed has.0) c.requires.apart within now
-    (OnlyPuts-trans a b d (outputs_of n) (got-only a b n c.hand_over.ensures.only) (OnlyPuts-reads b d (outputs_of n) c.serve.ensures.only))
-    (AddEach-kept a b d (outputs_of n) (concat (deliveries has.0) ∷ []) c.hand_over.ensures.only.goes_on
-    (hands-over a b n (concat (deliveries has.0)) c.requires.apart c.hand_over.ensures.only
-    (c.in-Ok-hand_over.ensures.adds p slot arrived has.0 has.1)) (KeepsEach-reads b d (outputs_of n) c.serve.ensures.only))))
+pub hear-requires : goal.hear-requires
+hear-requires g c = record {
+  ready = c.requires.ready;
+  early = c.requires.few;
+  short = c.requires.short;
+}
 
-pub returns-in-Ok-speak-clause-turn : goal.returns-in-Ok-speak-clause-turn
-returns-in-Ok-speak-clause-turn g c = λ p h within.
-    let a = g.F.Folder.state c.args.folder.now in
-    let b = g.F.Folder.state c.hand_over.new.folder in
-    let d = g.F.Folder.state c.serve.new.folder in
-    let z = g.F.Folder.state c.speak.new.folder in
+pub returns-in-Err : goal.returns-in-Err
+returns-in-Err g c =
     let n = named c.args.file.now c.args.got.now c.args.trace.now in
-    let slot = c.args.bits.now in
-    let arrived = c.in-Ok.arrived in
-    let has = c.in-Ok.ensures.hears p h in
-    let mid = has.0 in
-    let now = c.in-Ok-hand_over.ensures.stands p slot arrived mid has.1 in
-    let still = sym (c.hangs_up.ensures p slot arrived mid now) ∙ c.if-hangs_up.false in
-    let s = c.in-Ok-serve.ensures.serves p slot arrived mid now within in
-    let first = got-only a b n c.hand_over.ensures.only in
-    let only-d = OnlyPuts-trans a b d (outputs_of n) first (OnlyPuts-reads b d (outputs_of n) c.serve.ensures.only) in
-    let only-z = OnlyPuts-trans a d z (outputs_of n) only-d (trace-only d z n c.speak.ensures.only) in
-    gone-on c.speak.new.self a d z n p slot (concat (deliveries mid)) s.others c.requires.apart only-d.goes_on
-    (AddEach-kept a b d (outputs_of n) (concat (deliveries mid) ∷ []) c.hand_over.ensures.only.goes_on
-    (hands-over a b n (concat (deliveries mid)) c.requires.apart c.hand_over.ensures.only
-    (c.in-Ok-hand_over.ensures.adds p slot arrived mid has.1)) (KeepsEach-reads b d (outputs_of n) c.serve.ensures.only))
-    c.speak.ensures.only
-    (others-known a b z n p.file s.others (handed mid) c.requires.apart first only-z s.reads)
-    (c.in-Ok-speak.ensures.speaks (over s.others p) slot mid s.stands still (c.in-Ok-hand_over.ensures.given p slot arrived mid has.1))
-
-pub returns-in-Ok-speak-clause-ready : goal.returns-in-Ok-speak-clause-ready
-returns-in-Ok-speak-clause-ready g c = λ going.
-    let r = c.requires.ready in
-    let p = r.past in
-    let slot = c.args.bits.now in
-    let arrived = c.in-Ok.arrived in
-    let has = c.in-Ok.ensures.hears p r.after in
-    let mid = has.0 in
-    let now = c.in-Ok-hand_over.ensures.stands p slot arrived mid has.1 in
-    let still = sym (c.hangs_up.ensures p slot arrived mid now) ∙ c.if-hangs_up.false in
-    let s = c.in-Ok-serve.ensures.serves p slot arrived mid now r.within in
-    let gone =
-    c.in-Ok-speak.ensures.speaks (over s.others p) slot mid s.stands still (c.in-Ok-hand_over.ensures.given p slot arrived mid has.1) in
-    let t = c.args.self.now.turn in
-    let number : c.speak.new.self.turn ≡ t + 1 =
-    c.in-Ok-speak.ensures.turn ∙ ap (λ x. x + 1) (c.serve.ensures.turn ∙ c.hand_over.ensures.turn ∙ c.hear.ensures.turn) in
     record {
-      past = after slot gone.adds.turn gone.adds.is.is.0 (over s.others p);
-      within = s.reads.within;
-      after = gone.single;
-      idle = c.in-Ok-speak.ensures.idle (c.in-Ok-serve.ensures.idle c.in-Ok-hand_over.ensures.idle);
-      counted = subst (λ x. IsCounted c.speak.new.self.station x x) (sym number)
-          (counted-later c.speak.new.self.station (t + 1) t
-          (c.in-Ok-speak.ensures.counted (t + 1) t
-          (c.in-Ok-serve.ensures.counted (t + 1) t (c.in-Ok-hand_over.ensures.counted (t + 1) t c.in-Ok.ensures.counted))));
+      turn = λ p h within.
+          broke-off c.hear.new.self (g.F.Folder.state c.args.folder.now) (g.F.Folder.state c.break_off.new.folder)
+          (named c.args.file.now c.args.got.now c.args.trace.now) p c.args.bits.now c.break_off.result
+          c.requires.apart within c.break_off.ensures.only (c.break_off.ensures.ends p c.args.bits.now (c.in-Err.ensures.hears p h));
+      role = c.hear.ensures.role;
+      ready = λ e. no-step e;
+      number = c.hear.ensures.turn;
+      only = trace-only _ _ n c.break_off.ensures.only;
+      counts =
+          trace-counts (g.F.Folder.state c.args.folder.now)
+          (g.F.Folder.state c.break_off.new.folder) n c.break_off.result c.break_off.ensures.counts;
+      came = c.break_off.ensures.came;
     }
 
-pub returns-in-Err-speak-clause-turn : goal.returns-in-Err-speak-clause-turn
-returns-in-Err-speak-clause-turn g c = λ p h within.
+pub returns-in-Ok-finish : goal.returns-in-Ok-finish
+returns-in-Ok-finish g c =
+    let n = named c.args.file.now c.args.got.now c.args.trace.now in
+    let only = OnlyPuts-trans _ _ _ (outputs_of n) (got-only _ _ n c.hand_over.ensures.only) (trace-only _ _ n c.finish.ensures.only) in
+    record {
+      turn = λ p h within.
+          let slot = c.args.bits.now in
+          let arrived = c.in-Ok.arrived in
+          let has = c.in-Ok.ensures.hears p h in
+          let mid = has.0 in
+          let now = c.in-Ok-hand_over.ensures.stands p slot arrived mid has.1 in
+          let closed = sym (c.hangs_up.ensures p slot arrived mid now) ∙ c.if-hangs_up.true in
+          made c.hand_over.new.self _ _ _ n p slot (concat (deliveries mid)) p.file c.requires.apart c.hand_over.ensures.only.goes_on
+          (hands-over _ _ n (concat (deliveries mid)) c.requires.apart c.hand_over.ensures.only
+          (c.in-Ok-hand_over.ensures.adds p slot arrived mid has.1)) c.finish.ensures.only
+          (stays-known _ _ n p.file c.requires.apart only within) Closed
+          (c.in-Ok-finish.ensures.adds p slot mid now closed (c.in-Ok-hand_over.ensures.given p slot arrived mid has.1));
+      role = c.hand_over.ensures.role ∙ c.hear.ensures.role;
+      ready = λ e. closed-no-step e;
+      number = c.hand_over.ensures.turn ∙ c.hear.ensures.turn;
+      only = only;
+      counts = CountsStand-trans c.in-Ok-hand_over.ensures.counts c.in-Ok-finish.ensures.counts;
+      came = g.met.F.Folder.came_on _ _ _ c.hand_over.ensures.came c.finish.ensures.came;
+    }
+
+pub returns-in-Err-finish : goal.returns-in-Err-finish
+returns-in-Err-finish g c =
+    let n = named c.args.file.now c.args.got.now c.args.trace.now in
+    let a = g.F.Folder.state c.args.folder.now in
+    let b = g.F.Folder.state c.hand_over.new.folder in
+    let z = g.F.Folder.state c.finish.new.folder in
+    let only = OnlyPuts-trans a b z (outputs_of n) (got-only a b n c.hand_over.ensures.only) (trace-only b z n c.finish.ensures.only) in
+    record {
+      turn = λ p h within.
+          let slot = c.args.bits.now in
+          let arrived = c.in-Ok.arrived in
+          let has = c.in-Ok.ensures.hears p h in
+          let mid = has.0 in
+          let now = c.in-Ok-hand_over.ensures.stands p slot arrived mid has.1 in
+          let closed = sym (c.hangs_up.ensures p slot arrived mid now) ∙ c.if-hangs_up.true in
+          stopped-so c.hand_over.new.self a b z n p slot (concat (deliveries mid)) p.file c.requires.apart
+          c.hand_over.ensures.only.goes_on (hands-over a b n (concat (deliveries mid)) c.requires.apart c.hand_over.ensures.only
+          (c.in-Ok-hand_over.ensures.adds p slot arrived mid has.1)) c.finish.ensures.only
+          (stays-known a z n p.file c.requires.apart only within) c.in-Err-finish.fault c.in-Err-finish.ensures.write
+          (c.in-Err-finish.ensures.part p slot mid now closed (c.in-Ok-hand_over.ensures.given p slot arrived mid has.1));
+      role = c.hand_over.ensures.role ∙ c.hear.ensures.role;
+      ready = λ e. no-step e;
+      number = c.hand_over.ensures.turn ∙ c.hear.ensures.turn;
+      only = only;
+      counts =
+          counts-later a b z (inputs_of n) (outputs_of n) c.in-Err-finish.fault
+          c.in-Ok-hand_over.ensures.counts
+          (trace-counts b z n c.in-Err-finish.fault c.in-Err-finish.ensures.counts);
+      came = g.met.F.Folder.came_on _ _ _ c.hand_over.ensures.came c.finish.ensures.came;
+    }
+
+pub returns-in-Err-serve : goal.returns-in-Err-serve
+returns-in-Err-serve g c =
+    let n = named c.args.file.now c.args.got.now c.args.trace.now in
     let a = g.F.Folder.state c.args.folder.now in
     let b = g.F.Folder.state c.hand_over.new.folder in
     let d = g.F.Folder.state c.serve.new.folder in
-    let z = g.F.Folder.state c.speak.new.folder in
-    let n = named c.args.file.now c.args.got.now c.args.trace.now in
-    let slot = c.args.bits.now in
-    let arrived = c.in-Ok.arrived in
-    let has = c.in-Ok.ensures.hears p h in
-    let mid = has.0 in
-    let now = c.in-Ok-hand_over.ensures.stands p slot arrived mid has.1 in
-    let still = sym (c.hangs_up.ensures p slot arrived mid now) ∙ c.if-hangs_up.false in
-    let s = c.in-Ok-serve.ensures.serves p slot arrived mid now within in
-    let first = got-only a b n c.hand_over.ensures.only in
-    let only-d = OnlyPuts-trans a b d (outputs_of n) first (OnlyPuts-reads b d (outputs_of n) c.serve.ensures.only) in
-    let only-z = OnlyPuts-trans a d z (outputs_of n) only-d (trace-only d z n c.speak.ensures.only) in
-    ended c.speak.new.self a d z n p slot (concat (deliveries mid)) s.others c.in-Err-speak.fault c.requires.apart only-d.goes_on
-    (AddEach-kept a b d (outputs_of n) (concat (deliveries mid) ∷ []) c.hand_over.ensures.only.goes_on
-    (hands-over a b n (concat (deliveries mid)) c.requires.apart c.hand_over.ensures.only
-    (c.in-Ok-hand_over.ensures.adds p slot arrived mid has.1)) (KeepsEach-reads b d (outputs_of n) c.serve.ensures.only))
-    c.speak.ensures.only
-    (others-known a b z n p.file s.others (handed mid) c.requires.apart first only-z s.reads)
-    (c.in-Err-speak.ensures.speaks (over s.others p) slot mid s.stands still (c.in-Ok-hand_over.ensures.given p slot arrived mid has.1))
-
-pub returns-in-Err-clause-only : goal.returns-in-Err-clause-only
-returns-in-Err-clause-only g c =
-    let n = named c.args.file.now c.args.got.now c.args.trace.now in
-    trace-only _ _ n c.break_off.ensures.only
-
-pub returns-in-Err-clause-counts : goal.returns-in-Err-clause-counts
-returns-in-Err-clause-counts g c =
-    let n = named c.args.file.now c.args.got.now c.args.trace.now in
-    trace-counts (g.F.Folder.state c.args.folder.now)
-    (g.F.Folder.state c.break_off.new.folder) n c.break_off.result c.break_off.ensures.counts
-
-pub returns-in-Err-hand_over-clause-only : goal.returns-in-Err-hand_over-clause-only
-returns-in-Err-hand_over-clause-only g c =
-    let n = named c.args.file.now c.args.got.now c.args.trace.now in
-    got-only _ _ n c.hand_over.ensures.only
-
-pub returns-in-Ok-finish-clause-only : goal.returns-in-Ok-finish-clause-only
-returns-in-Ok-finish-clause-only g c =
-    let n = named c.args.file.now c.args.got.now c.args.trace.now in
-    OnlyPuts-trans _ _ _ (outputs_of n) (got-only _ _ n c.hand_over.ensures.only) (trace-only _ _ n c.finish.ensures.only)
-
-pub returns-in-Err-finish-clause-only : goal.returns-in-Err-finish-clause-only
-returns-in-Err-finish-clause-only g c =
-    let n = named c.args.file.now c.args.got.now c.args.trace.now in
-    OnlyPuts-trans _ _ _ (outputs_of n) (got-only _ _ n c.hand_over.ensures.only) (trace-only _ _ n c.finish.ensures.only)
-
-pub returns-in-Err-serve-clause-only : goal.returns-in-Err-serve-clause-only
-returns-in-Err-serve-clause-only g c =
-    let n = named c.args.file.now c.args.got.now c.args.trace.now in
-    OnlyPuts-trans _ _ _ (outputs_of n) (got-only _ _ n c.hand_over.ensures.only) (OnlyPuts-reads _ _ (outputs_of n) c.serve.ensures.only)
-
-pub returns-in-Ok-speak-clause-only : goal.returns-in-Ok-speak-clause-only
-returns-in-Ok-speak-clause-only g c =
-    let n = named c.args.file.now c.args.got.now c.args.trace.now in
-    OnlyPuts-trans _ _ _ (outputs_of n)
-    (OnlyPuts-trans _ _ _ (outputs_of n) (got-only _ _ n c.hand_over.ensures.only)
-    (OnlyPuts-reads _ _ (outputs_of n) c.serve.ensures.only))
-    (trace-only _ _ n c.speak.ensures.only)
-
-pub returns-in-Err-speak-clause-only : goal.returns-in-Err-speak-clause-only
-returns-in-Err-speak-clause-only g c =
-    let n = named c.args.file.now c.args.got.now c.args.trace.now in
-    OnlyPuts-trans _ _ _ (outputs_of n)
-    (OnlyPuts-trans _ _ _ (outputs_of n) (got-only _ _ n c.hand_over.ensures.only)
-    (OnlyPuts-reads _ _ (outputs_of n) c.serve.ensures.only))
-    (trace-only _ _ n c.speak.ensures.only)
-
-pub returns-in-Ok-finish-clause-counts : goal.returns-in-Ok-finish-clause-counts
-returns-in-Ok-finish-clause-counts g c = CountsStand-trans c.in-Ok-hand_over.ensures.counts c.in-Ok-finish.ensures.counts
-
-pub returns-in-Err-finish-clause-counts : goal.returns-in-Err-finish-clause-counts
-returns-in-Err-finish-clause-counts g c =
-    let n = named c.args.file.now c.args.got.now c.args.trace.now in
-    counts-later (g.F.Folder.state c.args.folder.now) (g.F.Folder.state c.hand_over.new.folder)
-    (g.F.Folder.state c.finish.new.folder) (inputs_of n) (outputs_of n) c.in-Err-finish.fault
-    c.in-Ok-hand_over.ensures.counts
-    (trace-counts (g.F.Folder.state c.hand_over.new.folder)
-    (g.F.Folder.state c.finish.new.folder) n c.in-Err-finish.fault c.in-Err-finish.ensures.counts)
-
-pub returns-in-Err-serve-clause-counts : goal.returns-in-Err-serve-clause-counts
-returns-in-Err-serve-clause-counts g c =
-    let n = named c.args.file.now c.args.got.now c.args.trace.now in
-    counts-later (g.F.Folder.state c.args.folder.now) (g.F.Folder.state c.hand_over.new.folder)
-    (g.F.Folder.state c.serve.new.folder) (inputs_of n) (outputs_of n) c.in-Err-serve.fault
-    c.in-Ok-hand_over.ensures.counts
-    (read-counts (g.F.Folder.state c.hand_over.new.folder)
-    (g.F.Folder.state c.serve.new.folder) n c.in-Err-serve.fault c.in-Err-serve.ensures.counts)
-
-pub returns-in-Ok-speak-clause-counts : goal.returns-in-Ok-speak-clause-counts
-returns-in-Ok-speak-clause-counts g c =
-    CountsStand-trans (CountsStand-trans c.in-Ok-hand_over.ensures.counts c.in-Ok-serve.ensures.counts) c.in-Ok-speak.ensures.counts
-
-pub returns-in-Err-speak-clause-counts : goal.returns-in-Err-speak-clause-counts
-returns-in-Err-speak-clause-counts g c =
-    let n = named c.args.file.now c.args.got.now c.args.trace.now in
-    counts-later (g.F.Folder.state c.args.folder.now) (g.F.Folder.state c.serve.new.folder)
-    (g.F.Folder.state c.speak.new.folder) (inputs_of n) (outputs_of n) c.in-Err-speak.fault
-    (CountsStand-trans c.in-Ok-hand_over.ensures.counts c.in-Ok-serve.ensures.counts)
-    (trace-counts (g.F.Folder.state c.serve.new.folder)
-    (g.F.Folder.state c.speak.new.folder) n c.in-Err-speak.fault c.in-Err-speak.ensures.counts)
-
-pub returns-in-Err-clause-number : goal.returns-in-Err-clause-number
-returns-in-Err-clause-number g c = c.hear.ensures.turn
-
-pub returns-in-Err-hand_over-clause-number : goal.returns-in-Err-hand_over-clause-number
-returns-in-Err-hand_over-clause-number g c = c.hand_over.ensures.turn ∙ c.hear.ensures.turn
-
-pub returns-in-Ok-finish-clause-number : goal.returns-in-Ok-finish-clause-number
-returns-in-Ok-finish-clause-number g c = c.hand_over.ensures.turn ∙ c.hear.ensures.turn
-
-pub returns-in-Err-finish-clause-number : goal.returns-in-Err-finish-clause-number
-returns-in-Err-finish-clause-number g c = c.hand_over.ensures.turn ∙ c.hear.ensures.turn
-
-pub returns-in-Err-serve-clause-number : goal.returns-in-Err-serve-clause-number
-returns-in-Err-serve-clause-number g c = c.serve.ensures.turn ∙ c.hand_over.ensures.turn ∙ c.hear.ensures.turn
-
-pub returns-in-Ok-speak-clause-number : goal.returns-in-Ok-speak-clause-number
-returns-in-Ok-speak-clause-number g c =
-    c.in-Ok-speak.ensures.turn ∙ ap (λ x. x + 1) (c.serve.ensures.turn ∙ c.hand_over.ensures.turn ∙ c.hear.ensures.turn)
-
-pub returns-in-Err-speak-clause-number : goal.returns-in-Err-speak-clause-number
-returns-in-Err-speak-clause-number g c =
-    c.in-Err-speak.ensures.halts ∙ c.serve.ensures.turn ∙ c.hand_over.ensures.turn ∙ c.hear.ensures.turn
-
-pub hear-requires-clause-ready : goal.hear-requires-clause-ready
-hear-requires-clause-ready g c = c.requires.ready
-
-pub hear-requires-clause-early : goal.hear-requires-clause-early
-hear-requires-clause-early g c = c.requires.few
-
-pub hear-requires-clause-short : goal.hear-requires-clause-short
-hear-requires-clause-short g c = c.requires.short
-
-pub returns-in-Err-clause-role : goal.returns-in-Err-clause-role
-returns-in-Err-clause-role g c = c.hear.ensures.role
-
-pub returns-in-Err-clause-ready : goal.returns-in-Err-clause-ready
-returns-in-Err-clause-ready g c = λ e. no-step e
-
-pub returns-in-Err-clause-came : goal.returns-in-Err-clause-came
-returns-in-Err-clause-came g c = c.break_off.ensures.came
-
-pub returns-in-Err-hand_over-clause-role : goal.returns-in-Err-hand_over-clause-role
-returns-in-Err-hand_over-clause-role g c = c.hand_over.ensures.role ∙ c.hear.ensures.role
-
-pub returns-in-Err-hand_over-clause-ready : goal.returns-in-Err-hand_over-clause-ready
-returns-in-Err-hand_over-clause-ready g c = λ e. no-step e
-
-pub returns-in-Err-hand_over-clause-came : goal.returns-in-Err-hand_over-clause-came
-returns-in-Err-hand_over-clause-came g c = c.hand_over.ensures.came
-
-pub returns-in-Ok-finish-clause-role : goal.returns-in-Ok-finish-clause-role
-returns-in-Ok-finish-clause-role g c = c.hand_over.ensures.role ∙ c.hear.ensures.role
-
-pub returns-in-Ok-finish-clause-ready : goal.returns-in-Ok-finish-clause-ready
-returns-in-Ok-finish-clause-ready g c = λ e. closed-no-step e
-
-pub returns-in-Ok-finish-clause-came : goal.returns-in-Ok-finish-clause-came
-returns-in-Ok-finish-clause-came g c = g.met.F.Folder.came_on _ _ _ c.hand_over.ensures.came c.finish.ensures.came
-
-pub returns-in-Err-finish-clause-role : goal.returns-in-Err-finish-clause-role
-returns-in-Err-finish-clause-role g c = c.hand_over.ensures.role ∙ c.hear.ensures.role
-
-pub returns-in-Err-finish-clause-ready : goal.returns-in-Err-finish-clause-ready
-returns-in-Err-finish-clause-ready g c = λ e. no-step e
-
-pub returns-in-Err-finish-clause-came : goal.returns-in-Err-finish-clause-came
-returns-in-Err-finish-clause-came g c = g.met.F.Folder.came_on _ _ _ c.hand_over.ensures.came c.finish.ensures.came
-
-pub returns-in-Err-serve-clause-role : goal.returns-in-Err-serve-clause-role
-returns-in-Err-serve-clause-role g c = c.serve.ensures.role ∙ c.hand_over.ensures.role ∙ c.hear.ensures.role
-
-pub returns-in-Err-serve-clause-ready : goal.returns-in-Err-serve-clause-ready
-returns-in-Err-serve-clause-ready g c = λ e. no-step e
-
-pub returns-in-Err-serve-clause-came : goal.returns-in-Err-serve-clause-came
-returns-in-Err-serve-clause-came g c = g.met.F.Folder.came_on _ _ _ c.hand_over.ensures.came c.serve.ensures.came
+    let only = OnlyPuts-trans a b d (outputs_of n) (got-only a b n c.hand_over.ensures.only)
+    (OnlyPuts-reads b d (outputs_of n) c.serve.ensures.only) in
+    record {
+      turn = λ p h within.
+          let slot = c.args.bits.now in
+          let arrived = c.in-Ok.arrived in
+          let has = c.in-Ok.ensures.hears p h in
+          let now = c.in-Ok-hand_over.ensures.stands p slot arrived has.0 has.1 in
+          subst (λ (r : Role). EndsBy r a d n p slot c.in-Err-serve.fault) (sym c.serve.ensures.role)
+          (reading-ends c.hand_over.new.self.role a d n p slot c.in-Err-serve.fault c.in-Err-serve.ensures.read
+          (not-read c.one_lone_run.ensures.made c.hand_over.new.self a d n p slot arrived has.0 (handed has.0) c.requires.apart within now
+          only
+          (AddEach-kept a b d (outputs_of n) (concat (deliveries has.0) ∷ []) c.hand_over.ensures.only.goes_on
+          (hands-over a b n (concat (deliveries has.0)) c.requires.apart c.hand_over.ensures.only
+          (c.in-Ok-hand_over.ensures.adds p slot arrived has.0 has.1)) (KeepsEach-reads b d (outputs_of n) c.serve.ensures.only))));
+      role = c.serve.ensures.role ∙ c.hand_over.ensures.role ∙ c.hear.ensures.role;
+      ready = λ e. no-step e;
+      number = c.serve.ensures.turn ∙ c.hand_over.ensures.turn ∙ c.hear.ensures.turn;
+      only = only;
+      counts =
+          counts-later a b d (inputs_of n) (outputs_of n) c.in-Err-serve.fault
+          c.in-Ok-hand_over.ensures.counts
+          (read-counts b d n c.in-Err-serve.fault c.in-Err-serve.ensures.counts);
+      came = g.met.F.Folder.came_on _ _ _ c.hand_over.ensures.came c.serve.ensures.came;
+    }
 
 pub speak-requires : goal.speak-requires
 speak-requires g c = record {
   early = subst (λ n. n < 2 ^ 40) (sym (c.serve.ensures.turn ∙ c.hand_over.ensures.turn ∙ c.hear.ensures.turn)) c.requires.few;
 }
 
-pub returns-in-Ok-speak-clause-role : goal.returns-in-Ok-speak-clause-role
-returns-in-Ok-speak-clause-role g c = c.speak.ensures.role ∙ c.serve.ensures.role ∙ c.hand_over.ensures.role ∙ c.hear.ensures.role
+pub returns-in-Ok-speak : goal.returns-in-Ok-speak
+returns-in-Ok-speak g c =
+    let arrived = c.in-Ok.arrived in
+    let n = named c.args.file.now c.args.got.now c.args.trace.now in
+    let a = g.F.Folder.state c.args.folder.now in
+    let b = g.F.Folder.state c.hand_over.new.folder in
+    let d = g.F.Folder.state c.serve.new.folder in
+    let z = g.F.Folder.state c.speak.new.folder in
+    let first = got-only a b n c.hand_over.ensures.only in
+    let only-d = OnlyPuts-trans a b d (outputs_of n) first (OnlyPuts-reads b d (outputs_of n) c.serve.ensures.only) in
+    let only-z = OnlyPuts-trans a d z (outputs_of n) only-d (trace-only d z n c.speak.ensures.only) in
+    record {
+      turn = λ p h within.
+          let slot = c.args.bits.now in
+          let has = c.in-Ok.ensures.hears p h in
+          let mid = has.0 in
+          let now = c.in-Ok-hand_over.ensures.stands p slot arrived mid has.1 in
+          let still = sym (c.hangs_up.ensures p slot arrived mid now) ∙ c.if-hangs_up.false in
+          let s = c.in-Ok-serve.ensures.serves p slot arrived mid now within in
+          gone-on c.speak.new.self a d z n p slot (concat (deliveries mid)) s.others c.requires.apart only-d.goes_on
+          (AddEach-kept a b d (outputs_of n) (concat (deliveries mid) ∷ []) c.hand_over.ensures.only.goes_on
+          (hands-over a b n (concat (deliveries mid)) c.requires.apart c.hand_over.ensures.only
+          (c.in-Ok-hand_over.ensures.adds p slot arrived mid has.1)) (KeepsEach-reads b d (outputs_of n) c.serve.ensures.only))
+          c.speak.ensures.only
+          (others-known a b z n p.file s.others (handed mid) c.requires.apart first only-z s.reads)
+          (c.in-Ok-speak.ensures.speaks (over s.others p) slot mid s.stands still
+          (c.in-Ok-hand_over.ensures.given p slot arrived mid has.1));
+      role = c.speak.ensures.role ∙ c.serve.ensures.role ∙ c.hand_over.ensures.role ∙ c.hear.ensures.role;
+      ready = λ going.
+          let r = c.requires.ready in
+          let p = r.past in
+          let slot = c.args.bits.now in
+          let has = c.in-Ok.ensures.hears p r.after in
+          let mid = has.0 in
+          let now = c.in-Ok-hand_over.ensures.stands p slot arrived mid has.1 in
+          let still = sym (c.hangs_up.ensures p slot arrived mid now) ∙ c.if-hangs_up.false in
+          let s = c.in-Ok-serve.ensures.serves p slot arrived mid now r.within in
+          let gone =
+          c.in-Ok-speak.ensures.speaks (over s.others p) slot mid s.stands still
+          (c.in-Ok-hand_over.ensures.given p slot arrived mid has.1) in
+          let t = c.args.self.now.turn in
+          let number : c.speak.new.self.turn ≡ t + 1 =
+          c.in-Ok-speak.ensures.turn ∙ ap (λ x. x + 1) (c.serve.ensures.turn ∙ c.hand_over.ensures.turn ∙ c.hear.ensures.turn) in
+          record {
+            past = after slot gone.adds.turn gone.adds.is.is.0 (over s.others p);
+            within = s.reads.within;
+            after = gone.single;
+            idle = c.in-Ok-speak.ensures.idle (c.in-Ok-serve.ensures.idle c.in-Ok-hand_over.ensures.idle);
+            counted = subst (λ x. IsCounted c.speak.new.self.station x x) (sym number)
+                (counted-later c.speak.new.self.station (t + 1) t
+                (c.in-Ok-speak.ensures.counted (t + 1) t
+                (c.in-Ok-serve.ensures.counted (t + 1) t (c.in-Ok-hand_over.ensures.counted (t + 1) t c.in-Ok.ensures.counted))));
+          };
+      number = c.in-Ok-speak.ensures.turn ∙ ap (λ x. x + 1) (c.serve.ensures.turn ∙ c.hand_over.ensures.turn ∙ c.hear.ensures.turn);
+      only = only-z;
+      counts =
+          CountsStand-trans (CountsStand-trans c.in-Ok-hand_over.ensures.counts c.in-Ok-serve.ensures.counts) c.in-Ok-speak.ensures.counts;
+      came = g.met.F.Folder.came_on _ _ _ (g.met.F.Folder.came_on _ _ _ c.hand_over.ensures.came c.serve.ensures.came) c.speak.ensures.came;
+    }
 
-pub returns-in-Ok-speak-clause-came : goal.returns-in-Ok-speak-clause-came
-returns-in-Ok-speak-clause-came g c =
-    g.met.F.Folder.came_on _ _ _ (g.met.F.Folder.came_on _ _ _ c.hand_over.ensures.came c.serve.ensures.came) c.speak.ensures.came
+pub returns-in-Err-speak : goal.returns-in-Err-speak
+returns-in-Err-speak g c =
+    let n = named c.args.file.now c.args.got.now c.args.trace.now in
+    let a = g.F.Folder.state c.args.folder.now in
+    let b = g.F.Folder.state c.hand_over.new.folder in
+    let d = g.F.Folder.state c.serve.new.folder in
+    let z = g.F.Folder.state c.speak.new.folder in
+    let first = got-only a b n c.hand_over.ensures.only in
+    let only-d = OnlyPuts-trans a b d (outputs_of n) first (OnlyPuts-reads b d (outputs_of n) c.serve.ensures.only) in
+    let only-z = OnlyPuts-trans a d z (outputs_of n) only-d (trace-only d z n c.speak.ensures.only) in
+    record {
+      turn = λ p h within.
+          let slot = c.args.bits.now in
+          let arrived = c.in-Ok.arrived in
+          let has = c.in-Ok.ensures.hears p h in
+          let mid = has.0 in
+          let now = c.in-Ok-hand_over.ensures.stands p slot arrived mid has.1 in
+          let still = sym (c.hangs_up.ensures p slot arrived mid now) ∙ c.if-hangs_up.false in
+          let s = c.in-Ok-serve.ensures.serves p slot arrived mid now within in
+          ended c.speak.new.self a d z n p slot (concat (deliveries mid)) s.others c.requires.apart only-d.goes_on
+          (AddEach-kept a b d (outputs_of n) (concat (deliveries mid) ∷ []) c.hand_over.ensures.only.goes_on
+          (hands-over a b n (concat (deliveries mid)) c.requires.apart c.hand_over.ensures.only
+          (c.in-Ok-hand_over.ensures.adds p slot arrived mid has.1)) (KeepsEach-reads b d (outputs_of n) c.serve.ensures.only))
+          c.speak.ensures.only (others-known a b z n p.file s.others (handed mid) c.requires.apart first only-z s.reads)
+          c.in-Err-speak.fault (c.in-Err-speak.ensures.speaks (over s.others p) slot mid s.stands still
+          (c.in-Ok-hand_over.ensures.given p slot arrived mid has.1));
+      role = c.speak.ensures.role ∙ c.serve.ensures.role ∙ c.hand_over.ensures.role ∙ c.hear.ensures.role;
+      ready = λ e. no-step e;
+      number = c.in-Err-speak.ensures.halts ∙ c.serve.ensures.turn ∙ c.hand_over.ensures.turn ∙ c.hear.ensures.turn;
+      only = only-z;
+      counts =
+          counts-later a d z (inputs_of n) (outputs_of n) c.in-Err-speak.fault
+          (CountsStand-trans c.in-Ok-hand_over.ensures.counts c.in-Ok-serve.ensures.counts)
+          (trace-counts d z n c.in-Err-speak.fault c.in-Err-speak.ensures.counts);
+      came = g.met.F.Folder.came_on _ _ _ (g.met.F.Folder.came_on _ _ _ c.hand_over.ensures.came c.serve.ensures.came) c.speak.ensures.came;
+    }
 
-pub returns-in-Err-speak-clause-role : goal.returns-in-Err-speak-clause-role
-returns-in-Err-speak-clause-role g c = c.speak.ensures.role ∙ c.serve.ensures.role ∙ c.hand_over.ensures.role ∙ c.hear.ensures.role
-
-pub returns-in-Err-speak-clause-ready : goal.returns-in-Err-speak-clause-ready
-returns-in-Err-speak-clause-ready g c = λ e. no-step e
-
-pub returns-in-Err-speak-clause-came : goal.returns-in-Err-speak-clause-came
-returns-in-Err-speak-clause-came g c =
-    g.met.F.Folder.came_on _ _ _ (g.met.F.Folder.came_on _ _ _ c.hand_over.ensures.came c.serve.ensures.came) c.speak.ensures.came
-
-pub returns-in-Err-hand_over-clause-counts : goal.returns-in-Err-hand_over-clause-counts
-returns-in-Err-hand_over-clause-counts g c = got-counts (g.F.Folder.state c.args.folder.now) (g.F.Folder.state c.hand_over.new.folder)
-    (named c.args.file.now c.args.got.now c.args.trace.now) c.in-Err-hand_over.fault c.in-Err-hand_over.ensures.counts
+pub returns-in-Err-hand_over : goal.returns-in-Err-hand_over
+returns-in-Err-hand_over g c =
+    let n = named c.args.file.now c.args.got.now c.args.trace.now in
+    record {
+      turn = λ p h within.
+          let a = g.F.Folder.state c.args.folder.now in
+          let b = g.F.Folder.state c.hand_over.new.folder in
+          let has = c.in-Ok.ensures.hears p h in
+          subst (λ (r : Role). EndsBy r a b n p c.args.bits.now c.in-Err-hand_over.fault) (sym c.hand_over.ensures.role)
+          (writing-ends c.hear.new.self.role a b n p c.args.bits.now c.in-Err-hand_over.fault c.in-Err-hand_over.ensures.write
+          (not-handed c.one_lone_run.ensures.made c.hear.new.self a b n p c.args.bits.now c.in-Ok.arrived has.0 c.requires.apart within
+          has.1
+          c.hand_over.ensures.only
+          (c.in-Err-hand_over.ensures.part p c.args.bits.now c.in-Ok.arrived has.0 has.1)));
+      role = c.hand_over.ensures.role ∙ c.hear.ensures.role;
+      ready = λ e. no-step e;
+      number = c.hand_over.ensures.turn ∙ c.hear.ensures.turn;
+      only = got-only _ _ n c.hand_over.ensures.only;
+      counts =
+          got-counts (g.F.Folder.state c.args.folder.now) (g.F.Folder.state c.hand_over.new.folder)
+          (named c.args.file.now c.args.got.now c.args.trace.now) c.in-Err-hand_over.fault c.in-Err-hand_over.ensures.counts;
+      came = c.hand_over.ensures.came;
+    }

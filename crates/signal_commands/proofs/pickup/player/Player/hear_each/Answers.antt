@@ -11,18 +11,15 @@ use Rattle.signal_commands.proofs.pickup.player.Player.hear_each.Goals as goal
 pub loop-taken-preserved : goal.loop-taken-preserved
 loop-taken-preserved g c =
     let i = c.loop-taken.invariant in
-    let old : FolderState = g.F.Folder.state c.args.folder.now in
-    let now : FolderState = g.F.Folder.state c.loop-taken.folder in
-    let new : FolderState = g.F.Folder.state c.hear_taken.new.folder in
     record {
       plays = λ start mode samples h.
-          plays-taken start now new mode c.loop-taken.self-inside.reader c.take.new.self c.loop-taken.self-inside.listener
+          plays-taken start _ _ mode c.loop-taken.self-inside.reader c.take.new.self c.loop-taken.self-inside.listener
           c.hear_taken.new.listener samples (bits_of_taken c.in-Some.taken) (c.in-Some.ensures.stands mode samples) c.in-Ok.ensures.ok
           c.hear_taken.ensures.sender (i.plays start mode samples h);
       lost = c.in-Some.ensures.lost ∙ i.lost;
       count = c.in-Some.ensures.count ∙ i.count;
       room = omega (arith, i.room, c.in-Some.ensures.first, c.hear_taken.ensures.pieces);
-      only = says-trans old now new i.only c.hear_taken.ensures.only;
+      only = says-trans _ _ _ i.only c.hear_taken.ensures.only;
       stand = CountsStand-trans i.stand c.in-Ok.ensures.stand;
     }
 

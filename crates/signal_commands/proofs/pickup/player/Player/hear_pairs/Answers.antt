@@ -27,18 +27,15 @@ loop-octet-init g c =
 pub loop-octet-preserved : goal.loop-octet-preserved
 loop-octet-preserved g c =
     let i = c.loop-octet.invariant in
-    let old : FolderState = g.F.Folder.state c.args.folder.now in
-    let now : FolderState = g.F.Folder.state c.loop-octet.folder in
-    let new : FolderState = g.F.Folder.state c.hear_octet.new.folder in
     record {
       plays = λ start mode samples h.
-          plays-taken start now new mode c.loop-octet.self-inside.reader c.take_octet.new.self c.loop-octet.self-inside.listener
+          plays-taken start _ _ mode c.loop-octet.self-inside.reader c.take_octet.new.self c.loop-octet.self-inside.listener
           c.hear_octet.new.listener samples (octet_bits c.in-Some.octet) (c.in-Some.ensures.stands mode samples) c.in-Ok.ensures.ok
           c.hear_octet.ensures.sender (i.plays start mode samples h);
       lost = c.in-Some.ensures.lost ∙ i.lost;
       count = c.in-Some.ensures.count ∙ i.count;
       room = omega (arith, i.room, c.in-Some.ensures.two, c.hear_octet.ensures.pieces);
-      only = says-trans old now new i.only c.hear_octet.ensures.only;
+      only = says-trans _ _ _ i.only c.hear_octet.ensures.only;
       stand = CountsStand-trans i.stand c.in-Ok.ensures.stand;
     }
 
