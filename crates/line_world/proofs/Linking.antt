@@ -17,7 +17,7 @@ use Rattle.link_account.specs.Speak.{Said}
 use Rattle.link_run.specs.End.{asked, asked_at, is_busy}
 use Rattle.line_run.specs.Scripted.{breaks_of, busy_of, BreaksAreTheScripts, PausesAreTheScripts}
 use Rattle.line_world.specs.declared.station.Station.{Station}
-use Rattle.line_world.specs.Station.{Stands, HearsAs, SpeaksAs, ReadsOn, IsCounted, line_of}
+use Rattle.line_world.specs.Station.{Stands, HearsAs, SpeaksAs, ReadsOn, IsCounted, break_line_of}
 use Rattle.line_world.specs.Link.{HearsOn}
 
 pub heard-well : (s : Station) (file : List ℕ) (a : Account) (turn : ℕ) (arrived : Arrived) → is_ok (hear turn arrived a) ≡ true
@@ -34,16 +34,16 @@ counted-later s heard asked h = record { segments = omega (arith, h.segments); b
 
 -- The next break of the script is the next one of the user's.
 pub next-is : BreaksAreTheScripts → (value : ScriptValue) (role : Role) (index taken : ℕ) (next : Option (ℕ × ℕ))
-    → next ≡ break_of value role index → index ≡ taken → option_map line_of next ≡ slice_get (breaks_of value role) taken
+    → next ≡ break_of value role index → index ≡ taken → option_map break_line_of next ≡ slice_get (breaks_of value role) taken
 next-is law value role index taken next e i =
-    ap (option_map line_of) e ∙ sym (law value role index) ∙ ap (slice_get (breaks_of value role)) i
+    ap (option_map break_line_of) e ∙ sym (law value role index) ∙ ap (slice_get (breaks_of value role)) i
 
 -- Whoever isn't told to release asks for its next break,
 pub asks-so : BreaksAreTheScripts → PausesAreTheScripts
     → (value : ScriptValue) (role : Role) (turn : ℕ) (released busy : Bool) (a : Account)
     → (index : ℕ) (next : Option (ℕ × ℕ)) → next ≡ break_of value role index → index ≡ length (after_busy busy a).own_breaks.lengths
     → busy ≡ script.is_busy value role turn → released ≡ false
-    → asked_at turn (option_map line_of next) (after_busy busy a) ≡ asked turn released (breaks_of value role)
+    → asked_at turn (option_map break_line_of next) (after_busy busy a) ≡ asked turn released (breaks_of value role)
     (after_busy (is_busy turn (busy_of value role)) a)
 asks-so breaks pauses value role turn true busy a index next e i b r = absurd (false≢true (sym r))
 asks-so breaks pauses value role turn false busy a index next e i b r =

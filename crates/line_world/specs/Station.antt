@@ -76,5 +76,5 @@ pub record Supplying (f : FolderState) (name : List ℕ) (limit : ℕ) (file : L
   pub leads : (more : List ℕ) → SameSoFar now.outgoing others more → offered more now ≡ offered more a
 
 -- a break that is to be asked for, by its turn and its length
-abbrev pub line_of : ℕ × ℕ → BreakLine
-line_of b = record { turn = b.0; length_octet = b.1 }
+abbrev pub break_line_of : ℕ × ℕ → BreakLine
+break_line_of b = record { turn = b.0; length_octet = b.1 }

@@ -47,7 +47,7 @@ impl Station {
     ghost use Rattle.link_account.specs.Hear.{hear};
     ghost use Rattle.link_account.specs.Speak.{speak};
     ghost use Rattle.link_run.specs.End.{deliveries, delivered, asked_at, is_ready};
-    ghost use Rattle.line_world.specs.Station.{Stands, HearsAs, SpeaksAs, Supplies, IsKept, IsIdle, IsCounted, line_of};
+    ghost use Rattle.line_world.specs.Station.{Stands, HearsAs, SpeaksAs, Supplies, IsKept, IsIdle, IsCounted, break_line_of};
 
     /// A station before its first turn.
     pub fn new(alloc: Global, setup: Setup) -> Result<Station, NoMemory>
@@ -198,7 +198,7 @@ impl Station {
     pub fn ask(&mut self, turn: u64, next: Option<(u64, u8)>)
         requires turn { turn < 2 ^ 40 }
         requires counted { IsCounted self.old (turn + 1) turn }
-        ensures stands { (file : List ℕ) (a : Account) → Stands self.old file a → Stands self.new file (asked_at turn (option_map line_of next) a) }
+        ensures stands { (file : List ℕ) (a : Account) → Stands self.old file a → Stands self.new file (asked_at turn (option_map break_line_of next) a) }
         ensures idle { IsIdle self.old → IsIdle self.new }
         ensures counted { IsCounted self.new (turn + 1) (turn + 1) }
     {
@@ -216,7 +216,7 @@ impl Station {
     /// Whether the end needs the link no more: its file is read to its end and wholly acknowledged, and no break waits or is ready.
     pub fn is_finished(&self, turn: u64, next: Option<(u64, u8)>) -> bool
         ensures { (file : List ℕ) (a : Account) → Stands self.now file a
-            → result ≡ is_done a && not (break_waits a || is_ready turn (option_map line_of next)) }
+            → result ≡ is_done a && not (break_waits a || is_ready turn (option_map break_line_of next)) }
     {
         let is_ready = match next {
             Some((from, _)) => from <= turn,
