@@ -7,67 +7,55 @@ use Rattle.turn_losses.proofs.HeardNumber.{number-rows, plain-frame}
 use Rattle.turn_losses.proofs.Names.{of_arrived, is_final}
 use Rattle.turn_losses.proofs.Words.{is_word, of_word, brk_of, ack_of, any_brk, pends_of}
 use Rattle.lapm_frames.specs.declared.arrived.Arrived.TheVariants as arrivals
-pub use Rattle.turn_losses.proofs.Words.{is_word, of_word, brk_of, ack_of, any_brk, any_ack, pends, pends_of}
+
+-- the break that waits is answered
+abbrev pub answered_own : ℕ → OwnBreaks → OwnBreaks
+answered_own turn o = record o { answered = o.answered + 1; brk = false; count = 0; rest = turn + 8 }
+
+abbrev pub Unanswered : Arrived → OwnBreaks → Type 0
+Unanswered arrived o = waits o ≡ true → of_arrived (of_word (ack_of (o.answered % 2))) arrived ≡ false
 
 -- At a Connected end.
 pub record BreakHeard (turn : ℕ) (arrived : Arrived) (a b : Account) : Type 0 where
-  pub special : b.special ≡ a.special
-  pub own : (b.own_breaks ≡ a.own_breaks)
-      ⊎ ((waits a.own_breaks ≡ true) × (b.own_breaks.answered ≡ a.own_breaks.answered + 1) × (b.own_breaks.lengths ≡ a.own_breaks.lengths)
-      × (b.own_breaks.brk ≡ false) × (b.own_breaks.rest ≡ turn + 8))
-  pub ends : of_arrived (of_word (ack_of (a.own_breaks.answered % 2))) arrived ≡ true → waits a.own_breaks ≡ true
-      → (b.own_breaks.answered ≡ a.own_breaks.answered + 1) × (b.own_breaks.lengths ≡ a.own_breaks.lengths)
-      × (b.own_breaks.rest ≡ turn + 8)
+  pub own : ((b.own_breaks ≡ a.own_breaks) × Unanswered arrived a.own_breaks)
+      ⊎ ((waits a.own_breaks ≡ true) × (b.own_breaks ≡ answered_own turn a.own_breaks))
   pub asked : (n : ℕ) → of_arrived (of_word (brk_of n)) arrived ≡ true → pends_of n b.their_breaks.ack ≡ true
   pub kept : of_arrived (of_word any_brk) arrived ≡ false → b.their_breaks.ack ≡ a.their_breaks.ack
+  pub special : b.special ≡ a.special
   pub urgent : b.wait.urgent ≡ true → (a.wait.urgent ≡ true) ⊎ (of_arrived is_final arrived ≡ true)
 
 -- nothing of it changes
-quiet-heard : (turn : ℕ) (arrived : Arrived) (a b : Account) → b.special ≡ a.special → b.own_breaks ≡ a.own_breaks
+pub quiet-heard : (turn : ℕ) (arrived : Arrived) (a b : Account) → b.special ≡ a.special → b.own_breaks ≡ a.own_breaks
     → b.their_breaks ≡ a.their_breaks → ((f : BreakWord → Bool) → of_arrived (of_word f) arrived ≡ false)
     → (b.wait.urgent ≡ true → (a.wait.urgent ≡ true) ⊎ (of_arrived is_final arrived ≡ true)) → BreakHeard turn arrived a b
 quiet-heard turn arrived a b s o t f u = record {
   special = s;
-  own = inl o;
-  ends = λ h w. let wrong : true ≡ false = sym h ∙ f _ in cc;
+  own = inl (o, (λ w. f _));
   asked = λ n h. let wrong : true ≡ false = sym h ∙ f _ in cc;
   kept = λ h. ap (λ x. x.ack) t;
   urgent = u;
 }
 
--- a break's answer
-abbrev own_after : ℕ → OwnBreaks → Bool → OwnBreaks
-own_after turn o b = cond b (record o { answered = o.answered + 1; brk = false; count = 0; rest = turn + 8 }) o
-
 answer-heard : (turn : ℕ) (command pf : Bool) (info : List ℕ) (number length_octet : ℕ) (a : Account) → word_in info ≡ Ok
     (Ack number length_octet)
     → (w : Bool) → waits a.own_breaks ≡ w → (x : Bool) → nat_eq number (a.own_breaks.answered % 2) ≡ x
     → BreakHeard turn (arrivals.Frame (Ui command pf info)) a
-    (record a { own_breaks = own_after turn a.own_breaks (w && x) })
+    (record a { own_breaks = cond (w && x) (answered_own turn a.own_breaks) a.own_breaks })
 answer-heard turn command pf info number length_octet a e w v x y = record {
   special = refl;
-  own = own w v x;
-  ends = λ h u. ended w v x (sym y ∙ (sym (ap (is_word (ack_of (a.own_breaks.answered % 2))) e) ∙ h)) u;
+  own = own w v x y;
   asked = λ n h. let wrong : true ≡ false = sym h ∙ ap (is_word (brk_of n)) e in cc;
   kept = λ h. refl;
   urgent = λ u. inl u;
 }
   where
-    own : (w : Bool) → waits a.own_breaks ≡ w → (x : Bool) → (own_after turn a.own_breaks (w && x) ≡ a.own_breaks)
-        ⊎ ((waits a.own_breaks ≡ true) × ((own_after turn a.own_breaks (w && x)).answered ≡ a.own_breaks.answered + 1)
-        × ((own_after turn a.own_breaks (w && x)).lengths ≡ a.own_breaks.lengths) × ((own_after turn a.own_breaks (w && x)).brk ≡ false) ×
-        ((own_after turn a.own_breaks (w && x)).rest ≡ turn + 8))
-    own true v true = inr (v, refl, refl, refl, refl)
-    own true v false = inl refl
-    own false v x = inl refl
-
-    ended : (w : Bool) → waits a.own_breaks ≡ w → (x : Bool) → x ≡ true → waits a.own_breaks ≡ true
-        → ((own_after turn a.own_breaks (w && x)).answered ≡ a.own_breaks.answered + 1) ×
-        ((own_after turn a.own_breaks (w && x)).lengths ≡ a.own_breaks.lengths)
-        × ((own_after turn a.own_breaks (w && x)).rest ≡ turn + 8)
-    ended true v true h u = (refl, refl, refl)
-    ended true v false h u = cc
-    ended false v x h u = let wrong : true ≡ false = sym u ∙ v in cc
+    own : (w : Bool) → waits a.own_breaks ≡ w → (x : Bool) → nat_eq number (a.own_breaks.answered % 2) ≡ x
+        → ((cond (w && x) (answered_own turn a.own_breaks) a.own_breaks ≡ a.own_breaks)
+        × Unanswered (arrivals.Frame (Ui command pf info)) a.own_breaks)
+        ⊎ ((waits a.own_breaks ≡ true) × (cond (w && x) (answered_own turn a.own_breaks) a.own_breaks ≡ answered_own turn a.own_breaks))
+    own true v true y = inr (v, refl)
+    own true v false y = inl (refl, (λ u. ap (is_word (ack_of (a.own_breaks.answered % 2))) e ∙ y))
+    own false v x y = inl (refl, (λ u. let wrong : true ≡ false = sym u ∙ v in cc))
 
 pub break-heard : (arrived : Arrived) (turn : ℕ) (a mid : Account) → a.phase ≡ Connected → is_connected mid.phase ≡ true
     → hear turn arrived a ≡ Ok mid → BreakHeard turn arrived a mid
@@ -82,8 +70,7 @@ break-heard arrived turn a mid e c h =
       disc = λ pf r k. cc;
       brk = λ command pf info number length_octet q k. record {
         special = refl;
-        own = inl refl;
-        ends = λ f w. let wrong : true ≡ false = sym f ∙ ap (is_word (ack_of (a.own_breaks.answered % 2))) q in cc;
+        own = inl (refl, (λ w. ap (is_word (ack_of (a.own_breaks.answered % 2))) q));
         asked = λ n f. sym (ap (is_word (brk_of n)) q) ∙ f;
         kept = λ f. let wrong : true ≡ false = sym (ap (is_word any_brk) q) ∙ f in cc;
         urgent = λ u. inl u;

@@ -1,6 +1,6 @@
 -- What speaking makes of an end's breaks, of what it owes for the other end's, and of its urgent segment.
 use Rattle.std.proofs.Common.{◌⊎◌, inl, inr, ◌≡◌, ℕ, ◌+◌, ◌-◌, ◌%◌, ◌<◌, ◌&&◌, ◌||◌, not, Bool, true, false, cond, nat_eq, nat_lt, length}
-use Rattle.std.proofs.Common.{arith, refl, sym, ◌∙◌, ap, subst, Some, None, Ok, Err}
+use Rattle.std.proofs.Common.{arith, refl, sym, ◌∙◌, ap, subst, Option, Some, None, Ok, Err}
 use Rattle.link_account.proofs.Names.{is_some, nat_tests, Srej, BreakWord, Brk, Ack, word_in, OwnBreaks, waits, ticked, Account, Said}
 use Rattle.link_account.proofs.Names.{frame_for, ready_frame, speak_linked, nr_of}
 use Rattle.link_run.proofs.Names.{Answer}
@@ -12,7 +12,7 @@ use Rattle.break_signals.specs.declared.fault.BreakFault.TheVariants.{Number}
 use Rattle.link_account.specs.Speak.{says_word}
 use Rattle.turn_bound.proofs.Value.{IsAck}
 use Rattle.link_account.proofs.SpeakWays.{NoWord, Steps, steps-so, polling_at, by-linked}
-use Rattle.turn_losses.proofs.Truths.{or-late, or-first}
+use Rattle.turn_losses.proofs.Truths.{or-late, or-first, clash}
 use Rattle.turn_losses.proofs.Names.{of_frame, is_poll, is_final}
 use Rattle.turn_losses.proofs.Words.{ack_of, any_brk, brk_of, is_word, of_word, pends_of, pends}
 use Rattle.lapm_frames.specs.declared.sent.Sent.TheVariants as slots
@@ -22,22 +22,20 @@ use Rattle.link_account.specs.declared.answer.Answer.TheVariants as answers
 abbrev pub holds : (final poll hurries acks special answer : Bool) → Bool
 holds final poll hurries acks special answer = final || (poll || (hurries || (acks || (special || answer))))
 
--- What the nine steps make of them.
-pub record StepBreaks (special : Bool) (a : Account) (said : Said) : Type 0 where
+-- What the nine steps make of them, of what they were: the end's breaks, the BRKACK that is due, whether a segment is urgent, and whether
+-- another answer is due.
+pub record StepBreaks (special : Bool) (o : OwnBreaks) (due : Option BreakWord) (urgent answer : Bool) (said : Said) : Type 0 where
   pub hurries : Bool
   pub acks : Bool
-  pub own : ((said.account.own_breaks ≡ a.own_breaks) × (of_frame (of_word any_brk) said.sent ≡ false))
-      ⊎ ((a.own_breaks.brk ≡ true) × (said.account.own_breaks ≡ after_brk a.own_breaks)
-      × (of_frame (of_word (brk_of (a.own_breaks.answered % 2))) said.sent ≡ true))
-  pub ack : ((said.account.their_breaks ≡ a.their_breaks) × (acks ≡ false))
-      ⊎ ((said.account.their_breaks.ack ≡ None) × (pends a.their_breaks.ack ≡ true)
-      × ((n : ℕ) → n < 2 → pends_of n a.their_breaks.ack ≡ true → of_frame (of_word (ack_of n)) said.sent ≡ true))
-  pub hurried : hurries ≡ true → (a.wait.urgent ≡ true) × (said.account.wait.urgent ≡ false)
-  pub calm : said.account.wait.urgent ≡ true → a.wait.urgent ≡ true
-  pub held : a.own_breaks.brk ≡ true → said.account.own_breaks.brk ≡ true
-      → holds (of_frame is_final said.sent) (of_frame is_poll said.sent) hurries acks special (is_some a.owes.answer) ≡ true
-  pub held_ack : pends said.account.their_breaks.ack ≡ true
-      → holds (of_frame is_final said.sent) (of_frame is_poll said.sent) hurries acks special (is_some a.owes.answer) ≡ true
+  pub own : ((said.account.own_breaks ≡ o) × (of_frame (of_word any_brk) said.sent ≡ false))
+      ⊎ ((o.brk ≡ true) × (said.account.own_breaks ≡ after_brk o) × (of_frame (of_word (brk_of (o.answered % 2))) said.sent ≡ true))
+  pub ack : ((said.account.their_breaks.ack ≡ due) × (acks ≡ false))
+      ⊎ ((said.account.their_breaks.ack ≡ None) × (pends due ≡ true)
+      × ((n : ℕ) → n < 2 → pends_of n due ≡ true → of_frame (of_word (ack_of n)) said.sent ≡ true))
+  pub hurried : hurries ≡ true → (urgent ≡ true) × (said.account.wait.urgent ≡ false)
+  pub calm : said.account.wait.urgent ≡ true → urgent ≡ true
+  pub held : (said.account.own_breaks.brk ≡ true) ⊎ (pends said.account.their_breaks.ack ≡ true)
+      → holds (of_frame is_final said.sent) (of_frame is_poll said.sent) hurries acks special answer ≡ true
   pub special_own : said.account.special ≡ true → said.account.own_breaks.brk ≡ true → acks ≡ true
   pub special_ack : said.account.special ≡ true → pends said.account.their_breaks.ack ≡ true → ⊥
 
@@ -71,50 +69,50 @@ ack-no-brk m l = by (nat_lt m 2)
     by true = refl
     by false = refl
 
+undue : (o : OwnBreaks) → own_due o ≡ None → o.brk ≡ false
+undue o n = by o.brk n
+  where
+    by : (b : Bool) → cond b (Some (Brk (o.answered % 2) (slice_index_or o.lengths o.answered 0))) None ≡ None → b ≡ false
+    by true f = cc
+    by false f = refl
+
 module _ (special : Bool) (a : Account) where
   abbrev P : Said → Type 0
-  P = StepBreaks special a
+  P = StepBreaks special a.own_breaks a.their_breaks.ack a.wait.urgent (is_some a.owes.answer)
+
+  abbrev Due : Type 0
+  Due = (a.own_breaks.brk ≡ true) ⊎ (pends a.their_breaks.ack ≡ true)
 
   -- a frame that leaves them alone, and holds a word up where one is due
   quiet : (said : Said) → said.account.own_breaks ≡ a.own_breaks → said.account.their_breaks ≡ a.their_breaks
       → said.account.special ≡ false → (said.account.wait.urgent ≡ true → a.wait.urgent ≡ true)
       → of_frame (of_word any_brk) said.sent ≡ false
       → (h : Bool) → (h ≡ true → (a.wait.urgent ≡ true) × (said.account.wait.urgent ≡ false))
-      → ((own_due a.own_breaks ≡ None → ⊥) ⊎ (a.their_breaks.ack ≡ None → ⊥)
-      → holds (of_frame is_final said.sent) (of_frame is_poll said.sent) h false special (is_some a.owes.answer) ≡ true) → P said
+      → (Due → holds (of_frame is_final said.sent) (of_frame is_poll said.sent) h false special (is_some a.owes.answer) ≡ true) → P said
   quiet said o t s u b h hu k = record {
     hurries = h;
     acks = false;
     own = inl (o, b);
-    ack = inl (t, refl);
+    ack = inl (ap (λ x. x.ack) t, refl);
     hurried = hu;
     calm = u;
-    held = λ e f. k (inl (λ n. let wrong : true ≡ false = sym e ∙ not-due n in cc));
-    held_ack = λ e. k (inr (λ n. let wrong : true ≡ false = sym e ∙ (ap (λ x. pends x.ack) t ∙ ap pends n) in cc));
-    special_own = λ e f. let wrong : true ≡ false = sym e ∙ s in cc;
-    special_ack = λ e f. let wrong : true ≡ false = sym e ∙ s in cc;
+    held = λ d. k (elim d [ inl e ↦ inl (ap (λ x. x.brk) (sym o) ∙ e) | inr e ↦ inr (ap (λ x. pends x.ack) (sym t) ∙ e) ]);
+    special_own = λ e f. clash said.account.special e s;
+    special_ack = λ e f. clash said.account.special e s;
   }
-    where
-      not-due : own_due a.own_breaks ≡ None → a.own_breaks.brk ≡ false
-      not-due n = by a.own_breaks.brk n
-        where
-          by : (b : Bool) → cond b (Some (Brk (a.own_breaks.answered % 2)
-              (slice_index_or a.own_breaks.lengths a.own_breaks.answered 0))) None ≡ None
-              → b ≡ false
-          by true f = cc
-          by false f = refl
+
+  none-due : {A : Type 0} → (own_due a.own_breaks ≡ None) × (a.their_breaks.ack ≡ None) → Due → A
+  none-due x (inl y) = clash a.own_breaks.brk y (undue a.own_breaks x.0)
+  none-due x (inr y) = clash (pends a.their_breaks.ack) y (ap pends x.1)
 
   -- one that goes only where none is due, or in the turn after a word
   idle : (said : Said) → said.account.own_breaks ≡ a.own_breaks → said.account.their_breaks ≡ a.their_breaks
       → said.account.special ≡ false → (said.account.wait.urgent ≡ true → a.wait.urgent ≡ true)
       → of_frame (of_word any_brk) said.sent ≡ false → NoWord special a → P said
-  idle said o t s u b w = quiet said o t s u b false (λ e. cc) (λ d. go w d)
-    where
-      go : NoWord special a → (own_due a.own_breaks ≡ None → ⊥) ⊎ (a.their_breaks.ack ≡ None → ⊥)
-          → holds (of_frame is_final said.sent) (of_frame is_poll said.sent) false false special (is_some a.owes.answer) ≡ true
-      go (inl x) d = or-late (of_frame is_final said.sent) _ (or-late (of_frame is_poll said.sent) _ (or-first special _ x))
-      go (inr x) (inl y) = absurd (y x.0)
-      go (inr x) (inr y) = absurd (y x.1)
+  idle said o t s u b w = quiet said o t s u b false (λ e. cc) (λ d. elim w [
+    | inl x ↦ or-late (of_frame is_final said.sent) _ (or-late (of_frame is_poll said.sent) _ (or-first special _ x))
+    | inr x ↦ none-due x d
+  ])
 
   answer-plain : (d : Answer) → of_frame (of_word any_brk) (frame_for d a) ≡ false
   answer-plain answers.Adp = refl
@@ -143,10 +141,9 @@ module _ (special : Bool) (a : Account) where
         ack = inl (refl, refl);
         hurried = λ h. cc;
         calm = λ u. u;
-        held = λ x y. cc;
-        held_ack = λ x. let wrong : true ≡ false = sym x ∙ ap pends p in cc;
+        held = λ d. elim d [ inl x ↦ cc | inr x ↦ clash (pends a.their_breaks.ack) x (ap pends p) ];
         special_own = λ x y. cc;
-        special_ack = λ x y. let wrong : true ≡ false = sym y ∙ ap pends p in cc;
+        special_ack = λ x y. clash (pends a.their_breaks.ack) y (ap pends p);
       }
         where
           same : Brk (a.own_breaks.answered % 2) (slice_index_or a.own_breaks.lengths a.own_breaks.answered 0) ≡ word
@@ -162,8 +159,7 @@ module _ (special : Bool) (a : Account) where
     ack = inr (refl, ap pends g, (λ n s h. ack-spelled n m l s (ap (pends_of n) (sym g) ∙ h)));
     hurried = λ h. cc;
     calm = λ u. u;
-    held = λ x y. refl;
-    held_ack = λ x. cc;
+    held = λ d. refl;
     special_own = λ x y. refl;
     special_ack = λ x y. cc;
   }
@@ -183,17 +179,10 @@ module _ (special : Bool) (a : Account) where
     ack = inl (refl, refl);
     hurried = λ h. cc;
     calm = λ u. u;
-    held = λ y z. due y;
-    held_ack = λ y. let wrong : true ≡ false = sym y ∙ ap pends x.1 in cc;
-    special_own = λ y z. due z;
-    special_ack = λ y z. let wrong : true ≡ false = sym z ∙ ap pends x.1 in cc;
+    held = λ d. none-due x d;
+    special_own = λ y z. none-due x (inl z);
+    special_ack = λ y z. none-due x (inr z);
   }
-    where
-      due : {A : Type 0} → a.own_breaks.brk ≡ true → A
-      due y = let wrong : Some (Brk (a.own_breaks.answered % 2) (slice_index_or a.own_breaks.lengths a.own_breaks.answered 0)) ≡ None =
-          sym (ap (λ b. cond b (Some (Brk (a.own_breaks.answered % 2)
-          (slice_index_or a.own_breaks.lengths a.own_breaks.answered 0))) None) y) ∙ x.0
-          in cc
 
   steps-breaks : (turn : ℕ) → a.special ≡ false → IsAck a.their_breaks.ack → Steps P turn special a
   steps-breaks turn none is_ack = record {
@@ -216,144 +205,36 @@ module _ (special : Bool) (a : Account) where
     flags = λ i. idle _ refl refl none (λ u. u) refl i.words;
   }
 
--- What the timer of a break makes of it.
-pub record TicksOwn (turn : ℕ) (a : Account) (own : OwnBreaks) : Type 0 where
-  pub ticks : Bool
-  pub yes : ticks ≡ true → (waits a.own_breaks ≡ true) × (turn ≡ a.own_breaks.set + a.setup.period)
-      × (own ≡ record a.own_breaks { brk = true; set = turn; count = a.own_breaks.count + 1 })
-  pub no : ticks ≡ false → own ≡ a.own_breaks
-  pub late : ticks ≡ false → waits a.own_breaks ≡ true → turn ≡ a.own_breaks.set + a.setup.period → ⊥
+-- What the timer of a break makes of it: nothing, or it expires.
+abbrev pub TicksOwn : (turn period : ℕ) → OwnBreaks → OwnBreaks → Type 0
+TicksOwn turn period o new = (new ≡ o)
+    ⊎ ((waits o ≡ true) × (turn ≡ o.set + period) × (new ≡ record o { brk = true; set = turn; count = o.count + 1 }))
 
-ticks-own : (turn : ℕ) (a : Account) (own : OwnBreaks) → ticked turn a.setup.period a.setup.tries a.own_breaks ≡ Some own
-    → TicksOwn turn a own
-ticks-own turn a own e =
-    go (waits a.own_breaks) refl (nat_eq turn (a.own_breaks.set + a.setup.period)) refl (nat_eq a.own_breaks.count a.setup.tries) e
+ticks-own : (turn period tries : ℕ) (o new : OwnBreaks) → ticked turn period tries o ≡ Some new → TicksOwn turn period o new
+ticks-own turn period tries o new e = go (waits o) refl (nat_eq turn (o.set + period)) refl (nat_eq o.count tries) e
   where
-    stands : ((waits a.own_breaks ≡ true) → turn ≡ a.own_breaks.set + a.setup.period → ⊥) → a.own_breaks ≡ own → TicksOwn turn a own
-    stands l same = record { ticks = false; yes = λ h. cc; no = λ h. sym same; late = λ h. l }
-
-    go : (w : Bool) → waits a.own_breaks ≡ w → (due : Bool) → nat_eq turn (a.own_breaks.set + a.setup.period) ≡ due → (s : Bool)
-        → cond (w && due) (cond s None (Some (record a.own_breaks { brk = true; set = turn; count = a.own_breaks.count + 1 })))
-        (Some a.own_breaks)
-        ≡ Some own → TicksOwn turn a own
-    go false w due d s f = stands (λ x y. let wrong : true ≡ false = sym x ∙ w in cc) cc
-    go true w false d s f = stands (λ x y. let wrong : ⊥ = grind (arith, nat_tests, d, y) in wrong) cc
+    go : (w : Bool) → waits o ≡ w → (due : Bool) → nat_eq turn (o.set + period) ≡ due → (s : Bool)
+        → cond (w && due) (cond s None (Some (record o { brk = true; set = turn; count = o.count + 1 }))) (Some o) ≡ Some new
+        → TicksOwn turn period o new
+    go false w due d s f = inl cc
+    go true w false d s f = inl cc
     go true w true d true f = cc
-    go true w true d false f = record {
-      ticks = true;
-      yes = λ h. (w, grind (arith, nat_tests, d), sym now);
-      no = λ h. cc;
-      late = λ h. cc;
-    }
-      where
-        now : record a.own_breaks { brk = true; set = turn; count = a.own_breaks.count + 1 } ≡ own
-        now = cc
+    go true w true d false f = inr (w, grind (arith, nat_tests, d), cc)
 
--- What a Connected end that isn't told to release makes of them.
+-- What a Connected end that isn't told to release makes of them: the timer first, and then the nine steps.
 pub record SaidBreaks (turn : ℕ) (a : Account) (said : Said) : Type 0 where
-  pub ticks : Bool
-  pub hurries : Bool
-  pub acks : Bool
-  pub yes : ticks ≡ true → (waits a.own_breaks ≡ true) × (turn ≡ a.own_breaks.set + a.setup.period) × (said.account.own_breaks.set ≡ turn)
-  pub no : ticks ≡ false → said.account.own_breaks.set ≡ a.own_breaks.set
-  pub late : ticks ≡ false → waits a.own_breaks ≡ true → turn ≡ a.own_breaks.set + a.setup.period → ⊥
-  pub lengths : said.account.own_breaks.lengths ≡ a.own_breaks.lengths
-  pub answered : said.account.own_breaks.answered ≡ a.own_breaks.answered
-  pub rest : said.account.own_breaks.rest ≡ a.own_breaks.rest
-  pub count : ticks ≡ false → said.account.own_breaks.count ≡ a.own_breaks.count
-  pub counts : ticks ≡ true → said.account.own_breaks.count ≡ a.own_breaks.count + 1
-  -- a BRK goes where one is due, and is due no more
-  pub brk : said.account.own_breaks.brk ≡ true → ticks || a.own_breaks.brk ≡ true
-  pub sends : of_frame (of_word any_brk) said.sent ≡ true → (ticks || a.own_breaks.brk ≡ true) × (said.account.own_breaks.brk ≡ false)
-      × (of_frame (of_word (brk_of (a.own_breaks.answered % 2))) said.sent ≡ true)
-  pub goes : ticks || a.own_breaks.brk ≡ true
-      → (said.account.own_breaks.brk ≡ true) ⊎ (of_frame (of_word (brk_of (a.own_breaks.answered % 2))) said.sent ≡ true)
-  pub ack : ((said.account.their_breaks ≡ a.their_breaks) × (acks ≡ false))
-      ⊎ ((said.account.their_breaks.ack ≡ None) × (pends a.their_breaks.ack ≡ true)
-      × ((n : ℕ) → n < 2 → pends_of n a.their_breaks.ack ≡ true → of_frame (of_word (ack_of n)) said.sent ≡ true))
-  pub hurried : hurries ≡ true → (a.wait.urgent ≡ true) × (said.account.wait.urgent ≡ false)
-  pub calm : said.account.wait.urgent ≡ true → a.wait.urgent ≡ true
-  pub held : said.account.own_breaks.brk ≡ true → holds (of_frame is_final said.sent) (of_frame is_poll said.sent) hurries acks a.special
-      (is_some a.owes.answer) ≡ true
-  pub held_ack : pends said.account.their_breaks.ack ≡ true
-      → holds (of_frame is_final said.sent) (of_frame is_poll said.sent) hurries acks a.special (is_some a.owes.answer) ≡ true
-  pub special_own : said.account.special ≡ true → said.account.own_breaks.brk ≡ true → acks ≡ true
-  pub special_ack : said.account.special ≡ true → pends said.account.their_breaks.ack ≡ true → ⊥
-
--- from the nine steps of an account that is otherwise as it was
-module _ (turn : ℕ) (a b : Account) (t : TicksOwn turn a b.own_breaks) (owes : b.owes ≡ a.owes) (their : b.their_breaks ≡ a.their_breaks)
-    (calm : b.wait.urgent ≡ a.wait.urgent) (s : Said) (k : StepBreaks a.special b s) where
-  abbrev Own : Type 0
-  Own = ((s.account.own_breaks ≡ b.own_breaks) × (of_frame (of_word any_brk) s.sent ≡ false))
-      ⊎ ((b.own_breaks.brk ≡ true) × (s.account.own_breaks ≡ after_brk b.own_breaks)
-      × (of_frame (of_word (brk_of (b.own_breaks.answered % 2))) s.sent ≡ true))
-
-  due : (m : Bool) → t.ticks ≡ m → b.own_breaks.brk ≡ t.ticks || a.own_breaks.brk
-  due true m = ap (λ x. x.brk) (t.yes m).2 ∙ sym (ap (λ x. x || a.own_breaks.brk) m)
-  due false m = ap (λ x. x.brk) (t.no m) ∙ sym (ap (λ x. x || a.own_breaks.brk) m)
-
-  same : {A : Type 0} (f : OwnBreaks → A) → ((x : OwnBreaks) → f (record x { brk = true; set = turn; count = x.count + 1 }) ≡ f x)
-      → (m : Bool) → t.ticks ≡ m → f b.own_breaks ≡ f a.own_breaks
-  same f h true m = ap f (t.yes m).2 ∙ h a.own_breaks
-  same f h false m = ap f (t.no m)
-
-  kept : {A : Type 0} (f : OwnBreaks → A) → ((x : OwnBreaks) → f (after_brk x) ≡ f x) → Own → f s.account.own_breaks ≡ f b.own_breaks
-  kept f h (inl x) = ap f x.0
-  kept f h (inr x) = ap f x.1 ∙ h b.own_breaks
-
-  brk-from : Own → s.account.own_breaks.brk ≡ true → b.own_breaks.brk ≡ true
-  brk-from (inl x) h = ap (λ o. o.brk) (sym x.0) ∙ h
-  brk-from (inr x) h = x.0
-
-  number : of_frame (of_word (brk_of (b.own_breaks.answered % 2))) s.sent ≡ true
-      → of_frame (of_word (brk_of (a.own_breaks.answered % 2))) s.sent ≡ true
-  number h = ap (λ n. of_frame (of_word (brk_of (n % 2))) s.sent) (sym (same (λ x. x.answered) (λ x. refl) t.ticks refl)) ∙ h
-
-  sends-from : Own → of_frame (of_word any_brk) s.sent ≡ true → (t.ticks || a.own_breaks.brk ≡ true) × (s.account.own_breaks.brk ≡ false)
-      × (of_frame (of_word (brk_of (a.own_breaks.answered % 2))) s.sent ≡ true)
-  sends-from (inl x) h = let wrong : true ≡ false = sym h ∙ x.1 in cc
-  sends-from (inr x) h = (sym (due t.ticks refl) ∙ x.0, ap (λ o. o.brk) x.1, number x.2)
-
-  goes-from : Own → b.own_breaks.brk ≡ true
-      → (s.account.own_breaks.brk ≡ true) ⊎ (of_frame (of_word (brk_of (a.own_breaks.answered % 2))) s.sent ≡ true)
-  goes-from (inl x) h = inl (ap (λ o. o.brk) x.0 ∙ h)
-  goes-from (inr x) h = inr (number x.2)
-
-  of-step : SaidBreaks turn a s
-  of-step = record {
-    ticks = t.ticks;
-    hurries = k.hurries;
-    acks = k.acks;
-    yes = λ m. ((t.yes m).0, (t.yes m).1, kept (λ x. x.set) (λ x. refl) k.own ∙ ap (λ x. x.set) (t.yes m).2);
-    no = λ m. kept (λ x. x.set) (λ x. refl) k.own ∙ ap (λ x. x.set) (t.no m);
-    late = t.late;
-    lengths = kept (λ x. x.lengths) (λ x. refl) k.own ∙ same (λ x. x.lengths) (λ x. refl) t.ticks refl;
-    answered = kept (λ x. x.answered) (λ x. refl) k.own ∙ same (λ x. x.answered) (λ x. refl) t.ticks refl;
-    rest = kept (λ x. x.rest) (λ x. refl) k.own ∙ same (λ x. x.rest) (λ x. refl) t.ticks refl;
-    count = λ m. kept (λ x. x.count) (λ x. refl) k.own ∙ ap (λ x. x.count) (t.no m);
-    counts = λ m. kept (λ x. x.count) (λ x. refl) k.own ∙ ap (λ x. x.count) (t.yes m).2;
-    brk = λ h. sym (due t.ticks refl) ∙ brk-from k.own h;
-    sends = λ h. sends-from k.own h;
-    goes = λ h. goes-from k.own (due t.ticks refl ∙ h);
-    ack = subst (λ x. ((s.account.their_breaks ≡ x) × (k.acks ≡ false)) ⊎ ((s.account.their_breaks.ack ≡ None) × (pends x.ack ≡ true)
-        × ((n : ℕ) → n < 2 → pends_of n x.ack ≡ true → of_frame (of_word (ack_of n)) s.sent ≡ true))) their k.ack;
-    hurried = λ h. let x = k.hurried h in (sym calm ∙ x.0, x.1);
-    calm = λ h. sym calm ∙ k.calm h;
-    held = λ h. ap (λ m. holds (of_frame is_final s.sent) (of_frame is_poll s.sent) k.hurries k.acks a.special (is_some m))
-        (ap (λ o. o.answer) (sym owes)) ∙ k.held (brk-from k.own h) h;
-    held_ack = λ h. ap (λ m. holds (of_frame is_final s.sent) (of_frame is_poll s.sent) k.hurries k.acks a.special (is_some m))
-        (ap (λ o. o.answer) (sym owes)) ∙ k.held_ack h;
-    special_own = k.special_own;
-    special_ack = k.special_ack;
-  }
+  pub own : OwnBreaks
+  pub ticks : TicksOwn turn a.setup.period a.own_breaks own
+  pub step : StepBreaks a.special own a.their_breaks.ack a.wait.urgent (is_some a.owes.answer) said
 
 pub breaks-said : (turn : ℕ) (a : Account) (said : Said) → IsAck a.their_breaks.ack → speak_linked turn a ≡ Ok said → SaidBreaks turn a said
 breaks-said turn a said i h = by-linked (SaidBreaks turn a) turn a (record {
-  stands = λ x own t. rows (record a { own_breaks = own; special = false }) (ticks-own turn a own t) refl refl refl refl;
-  expires = λ set x own t. rows (polling_at turn a own) (ticks-own turn a own t) refl refl refl refl;
+  stands = λ x own t. rows own t (steps-breaks a.special (record a { own_breaks = own; special = false }) turn refl i);
+  expires = λ set x own t. rows own t (steps-breaks a.special (polling_at turn a own) turn refl i);
 }) said h
   where
-    rows : (b : Account) → TicksOwn turn a b.own_breaks → b.owes ≡ a.owes → b.their_breaks ≡ a.their_breaks → b.wait.urgent ≡ a.wait.urgent
-        → b.special ≡ false → Steps (SaidBreaks turn a) turn a.special b
-    rows b t owes their calm none = steps-so _ _ turn a.special b (of-step turn a b t owes their calm)
-        (steps-breaks a.special b turn none (subst (λ x. IsAck x.ack) (sym their) i))
+    rows : {b : Account} (own : OwnBreaks) → ticked turn a.setup.period a.setup.tries a.own_breaks ≡ Some own
+        → Steps (StepBreaks a.special own a.their_breaks.ack a.wait.urgent (is_some a.owes.answer)) turn a.special b
+        → Steps (SaidBreaks turn a) turn a.special b
+    rows own t = steps-so _ _ turn a.special _
+        (λ s k. record { own = own; ticks = ticks-own turn a.setup.period a.setup.tries a.own_breaks own t; step = k })

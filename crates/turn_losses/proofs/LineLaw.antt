@@ -6,7 +6,6 @@ use Rattle.turn_bound.proofs.Tied.{sent_of, none-heard, one-heard}
 use Rattle.turn_losses.proofs.Polls.{WasSent}
 use Rattle.turn_losses.proofs.Names.{is_lost, past, sent_or, of_frame, of_arrived, ArrivesLate, arrives-flag, TimedRun, end_of}
 use Rattle.turn_losses.proofs.Tracing.{past-all, past-length}
-use Rattle.lapm_frames.specs.declared.sent.Sent.TheVariants as slots
 use Rattle.lapm_frames.specs.declared.arrived.Arrived.TheVariants as arrivals
 
 -- the turn so many turns ago

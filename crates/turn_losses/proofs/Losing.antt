@@ -1,7 +1,7 @@
 -- What is lost in each period of a waiting break, while the other end is Connected.
 use Rattle.std.proofs.Common.{◌⊎◌, inl, inr, ◌≡◌, ℕ, ◌+◌, ◌-◌, ◌*◌, ◌<◌, ◌≤◌, Bool, true, false, ◌∷◌, length, arith, refl, sym, ◌∙◌, ap, Ok}
 use Rattle.link_account.proofs.Names.{cases_lt, nat_tests, Role, other, of, waits, Arrived, Account, is_connected, hear}
-use Rattle.link_run.proofs.Names.{User, is_busy, Turn, arrival, Carries}
+use Rattle.link_run.proofs.Names.{User, Turn, arrival, Carries}
 use Rattle.turn_losses.proofs.Truths.{clash, not-true}
 use Rattle.turn_losses.proofs.Periods.{once, loses-at, loses-last}
 use Rattle.turn_losses.proofs.LineLaw.{is-heard, was-sent, last-heard}
@@ -10,9 +10,9 @@ use Rattle.turn_losses.proofs.PeriodLaws.{NoneLost}
 use Rattle.turn_losses.proofs.PeriodHolds.{LostIn, lost-or-none}
 use Rattle.turn_losses.proofs.AnswerTurn.{connected-is}
 use Rattle.turn_losses.proofs.Establishing.{is_sabme}
-use Rattle.turn_losses.proofs.BreakHear.{break-heard}
-use Rattle.turn_losses.proofs.BreakTurn.{waits-not, Deeds, ServedBreaks, number_of, brk_due}
-use Rattle.turn_losses.proofs.View.{deeds-of, breaking, served-own}
+use Rattle.turn_losses.proofs.BreakHear.{answered_own, break-heard}
+use Rattle.turn_losses.proofs.BreakTurn.{waits-not, wait-ends, served-own, Deeds, number_of, brk_due}
+use Rattle.turn_losses.proofs.View.{deeds-of, breaking}
 use Rattle.turn_losses.proofs.Waiting.{BreakPeriod, break-answered}
 use Rattle.turn_losses.proofs.Quiet.{answers-sabme, sends-sabme-so}
 use Rattle.turn_losses.proofs.Names.{of_frame, of_arrived, serves-all, served_account, is_lost, PeriodLoses, EndRun, TwoEnds, TimedRun}
@@ -25,28 +25,22 @@ pub last-ends : (user : User) (turn : ℕ) (released : Bool) (arrived : Arrived)
     → is_connected mid.phase ≡ true → waits a.own_breaks ≡ true → length a.own_breaks.lengths ≤ a.own_breaks.answered + 1
     → hear turn arrived a ≡ Ok mid → of_arrived (of_word (ack_of (number_of a))) arrived ≡ true
     → waits (served_account user turn released mid).own_breaks ≡ false
-last-ends user turn released arrived a mid ca cm w high h e = by s.taken refl
+last-ends user turn released arrived a mid ca cm w high h e = elim (break-heard arrived turn a mid (connected-is a.phase ca) cm h).own [
+  | inl x ↦ clash (of_arrived (of_word (ack_of (number_of a))) arrived) e (x.1 w)
+  | inr x ↦ by x.1
+]
   where
     b : Account
     b = served_account user turn released mid
 
-    x : (mid.own_breaks.answered ≡ a.own_breaks.answered + 1) × (mid.own_breaks.lengths ≡ a.own_breaks.lengths)
-        × (mid.own_breaks.rest ≡ turn + 8)
-    x = (break-heard arrived turn a mid (connected-is a.phase ca) cm h).ends e w
-
-    more : a.own_breaks.answered < length a.own_breaks.lengths
-    more = grind (arith, nat_tests, w)
-
-    s : ServedBreaks turn mid.own_breaks b.own_breaks
-    s = served-own turn (length user.breaks) (is_busy turn user.busy) mid b (serves-all user turn released mid)
-        (let n = x.0 in let l = ap length x.1 in omega (arith, n, l, more))
-
-    none : waits mid.own_breaks ≡ false
-    none = let n = x.0 in let l = ap length x.1 in waits-not mid.own_breaks (omega (arith, n, l, high))
-
-    by : (t : Bool) → s.taken ≡ t → waits b.own_breaks ≡ false
-    by true q = let r = (s.yes q).1 in let z = x.2 in absurd (omega (arith, r, z))
-    by false q = ap waits (s.no q) ∙ none
+    by : mid.own_breaks ≡ answered_own turn a.own_breaks → waits (served_account user turn released mid).own_breaks ≡ false
+    by q =
+        let more : a.own_breaks.answered < length a.own_breaks.lengths = grind (arith, nat_tests, w) in
+        let n = ap (λ o. o.answered) q in let l = ap (λ o. length o.lengths) q in
+        elim (served-own _ _ _ mid b (serves-all user turn released mid) (omega (arith, n, l, more))) [
+          | inl s ↦ ap waits (s ∙ q) ∙ waits-not (answered_own turn a.own_breaks) (omega (arith, high))
+          | inr k ↦ (let r = k.rested in let z = ap (λ o. o.rest) q in absurd (omega (arith, r, z)))
+        ]
 
 -- A period of a waiting break loses something, while the other end is Connected in it.
 pub connected-loses : (w : TimedRun) (t : Turn) → Carries w.delay w.ts t → (r : Role) → (number s n : ℕ) → number < 2
@@ -125,7 +119,7 @@ connected-loses w t cs r number s n small q bp co na last-no = go (lost-or-none 
                 let here = bp.stays (s + w.period) (omega (arith, long)) (omega arith) in
                 let there = bp.goes_on l in
                 absurd (clash (waits (e.account (s + w.period + 1)).own_breaks) there.waiting
-                (((breaking w r).turn (s + w.period) l there.connected).ends here.connected here.waiting
+                (wait-ends ((breaking w r).turn (s + w.period) l there.connected).own here.waiting
                 (ap (λ x. of_arrived (of_word (ack_of x)) (e.heard (s + w.period))) here.numbered
                 ∙ (ap (λ x. of_arrived (of_word (ack_of number)) (e.heard x)) (sym f) ∙ comes))))
 

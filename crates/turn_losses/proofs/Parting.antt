@@ -37,8 +37,6 @@ use Rattle.turn_losses.proofs.Names.{Rates, rates, Sends, Stands, of_arrived, is
 use Rattle.turn_losses.proofs.Names.{hears_final, TimedRun, end_of}
 use Rattle.turn_losses.proofs.EndTurn.{EndTurn, TurnAt, end-turn, last-turn, starts-fresh}
 use Rattle.turn_losses.proofs.Answerer.{peer-linked}
-use Rattle.lapm_frames.specs.declared.sent.Sent.TheVariants as slots
-use Rattle.lapm_frames.specs.declared.arrived.Arrived.TheVariants as arrivals
 
 abbrev IsFree : Account → Type 0
 IsFree a = (a.outgoing.awaited ≡ false) × (a.outgoing.paused ≡ false)

@@ -54,7 +54,7 @@ unasked w v l none t before b rel linked c = kept-in (λ u. waits (w.state u).an
         ∙ (ap waits (no-take w.link.answ.user u (is_released (w.deed u).mid.orig.phase) mid released)
         ∙ elim (break-heard ((end_of w Answerer).heard u) u (w.state u).answ mid
         (connected-is (w.state u).answ.phase (on u lo (omega (arith, hi)))) (g.connected now) g.in_turn.hears).own [
-          | inl q ↦ ap waits q ∙ f
+          | inl q ↦ ap waits q.0 ∙ f
           | inr x ↦ clash (waits (w.state u).answ.own_breaks) x.0 f
         ])
 

@@ -1,9 +1,9 @@
 -- A BRK goes within fourteen turns, and the BRKACK that answers it within six.
-use Rattle.std.proofs.Common.{◌⊎◌, inl, inr, ◌≡◌, ℕ, ◌+◌, ◌-◌, ◌*◌, ◌<◌, ◌≤◌, ◌&&◌, Bool, true, false, arith, refl, ◌∙◌, ap, subst, Option}
-use Rattle.std.proofs.Common.{Some, None}
-use Rattle.link_account.proofs.Names.{cases_lt, BreakWord, waits, Account, is_connected}
-use Rattle.turn_losses.proofs.Truths.{clash}
-use Rattle.turn_losses.proofs.BreakTurn.{Deeds, BreakTurn, number_of, brk_due, ack_due, ack_due_of, was_special}
+use Rattle.std.proofs.Common.{◌⊎◌, inl, inr, ◌≡◌, ℕ, ◌+◌, ◌-◌, ◌*◌, ◌<◌, ◌≤◌, Bool, true, false, arith, refl, ◌∙◌, ap, subst, Option, Some}
+use Rattle.std.proofs.Common.{None}
+use Rattle.link_account.proofs.Names.{cases_lt, BreakWord, waits, is_connected}
+use Rattle.turn_losses.proofs.Truths.{clash, not-true}
+use Rattle.turn_losses.proofs.BreakTurn.{Deeds, BreakTurn, number_of, brk_due, ack_due}
 use Rattle.turn_losses.proofs.Counting.{hits, once, at-most-made, all-held, no-hits, after-acks}
 use Rattle.turn_losses.proofs.Windows.{Breaking, replies-apart, polls-far, hurries-twice, brks-heard, sum-at-most}
 use Rattle.turn_losses.proofs.Names.{of_frame, of_arrived, EndRun, TwoEnds, sends_poll, sends_final}
@@ -22,27 +22,9 @@ acks-few {period} {turns} {e} {o} {d} {d'} k h h' first s n l w c =
     let made = at-most-made (λ t. (d t).acks) (λ t. ack_due (e.account t)) (λ t. of_arrived (of_word any_brk) (e.heard t)) s n
     (λ t a b. let x = h.turn t (omega (arith, b, w)) (c (t + 1) (omega (arith, a)) (omega (arith, b))) in
     sum-at-most (ack_due (e.account (t + 1))) (d t).acks (ack_due (e.account t)) (of_arrived (of_word any_brk) (e.heard t))
-    (λ q. either (x.ack_from q)) (λ q. (x.acked q, unasked t (x.ack_from) q))) in
+    (λ q. (x.ack_from q).0) (λ q. (x.acked q, not-true (ack_due (e.account (t + 1))) (λ f. clash (d t).acks q (x.ack_from f).1)))) in
     let three = brks-heard k h' first s n l w in
     omega (arith, made, three)
-  where
-    either : {A B C : Type 0} → (A × C) ⊎ (B × C) → A ⊎ B
-    either (inl x) = inl x.0
-    either (inr x) = inr x.0
-
-    unasked : (t : ℕ) → (ack_due (e.account (t + 1)) ≡ true → ((ack_due (e.account t) ≡ true) × ((d t).acks ≡ false))
-        ⊎ ((of_arrived (of_word any_brk) (e.heard t) ≡ true) × ((d t).acks ≡ false))) → (d t).acks ≡ true
-        → ack_due (e.account (t + 1)) ≡ false
-    unasked t f q = by (ack_due (e.account (t + 1))) refl
-      where
-        sent : ((ack_due (e.account t) ≡ true) × ((d t).acks ≡ false))
-            ⊎ ((of_arrived (of_word any_brk) (e.heard t) ≡ true) × ((d t).acks ≡ false)) → (d t).acks ≡ false
-        sent (inl x) = x.1
-        sent (inr x) = x.1
-
-        by : (b : Bool) → ack_due (e.account (t + 1)) ≡ b → ack_due (e.account (t + 1)) ≡ false
-        by false p = p
-        by true p = clash (d t).acks q (sent (f p))
 
 abbrev pub NoAnswers : (ℕ → Deeds) → ℕ → ℕ → Type 0
 NoAnswers d s n = (t : ℕ) → s ≤ t → t < s + n → (d t).answers ≡ false
@@ -51,7 +33,7 @@ abbrev BrkDue : EndRun → ℕ → ℕ → Type 0
 BrkDue e s n = (t : ℕ) → s ≤ t → t < s + n → brk_due (e.account (t + 1)) ≡ true
 
 abbrev AckDue : EndRun → ℕ → ℕ → ℕ → Type 0
-AckDue e number x n = (t : ℕ) → x ≤ t → t < x + n → ack_due_of number (e.account (t + 1)) ≡ true
+AckDue e number x n = (t : ℕ) → x ≤ t → t < x + n → pends_of number (e.account (t + 1)).their_breaks.ack ≡ true
 
 -- A BRK that is due goes within fourteen turns, while its break waits.
 pub brk-goes : {period turns : ℕ} {e o : EndRun} {d d' : ℕ → Deeds} → TwoEnds period turns e o → Breaking period turns e d
@@ -71,13 +53,13 @@ brk-goes {period} {turns} {e} {o} {d} {d'} k h h' first s within c ws na due = e
 
     none-held : BrkDue e s 14 → ⊥
     none-held all =
-        let held = all-held (sends_final e) (sends_poll e) (λ t. (d t).hurries) (λ t. (d t).acks) (λ t. was_special (e.account t))
-        (λ t. (d t).answers) s 14 (λ t a b. (turn t a b).held (all t a b)) in
+        let held = all-held (sends_final e) (sends_poll e) (λ t. (d t).hurries) (λ t. (d t).acks) (λ t. (e.account t).special)
+        (λ t. (d t).answers) s 14 (λ t a b. (turn t a b).held (inl (all t a b))) in
         let one = once (sends_final e) (period - 1) turns (replies-apart k) s 14 (omega (arith, k.period_is)) within in
         let one' = once (sends_poll e) (period - 1) turns (polls-far k) s 14 (omega (arith, k.period_is)) within in
         let two = hurries-twice k h s 14 (omega (arith, k.period_is)) within c in
         let four = acks-few k h h' first s 14 (omega arith) within c in
-        let five = after-acks (λ t. was_special (e.account t)) (λ t. (d t).acks) s 14
+        let five = after-acks (λ t. (e.account t).special) (λ t. (d t).acks) s 14
         (λ t a b q. (turn t a (omega (arith, b))).special_own q (all t a (omega (arith, b)))) in
         let zero-answers = no-hits (λ t. (d t).answers) s 14 na in
         omega (arith, held, one, one', two, four, five, zero-answers)
@@ -97,13 +79,13 @@ brk-goes {period} {turns} {e} {o} {d} {d'} k h h' first s within c ws na due = e
 
 -- A BRK that is heard is answered within six turns, where no BRK of another number is heard in them.
 pub ack-goes : {period turns : ℕ} {e o : EndRun} {d : ℕ → Deeds} → TwoEnds period turns e o → Breaking period turns e d → (x number : ℕ)
-    → number < 2 → x + 6 ≤ turns → is_connected (e.account x).phase ≡ true → AllConnected e x 6
+    → number < 2 → x + 6 ≤ turns → AllConnected e x 6
     → ((t : ℕ) → x ≤ t → t < x + 6 → of_arrived (of_word any_brk) (e.heard t) ≡ true
     → of_arrived (of_word (brk_of number)) (e.heard t) ≡ true) → NoAnswers d x 6
     → of_arrived (of_word (brk_of number)) (e.heard x) ≡ true
     → (z : ℕ) × (x ≤ z) × (z < x + 6) × (of_frame (of_word (ack_of number)) (e.slot z) ≡ true)
-ack-goes {period} {turns} {e} {o} {d} k h x number small within cx c same na asks = elim
-    (until (λ t. of_frame (of_word (ack_of number)) (e.slot t) ≡ true) (λ t. ack_due_of number (e.account (t + 1)) ≡ true) x 6 step) [
+ack-goes {period} {turns} {e} {o} {d} k h x number small within c same na asks = elim
+    (until (λ t. of_frame (of_word (ack_of number)) (e.slot t) ≡ true) (λ t. pends_of number (e.account (t + 1)).their_breaks.ack ≡ true) x 6 step) [
       | inl y ↦ y
       | inr all ↦ absurd (none-held all)
     ]
@@ -114,50 +96,37 @@ ack-goes {period} {turns} {e} {o} {d} k h x number small within cx c same na ask
     turn : (t : ℕ) → x ≤ t → t < x + 6 → BreakTurn period t (e.heard t) (e.slot t) (d t) (e.account t) (e.account (t + 1))
     turn t a b = h.turn t (omega (arith, b, within)) (c (t + 1) (omega (arith, a)) (omega (arith, b)))
 
-    connected : (t : ℕ) → x ≤ t → t < x + 6 → is_connected (e.account t).phase ≡ true
-    connected t a b = elim
-        (cases_lt x t) [
-          | inl l ↦ c t l (omega (arith, b))
-          | inr g ↦ ap (λ y. is_connected (e.account y).phase) (omega (arith, a, g))
-              ∙ cx
-        ]
-
-    any-due : (a : Account) → ack_due_of number a ≡ true → ack_due a ≡ true
-    any-due a q = by (is_connected a.phase) a.their_breaks.ack q
-      where
-        by : (b : Bool) (m : Option BreakWord) → b && pends_of number m ≡ true → b && pends m ≡ true
-        by true None f = cc
-        by true (Some word) f = refl
-        by false m f = cc
+    any-due : (m : Option BreakWord) → pends_of number m ≡ true → pends m ≡ true
+    any-due None q = cc
+    any-due (Some word) q = refl
 
     none-held : AckDue e number x 6 → ⊥
     none-held all =
-        let held = all-held (sends_final e) (sends_poll e) (λ t. (d t).hurries) (λ t. (d t).acks) (λ t. was_special (e.account t))
-        (λ t. (d t).answers) x 6 (λ t a b. (turn t a b).held_ack (any-due (e.account (t + 1)) (all t a b))) in
+        let held = all-held (sends_final e) (sends_poll e) (λ t. (d t).hurries) (λ t. (d t).acks) (λ t. (e.account t).special)
+        (λ t. (d t).answers) x 6 (λ t a b. (turn t a b).held (inr (any-due (e.account (t + 1)).their_breaks.ack (all t a b)))) in
         let one = once (sends_final e) (period - 1) turns (λ s t. replies-apart k s t) x 6 (omega (arith, p)) within in
         let one' = once (sends_poll e) (period - 1) turns (λ s t. polls-far k s t) x 6 (omega (arith, p)) within in
         let two = hurries-twice k h x 6 (omega (arith, p)) within c in
-        let none = no-hits (λ t. (d t).acks) x 6 (λ t a b. unsent ((turn t a b).ack_from (any-due (e.account (t + 1)) (all t a b)))) in
-        let five = after-acks (λ t. was_special (e.account t)) (λ t. (d t).acks) x 6
-        (λ t a b q. absurd ((turn t a (omega (arith, b))).special_ack q (any-due (e.account (t + 1)) (all t a (omega (arith, b))))))
+        let none = no-hits (λ t. (d t).acks) x 6 (λ t a b. ((turn t a b).ack_from (any-due (e.account (t + 1)).their_breaks.ack (all t a b))).1) in
+        let five = after-acks (λ t. (e.account t).special) (λ t. (d t).acks) x 6
+        (λ t a b q. absurd ((turn t a (omega (arith, b))).special_ack q (any-due (e.account (t + 1)).their_breaks.ack (all t a (omega (arith, b))))))
         in
         let zero-answers = no-hits (λ t. (d t).answers) x 6 na in
         omega (arith, held, one, one', two, none, five, zero-answers)
-      where
-        unsent : {A B C : Type 0} → (A × C) ⊎ (B × C) → C
-        unsent (inl x) = x.1
-        unsent (inr x) = x.1
 
-    step : (t : ℕ) → x ≤ t → t < x + 6 → ((u : ℕ) → x ≤ u → u < t → ack_due_of number (e.account (u + 1)) ≡ true)
-        → (of_frame (of_word (ack_of number)) (e.slot t) ≡ true) ⊎ (ack_due_of number (e.account (t + 1)) ≡ true)
+    step : (t : ℕ) → x ≤ t → t < x + 6 → ((u : ℕ) → x ≤ u → u < t → pends_of number (e.account (u + 1)).their_breaks.ack ≡ true)
+        → (of_frame (of_word (ack_of number)) (e.slot t) ≡ true) ⊎ (pends_of number (e.account (t + 1)).their_breaks.ack ≡ true)
     step t a b all = elim (due-at (of_arrived (of_word any_brk) (e.heard t)) refl) [ inl q ↦ inr q | inr q ↦ inl q ]
       where
         due-at : (y : Bool) → of_arrived (of_word any_brk) (e.heard t) ≡ y
-            → (ack_due_of number (e.account (t + 1)) ≡ true) ⊎ (of_frame (of_word (ack_of number)) (e.slot t) ≡ true)
-        due-at true q = (turn t a b).asked number small (connected t a b) (same t a b q)
+            → (pends_of number (e.account (t + 1)).their_breaks.ack ≡ true) ⊎ (of_frame (of_word (ack_of number)) (e.slot t) ≡ true)
+        due-at true q = (turn t a b).asked number small (inl (same t a b q))
         due-at false q = elim (cases_lt x t) [
-          | inl l ↦ (turn t a b).asked_on number small
-              (ap (λ y. ack_due_of number (e.account y)) (omega (arith, l)) ∙ all (t - 1) (omega (arith, l)) (omega (arith, l))) q
-          | inr g ↦ (turn t a b).asked number small (connected t a b)
-              (ap (λ y. of_arrived (of_word (brk_of number)) (e.heard y)) (omega (arith, a, g)) ∙ asks)
+          | inl l ↦ (turn t a b).asked number small (inr (
+            ap (λ y. pends_of number (e.account y).their_breaks.ack) (omega (arith, l))
+                ∙ all (t - 1) (omega (arith, l)) (omega (arith, l)),
+            q,
+          ))
+          | inr g ↦ (turn t a b).asked number small
+              (inl (ap (λ y. of_arrived (of_word (brk_of number)) (e.heard y)) (omega (arith, a, g)) ∙ asks))
         ]

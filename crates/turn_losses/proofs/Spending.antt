@@ -1,14 +1,15 @@
 -- An end that gives up while a break waits: by the clock of its segments, or by that of the break.
-use Rattle.std.proofs.Common.{◌⊎◌, inl, inr, ◌≡◌, ℕ, ◌+◌, ◌<◌, ◌≤◌, Bool, true, false, length, arith, refl, sym, ◌∙◌, ap}
-use Rattle.link_account.proofs.Names.{nat_tests, Role, of, waits, Arrived, Account, is_connected}
-use Rattle.link_run.proofs.Names.{is_busy, Link}
+use Rattle.std.proofs.Common.{◌⊎◌, inl, inr, ◌≡◌, ℕ, ◌+◌, ◌≤◌, true, false, length, arith, sym, ◌∙◌, ap}
+use Rattle.link_account.proofs.Names.{Role, waits, Arrived, Account, is_connected}
+use Rattle.link_run.proofs.Names.{Link}
 use Rattle.turn_bound.proofs.Value.{Linked}
+use Rattle.turn_losses.proofs.Truths.{clash}
 use Rattle.turn_losses.proofs.AnswerTurn.{connected-is}
 use Rattle.turn_losses.proofs.Wanting.{SpendsBreak}
-use Rattle.turn_losses.proofs.BreakHear.{break-heard}
-use Rattle.turn_losses.proofs.BreakTurn.{ServedBreaks}
+use Rattle.turn_losses.proofs.BreakHear.{Unanswered, answered_own, break-heard}
+use Rattle.turn_losses.proofs.BreakTurn.{served-own, waits-not}
 use Rattle.turn_losses.proofs.Begun.{old-heard}
-use Rattle.turn_losses.proofs.View.{linked-of, unlinked-of, served-own}
+use Rattle.turn_losses.proofs.View.{linked-of, unlinked-of}
 use Rattle.turn_losses.proofs.Names.{rates, is_linked}
 use Rattle.turn_losses.proofs.InTurn.{InTurn}
 
@@ -28,15 +29,11 @@ module _ {tries period : ℕ} {link : Link} {r : Role} {turn : ℕ} {a : Account
       mid-linked : Linked (rates tries period) (turn + 1) turn r mid
       mid-linked = linked-of (rates tries period) (turn + 1) turn r i.phase mid i.heard.stands (ap is_connected (sym i.heard.phase) ∙ cm)
 
-      s : ServedBreaks turn mid.own_breaks b.own_breaks
-      s = served-own turn (length (of r link).user.breaks) (is_busy turn (of r link).user.busy) mid b i.served mid-linked.breaks.low
-
       own : b.own_breaks ≡ mid.own_breaks
-      own = by s.taken refl
-        where
-          by : (t : Bool) → s.taken ≡ t → b.own_breaks ≡ mid.own_breaks
-          by false q = s.no q
-          by true q = let x = (s.yes q).3 in let n = spends.now in absurd (omega (arith, x, n, i.b_period, i.long))
+      own = elim (served-own _ _ _ mid b i.served mid-linked.breaks.low) [
+        | inl q ↦ q
+        | inr k ↦ (let x = k.set in let n = spends.now in absurd (omega (arith, x, n, i.b_period, i.long)))
+      ]
 
       waits-mid : waits mid.own_breaks ≡ true
       waits-mid = ap waits (sym own) ∙ spends.waiting
@@ -51,13 +48,11 @@ module _ {tries period : ℕ} {link : Link} {r : Role} {turn : ℕ} {a : Account
           high : length a.own_breaks.lengths ≤ a.own_breaks.answered + 1
           high = (linked-of (rates tries period) turn turn r a.phase a i.stands ca).breaks.high
 
-          by : (mid.own_breaks ≡ a.own_breaks) ⊎ ((waits a.own_breaks ≡ true) × (mid.own_breaks.answered ≡ a.own_breaks.answered + 1)
-              × (mid.own_breaks.lengths ≡ a.own_breaks.lengths) × (mid.own_breaks.brk ≡ false) × (mid.own_breaks.rest ≡ turn + 8))
-              → LastWait tries period turn a
-          by (inr (w, n, l, d, x)) =
-              let more : mid.own_breaks.answered < length mid.own_breaks.lengths = grind (arith, nat_tests, waits-mid) in
-              let q = ap length l in absurd (omega (arith, more, n, q, high))
-          by (inl q) =
+          by : ((mid.own_breaks ≡ a.own_breaks) × Unanswered arrived a.own_breaks)
+              ⊎ ((waits a.own_breaks ≡ true) × (mid.own_breaks ≡ answered_own turn a.own_breaks)) → LastWait tries period turn a
+          by (inr (w, q)) = clash (waits mid.own_breaks) waits-mid (ap waits q ∙ waits-not (answered_own turn a.own_breaks)
+              (omega (arith, high)))
+          by (inl (q, x)) =
               let same = own ∙ q in
               let n = spends.now in let set = ap (λ x. x.set) same in
               record {

@@ -1,12 +1,13 @@
 -- How soon a BRK goes, and the BRKACK that answers it.
 use Rattle.std.proofs.Common.{◌⊎◌, inl, inr, ◌≡◌, ℕ, ◌+◌, ◌-◌, ◌<◌, ◌≤◌, ◌&&◌, Bool, true, false, nat_le, arith, refl, sym, ◌∙◌, ap}
-use Rattle.link_account.proofs.Names.{cases_lt, nat_tests, waits, Account, is_connected}
+use Rattle.link_account.proofs.Names.{cases_lt, nat_tests, OwnBreaks, waits, is_connected}
 use Rattle.turn_losses.proofs.Truths.{not-true, and-two, and-drop, clash}
 use Rattle.turn_losses.proofs.PollHear.{linked-connected}
 use Rattle.turn_losses.proofs.LineLaw.{was-sent}
 use Rattle.turn_losses.proofs.PollLaws.{turned, polls-apart, reply-from, reply-matches}
 use Rattle.turn_losses.proofs.PeriodLaws.{connected-since}
-use Rattle.turn_losses.proofs.BreakTurn.{Deeds, BreakTurn, brk_due, is_urgent}
+use Rattle.turn_losses.proofs.BreakTurn.{Deeds, OwnTurn, made-set, BreakTurn, brk_due}
+use Rattle.turn_losses.proofs.BreakTurn.OwnTurn.{Stays, Ends, Takes, Expires}
 use Rattle.turn_losses.proofs.Counting.{hits, one_if, once, twice, at-most-made}
 use Rattle.turn_losses.proofs.Names.{of_frame, of_arrived, is_poll, EndRun, TwoEnds, sends_poll, sends_final, hears_final}
 use Rattle.turn_losses.proofs.Words.{any_brk, of_word}
@@ -19,58 +20,52 @@ pub record Breaking (period turns : ℕ) (e : EndRun) (d : ℕ → Deeds) : Type
   pub says : (t : ℕ) → t < turns → of_frame (of_word any_brk) (e.slot t) ≡ true → is_connected (e.account (t + 1)).phase ≡ true
 
 -- since a BRK became due: the break's timer was set no earlier, or no break is taken for eight turns
-pub record Since (m : ℕ) (a : Account) : Type 0 where
-  pub set : waits a.own_breaks ≡ true → m ≤ a.own_breaks.set
-  pub rest : waits a.own_breaks ≡ false → m + 8 ≤ a.own_breaks.rest
+pub record Since (m : ℕ) (o : OwnBreaks) : Type 0 where
+  pub set : waits o ≡ true → m ≤ o.set
+  pub rest : waits o ≡ false → m + 8 ≤ o.rest
+
+since-set : {m : ℕ} (o : OwnBreaks) → waits o ≡ true → m ≤ o.set → Since m o
+since-set o w s = record { set = λ v. s; rest = λ v. clash (waits o) w v }
 
 since-made : {period turns : ℕ} {e o : EndRun} {d : ℕ → Deeds} → TwoEnds period turns e o → Breaking period turns e d → (m t : ℕ)
     → m < t → t ≤ turns → (d m).made ≡ true → is_connected (e.account (m + 1)).phase ≡ true → is_connected (e.account t).phase ≡ true
-    → Since m (e.account t)
-since-made {period} {turns} {e} {o} {d} k h m t less l made c1 c = kept-in (λ u. Since m (e.account u)) (m + 1) t (omega (arith, less)) step
-    (let x = (h.turn m (omega (arith, less, l)) c1).made_set made in
-    record { set = λ w. let q = x.1 in omega (arith, q); rest = λ w. clash (waits (e.account (m + 1)).own_breaks) x.0 w })
+    → Since m (e.account t).own_breaks
+since-made {period} {turns} {e} {o} {d} k h m t less l made c1 c = kept-in (λ u. Since m (e.account u).own_breaks) (m + 1) t
+    (omega (arith, less)) step (let x = made-set (h.turn m (omega (arith, less, l)) c1).own made in let s = x.1 in
+    since-set (e.account (m + 1)).own_breaks x.0 (omega (arith, s)))
   where
-    on : (u : ℕ) → m + 1 ≤ u → u ≤ t → is_connected (e.account u).phase ≡ true
-    on = connected-since k (m + 1) t l (linked-connected (e.account (m + 1)).phase c1) c
-
-    step : (u : ℕ) → m + 1 ≤ u → u < t → Since m (e.account u) → Since m (e.account (u + 1))
-    step u lo hi i = by (d u).made refl
+    step : (u : ℕ) → m + 1 ≤ u → u < t → Since m (e.account u).own_breaks → Since m (e.account (u + 1)).own_breaks
+    step u lo hi i = by (h.turn u (omega (arith, hi, l)) (connected-since k (m + 1) t l (linked-connected (e.account (m + 1)).phase c1) c
+        (u + 1) (omega (arith, lo)) (omega (arith, hi)))).own
       where
-        x : BreakTurn period u (e.heard u) (e.slot u) (d u) (e.account u) (e.account (u + 1))
-        x = h.turn u (omega (arith, hi, l)) (on (u + 1) (omega (arith, lo)) (omega (arith, hi)))
-
-        before : is_connected (e.account u).phase ≡ true
-        before = on u lo (omega (arith, hi))
-
-        by : (b : Bool) → (d u).made ≡ b → Since m (e.account (u + 1))
-        by true q = let y = x.made_set q in record {
-          set = λ w. let z = y.1 in omega (arith, z, lo);
-          rest = λ w. clash (waits (e.account (u + 1)).own_breaks) y.0 w;
+        by : OwnTurn period u (e.heard u) (d u).made (e.account u).own_breaks (e.account (u + 1)).own_breaks
+            → Since m (e.account (u + 1)).own_breaks
+        by (Stays x n q) = let set = ap (λ y. y.set) q in let rest = ap (λ y. y.rest) q in record {
+          set = λ w. let s = i.set (ap waits (sym q) ∙ w) in omega (arith, s, set);
+          rest = λ w. let s = i.rest (ap waits (sym q) ∙ w) in omega (arith, s, rest);
         }
-        by false q = record {
-          set = λ w. let y = x.kept_set q before w in let z = i.set y.0 in let s = y.1 in omega (arith, z, s);
-          rest = λ w. elim (x.kept_rest q before w) [
-            | inl y ↦ (let r = i.rest y.0 in let z = y.1 in omega (arith, r, z))
-            | inr z ↦ omega (arith, z, lo)
-          ];
-        }
+        by (Ends x w v r) = record { set = λ y. clash (waits (e.account (u + 1)).own_breaks) y v; rest = λ y. omega (arith, r, lo) }
+        by (Takes x w r v s z) = since-set (e.account (u + 1)).own_breaks v (omega (arith, s, lo))
+        by (Expires x w y n q) = let set = ap (λ y. y.set) q in since-set (e.account (u + 1)).own_breaks (ap waits q ∙ w)
+            (omega (arith, set, lo))
 
 -- so they become due at least eight turns apart
 pub made-apart : {period turns : ℕ} {e o : EndRun} {d : ℕ → Deeds} → TwoEnds period turns e o → Breaking period turns e d → (s t : ℕ)
     → s < t → t < turns → (d s).made ≡ true → (d t).made ≡ true → is_connected (e.account (s + 1)).phase ≡ true
     → is_connected (e.account (t + 1)).phase ≡ true
     → s + 8 ≤ t
-made-apart {period} {turns} {e} {o} {d} k h s t less within ms mt cs ct = elim ((h.turn t within ct).made_late mt before) [
-  | inl y ↦ (let z = i.set y.0 in omega (arith, z, y.1, k.period_is))
-  | inr y ↦ (let z = i.rest y.0 in omega (arith, z, y.1))
-]
+made-apart {period} {turns} {e} {o} {d} k h s t less within ms mt cs ct = by (h.turn t within ct).own
   where
-    before : is_connected (e.account t).phase ≡ true
-    before = connected-since k (s + 1) (t + 1) (omega (arith, within)) (linked-connected (e.account (s + 1)).phase cs) ct t
-        (omega (arith, less)) (omega arith)
+    i : Since s (e.account t).own_breaks
+    i = since-made k h s t less (omega (arith, within)) ms cs
+        (connected-since k (s + 1) (t + 1) (omega (arith, within)) (linked-connected (e.account (s + 1)).phase cs) ct t
+        (omega (arith, less)) (omega arith))
 
-    i : Since s (e.account t)
-    i = since-made k h s t less (omega (arith, within)) ms cs before
+    by : OwnTurn period t (e.heard t) (d t).made (e.account t).own_breaks (e.account (t + 1)).own_breaks → s + 8 ≤ t
+    by (Stays m n q) = clash (d t).made mt m
+    by (Ends m w v r) = clash (d t).made mt m
+    by (Takes m w r v x z) = let y = i.rest w in omega (arith, y, r)
+    by (Expires m w x n q) = let y = i.set w in omega (arith, x, y, k.period_is)
 
 -- F replies are sent, and answers heard, as far apart as polls
 pub replies-apart : {period turns : ℕ} {e o : EndRun} → TwoEnds period turns e o → (s t : ℕ) → s < t → t < turns → sends_final e s ≡ true
@@ -119,9 +114,9 @@ pub hurries-twice : {period turns : ℕ} {e o : EndRun} {d : ℕ → Deeds} → 
     → n + 1 ≤ period → s + n ≤ turns → ((t : ℕ) → s < t → t ≤ s + n → is_connected (e.account t).phase ≡ true)
     → hits (λ t. (d t).hurries) s n ≤ 2
 hurries-twice {period} {turns} {e} {o} {d} k h s n l w c =
-    let made = at-most-made (λ t. (d t).hurries) (λ t. is_urgent (e.account t)) (hears_final e) s n
+    let made = at-most-made (λ t. (d t).hurries) (λ t. (e.account t).wait.urgent) (hears_final e) s n
     (λ t a b. let x = h.turn t (omega (arith, b, w)) (c (t + 1) (omega (arith, a)) (omega (arith, b))) in
-    sum-at-most (is_urgent (e.account (t + 1))) (d t).hurries (is_urgent (e.account t)) (hears_final e t) x.urgent x.hurried) in
+    sum-at-most (e.account (t + 1)).wait.urgent (d t).hurries (e.account t).wait.urgent (hears_final e t) x.urgent x.hurried) in
     let one = once (hears_final e) (period - 1) turns (answers-apart k) s n (omega (arith, l)) w in
     omega (arith, made, one)
 
