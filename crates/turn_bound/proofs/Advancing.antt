@@ -12,7 +12,6 @@ use Rattle.turn_bound.proofs.Arithmetic.{cond-le}
 use Rattle.turn_bound.proofs.Value.{Stands}
 use Rattle.turn_bound.proofs.Falls.{Offered, end-turn}
 use Rattle.turn_bound.proofs.Ending.{own-offered}
-use Rattle.turn_bound.proofs.StillTurn.{linked-stand}
 use Rattle.turn_bound.proofs.MeetHear.{is_begun, of_arrived}
 use Rattle.turn_bound.proofs.Meeting.{only-linked}
 use Rattle.turn_bound.proofs.Bounding.{at-once-always}
@@ -51,7 +50,7 @@ may-of a Answerer e m = ap (λ r. is_originator r || a.numbered) e ∙ m.numbere
 linking-of : (z : Rates) (turn : ℕ) (role : Role) (a : Account) → EndAt z turn role a → a.phase ≡ Connected → NoneDue a → Unpaused a
     → may_send_at a ≡ true → Linking z turn role a
 linking-of z turn role a e phase none u may = record {
-  linked = linked-stand z turn turn role a (subst (λ q. Stands z turn turn role q a) phase e.stands);
+  linked = subst (λ q. Stands z turn turn role q a) phase e.stands;
   phase = phase;
   role_is = e.role_is;
   rates = e.is_of;

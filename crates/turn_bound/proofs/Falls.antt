@@ -127,11 +127,8 @@ finished-at : {z : Rates} {total more : ℕ} {user : User} {turn : ℕ} {role : 
 finished-at true r s t h all dead none = cc
 finished-at false r s t h all dead none = finished s t h.breaks all dead none
 
-lives-linked-o : (turn : ℕ) (a : Account) → a.phase ≡ Connected → lives turn Originator a.phase a ≡ false → linked_lives turn a ≡ false
-lives-linked-o turn a e f = subst (λ p. lives turn Originator p a ≡ false) e f
-
-lives-linked-a : (turn : ℕ) (a : Account) → a.phase ≡ Connected → lives turn Answerer a.phase a ≡ false → linked_lives turn a ≡ false
-lives-linked-a turn a e f = subst (λ p. lives turn Answerer p a ≡ false) e f
+lives-linked : (turn : ℕ) (role : Role) (a : Account) → a.phase ≡ Connected → lives turn role a.phase a ≡ false → linked_lives turn a ≡ false
+lives-linked turn role a e f = subst (λ p. lives turn role p a ≡ false) e f
 
 first-false : (b c : Bool) → b || c ≡ false → b ≡ false
 first-false true c e = cc
@@ -265,10 +262,10 @@ standstill z link totals turn s t u f h g oo oa before after dead dead' calm_o c
     let pa' : g.answ_said.account.phase ≡ Connected = after.answ po' in
     let lo : Linked z turn turn Originator s.orig = subst (λ p. Stands z turn turn Originator p s.orig) po h.orig in
     let la : Linked z turn turn Answerer s.answ = subst (λ p. Stands z turn turn Answerer p s.answ) pa h.answ in
-    let quiet_o = lives-linked-o turn s.orig po dead_o in
-    let quiet_a = lives-linked-a turn s.answ pa dead_a in
-    let quiet_o' = lives-linked-o (turn + 1) g.orig_said.account po' dead_o' in
-    let quiet_a' = lives-linked-a (turn + 1) g.answ_said.account pa' dead_a' in
+    let quiet_o = lives-linked turn Originator s.orig po dead_o in
+    let quiet_a = lives-linked turn Answerer s.answ pa dead_a in
+    let quiet_o' = lives-linked (turn + 1) Originator g.orig_said.account po' dead_o' in
+    let quiet_a' = lives-linked (turn + 1) Answerer g.answ_said.account pa' dead_a' in
     let io = hears-o f h g in
     let ia = hears-a f h g in
     let to = stays io po _ g.orig_says po' in

@@ -1,5 +1,5 @@
-use Rattle.std.proofs.Common.{◌≡◌, ℕ, ◌+◌, ◌-◌, ◌*◌, ◌%◌, ◌<◌, ◌≤◌, ◌&&◌, ◌||◌, Bool, true, false, cond, nat_eq, length, arith, refl, sym}
-use Rattle.std.proofs.Common.{◌∙◌, ap, subst, Option, Some, Result, Ok, Err}
+use Rattle.std.proofs.Common.{◌≡◌, ℕ, ◌+◌, ◌-◌, ◌*◌, ◌%◌, ◌<◌, ◌≤◌, ◌&&◌, ◌||◌, Bool, true, false, cond, nat_eq, length, arith, refl, subst}
+use Rattle.std.proofs.Common.{Option, Some, Result, Ok, Err}
 use Rattle.link_account.proofs.Names.{nat_tests, Role, Originator, Answerer, Outgoing, OwnBreaks, after_answer, waits, LinkFault, Account}
 use Rattle.link_account.proofs.Names.{Frame, I, Rr, Rnr, Rej, Srej, Arrived, Incoming}
 use Rattle.link_run.proofs.Names.{Phase, Connected}
@@ -12,6 +12,8 @@ use Rattle.turn_bound.proofs.Sender.{heard-selected}
 use Rattle.turn_bound.proofs.Clock.{Rates, AreRates, is_waiting, Sends, ends, Breaks, is_breaking}
 use Rattle.turn_bound.proofs.Sending.{later-sends}
 use Rattle.turn_bound.proofs.Breaking.{later-breaks, ChangedWell, answered-well, ends-same}
+use Rattle.break_signals.specs.Breaks.{TheirBreaks}
+use Rattle.link_account.specs.declared.owes.Owes.{Owes}
 use Rattle.lapm_frames.specs.declared.arrived.Arrived.TheVariants as arrivals
 
 -- what hearing makes of an end of one role and phase
@@ -48,24 +50,10 @@ ends-both k s b s' b' = grind (arith)
 -- A Connected end goes on so: its sender's part and its breaks.
 pub connected-well : (z : Rates) (total breaks turn more : ℕ) (role : Role) (a b : Account)
     → HeardWell z total turn a.outgoing a.wait.timer b.outgoing b.wait.timer more → ChangedWell z breaks turn a.own_breaks b.own_breaks
-    → IsAck b.their_breaks.ack → IsSilent role b → b.phase ≡ Connected → b.setup ≡ a.setup → b.outgoing.pieces ≡ a.outgoing.pieces
-    → b.outgoing.ended ≡ a.outgoing.ended → b.own_breaks.lengths ≡ a.own_breaks.lengths
+    → IsAck b.their_breaks.ack → IsSilent role b.numbered b.outgoing.high b.wait.timer → b.phase ≡ Connected → b.setup ≡ a.setup
+    → b.outgoing.pieces ≡ a.outgoing.pieces → b.outgoing.ended ≡ a.outgoing.ended → b.own_breaks.lengths ≡ a.own_breaks.lengths
     → HeardAs z total breaks turn more role Connected a Connected b
-connected-well z total breaks turn more Originator a b s c ack silent phase setup pieces ended lengths = record {
-  phase = phase;
-  stands = record { sends = s.sends; breaks = c.sound; ack = ack; silent = silent };
-  setup = setup;
-  pieces = pieces;
-  ended = ended;
-  lengths = lengths;
-  falls = omega (
-    arith,
-    s.falls,
-    c.falls,
-    ends-both z.room (is_waiting a.outgoing) (is_breaking turn a.own_breaks) (is_waiting b.outgoing) (is_breaking turn b.own_breaks),
-  );
-}
-connected-well z total breaks turn more Answerer a b s c ack silent phase setup pieces ended lengths = record {
+connected-well z total breaks turn more role a b s c ack silent phase setup pieces ended lengths = record {
   phase = phase;
   stands = record { sends = s.sends; breaks = c.sound; ack = ack; silent = silent };
   setup = setup;
@@ -88,27 +76,17 @@ same-changed : (z : Rates) (breaks turn : ℕ) (b : OwnBreaks) → Breaks z turn
 same-changed z breaks turn b s = record { sound = later-breaks z turn b s; falls = omega (arith, ends-same z.room (is_breaking turn b)) }
 
 -- one that heard a number isn't silent any more
-spoken-to : (role : Role) (b : Account) → b.numbered ≡ true → IsSilent role b
-spoken-to Originator b e = tt
-spoken-to Answerer b e = λ f. cc
+spoken-to : (role : Role) (high : ℕ) (timer : Option ℕ) → IsSilent role true high timer
+spoken-to Originator high timer = tt
+spoken-to Answerer high timer = λ f. cc
 
-same-silent : (role : Role) (a b : Account) → b.numbered ≡ a.numbered → b.outgoing ≡ a.outgoing → b.wait.timer ≡ a.wait.timer
-    → IsSilent role a → IsSilent role b
-same-silent Originator a b e f g h = tt
-same-silent Answerer a b e f g h = λ n. let k = h (sym e ∙ n) in (ap (λ o. o.high) f ∙ k.0, g ∙ k.1)
-
--- a frame that leaves the sender's part and the breaks as they are
-pub quiet-well : (z : Rates) (total breaks turn : ℕ) (role : Role) (a b : Account) → Linked z turn turn role a → a.phase ≡ Connected
-    → b.outgoing ≡ a.outgoing → b.wait.timer ≡ a.wait.timer → b.own_breaks ≡ a.own_breaks → IsAck b.their_breaks.ack
-    → b.numbered ≡ a.numbered → b.phase ≡ a.phase → b.setup ≡ a.setup → HeardAs z total breaks turn 0 role Connected a Connected b
-quiet-well z total breaks turn role a b h e outgoing timer own ack numbered phase setup =
-    connected-well z total breaks turn 0 role a b
-    (subst (λ o. HeardWell z total turn a.outgoing a.wait.timer o b.wait.timer 0) (sym outgoing)
-    (subst (λ r. HeardWell z total turn a.outgoing a.wait.timer a.outgoing r 0) (sym timer)
-    (same-heard z total turn a.outgoing a.wait.timer h.sends)))
-    (subst (ChangedWell z breaks turn a.own_breaks) (sym own) (same-changed z breaks turn a.own_breaks h.breaks))
-    ack (same-silent role a b numbered outgoing timer h.silent) (phase ∙ e) setup (ap (λ o. o.pieces) outgoing) (ap (λ o. o.ended) outgoing)
-    (ap (λ o. o.lengths) own)
+-- what leaves the sender's part and the breaks as they are
+pub quiet-well : (z : Rates) (total breaks turn : ℕ) (role : Role) (a : Account) → Linked z turn turn role a → a.phase ≡ Connected
+    → (o : Owes) (t : TheirBreaks) → IsAck t.ack
+    → HeardAs z total breaks turn 0 role Connected a Connected (record a { owes = o; their_breaks = t })
+quiet-well z total breaks turn role a h e o t ack = connected-well z total breaks turn 0 role a _
+    (same-heard z total turn a.outgoing a.wait.timer h.sends) (same-changed z breaks turn a.own_breaks h.breaks) ack h.silent e refl refl refl
+    refl
 
 answered-lengths : (turn number : ℕ) (b : OwnBreaks) → (after_answer turn number b).lengths ≡ b.lengths
 answered-lengths turn number b = by (waits b && nat_eq number (b.answered % 2))
@@ -126,7 +104,7 @@ module _ (z : Rates) (total breaks turn : ℕ) (role : Role) (a : Account) (y : 
       (numbered_with a new incoming (timer_after turn a.outgoing new a.wait.timer) reply urgent)
   number new incoming reply urgent k ended = connected-well z total breaks turn 0 role a _
       (heard-well z total turn a.outgoing new a.wait.timer y h.sends k all) (same-changed z breaks turn a.own_breaks h.breaks) h.ack
-      (spoken-to role _ refl) e refl k.pieces ended refl
+      (spoken-to role _ _) e refl k.pieces ended refl
 
   busy : (more : ℕ) (new : Outgoing) (reply : Bool) → z.quota ≡ more → Heard a.outgoing new → new.ended ≡ a.outgoing.ended
       → HeardAs z total breaks turn more role Connected a Connected
@@ -134,7 +112,7 @@ module _ (z : Rates) (total breaks turn : ℕ) (role : Role) (a : Account) (y : 
   busy more new reply q k ended = subst (λ x. HeardAs z total breaks turn x role Connected a Connected
       (numbered_with a (paused_at new) a.incoming (Some turn) reply a.wait.urgent)) q
       (connected-well z total breaks turn z.quota role a _ (heard-busy z total turn a.outgoing new a.wait.timer y h.sends k all)
-      (same-changed z breaks turn a.own_breaks h.breaks) h.ack (spoken-to role _ refl) e refl k.pieces ended refl)
+      (same-changed z breaks turn a.own_breaks h.breaks) h.ack (spoken-to role _ _) e refl k.pieces ended refl)
 
   pub number-well : (P : Arrived → Account → Type 0)
       → ((frame : Frame) (b : Account) → HeardAs z total breaks turn (z.quota * frame_rnrs frame) role Connected a Connected b
@@ -160,5 +138,5 @@ module _ (z : Rates) (total breaks turn : ℕ) (role : Role) (a : Account) (y : 
   pub answer-well : (number : ℕ) → HeardAs z total breaks turn 0 role Connected a Connected
       (record a { own_breaks = after_answer turn number a.own_breaks })
   answer-well number = connected-well z total breaks turn 0 role a _ (same-heard z total turn a.outgoing a.wait.timer h.sends)
-      (answered-well z breaks turn number a.own_breaks y h.breaks) h.ack (same-silent role a _ refl refl refl h.silent) e refl refl refl
+      (answered-well z breaks turn number a.own_breaks y h.breaks) h.ack h.silent e refl refl refl
       (answered-lengths turn number a.own_breaks)

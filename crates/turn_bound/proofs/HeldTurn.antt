@@ -1,8 +1,8 @@
 -- A turn of an end that stays Connected, where no user is busy.
-use Rattle.std.proofs.Common.{◌≡◌, ℕ, ◌+◌, ◌<◌, ◌≤◌, ◌&&◌, ◌⊎◌, not, nat_eq, nat_lt, Bool, true, false, cond, length, inl, inr, arith}
-use Rattle.std.proofs.Common.{refl, sym, ◌∙◌, ap, subst, Option, Some, None, Ok}
-use Rattle.link_account.proofs.Names.{is_some, nat_tests, Role, is_originator, wanted, Arrived, Account, is_connected, Said, speak, steps}
-use Rattle.link_account.proofs.Names.{other}
+use Rattle.std.proofs.Common.{◌≡◌, ℕ, ◌+◌, ◌<◌, ◌≤◌, ◌&&◌, ◌⊎◌, not, nat_eq, nat_lt, Bool, true, false, cond, length, inl, inr, arith, refl}
+use Rattle.std.proofs.Common.{sym, ◌∙◌, ap, subst, Some, None, Ok}
+use Rattle.link_account.proofs.Names.{is_some, nat_tests, Role, is_originator, wanted, Arrived, Account, is_connected, Said, speak, other}
+use Rattle.link_account.proofs.Names.{OwnBreaks, ticked}
 use Rattle.link_run.proofs.Names.{Connected, Closed, User, is_busy, is_released}
 use Rattle.lapm_sender.specs.Outgoing.{is_whole}
 use Rattle.turn_bound.specs.Due.{NoneDue}
@@ -10,14 +10,16 @@ use Rattle.turn_bound.proofs.Clock.{Rates, AreRates, is_waiting, Sends, ends, on
 use Rattle.turn_bound.proofs.Value.{IsOf, Linked, Stands, arrived_weight, arrived_rnrs}
 use Rattle.turn_bound.proofs.Sender.{heard-well}
 use Rattle.turn_bound.proofs.Breaking.{ends-same}
-use Rattle.turn_bound.proofs.Speaking.{timed-linked}
+use Rattle.turn_bound.proofs.Speaking.{Spoke, spoke, untimed}
+use Rattle.link_account.proofs.SpeakWays.{Steps, steps-so}
 use Rattle.turn_bound.proofs.Falls.{Offered, full-or-ended}
-use Rattle.turn_bound.proofs.StillTurn.{Stays, stays, Spoke, spoke, linked-stand, or-numbered}
+use Rattle.turn_bound.proofs.StillTurn.{Stays, stays, or-numbered}
+use Rattle.turn_bound.proofs.Turning.{stopped}
 use Rattle.turn_bound.proofs.Credits.{held_value, frame_poll}
 use Rattle.turn_bound.proofs.Taking.{owed_by, may_send_at, TakesNumber, Takes, Closes, takes}
 use Rattle.turn_bound.proofs.Asking.{served-own, served-owes}
 use Rattle.turn_bound.proofs.Pausing.{Calm, says-calm}
-use Rattle.turn_bound.proofs.Holding.{TicksOnly, ticks-only, Ready, base_value, Pays, Goes, steps-go, Much, Replies, Srejs}
+use Rattle.turn_bound.proofs.Holding.{ticks-value, base_value, Pays, Goes, steps-go, Much, Replies, Srejs}
 use Rattle.turn_bound.proofs.OneTurn.{Hearing}
 use Rattle.turn_bound.proofs.MeetHear.{of_arrived}
 
@@ -89,7 +91,7 @@ module _ {z : Rates} {user : User} {turn : ℕ} {role : Role} {a : Account} {arr
       s = stays i l.phase release speaks after
 
       p : Spoke z total (length user.breaks) turn role b said
-      p = spoke z total (length user.breaks) turn role b said y k s.linked i.b_role all s.says
+      p = spoke z total (length user.breaks) turn role b y k s.linked i.b_role all said s.says
 
       busy-is : b.owes.busy ≡ false
       busy-is = s.serves.busy_now (ap is_connected s.mid_phase) ∙ calm
@@ -119,52 +121,41 @@ module _ {z : Rates} {user : User} {turn : ℕ} {role : Role} {a : Account} {arr
 
       may-said : Takes turn polled a mid → may_send_at said.account ≡ true
       may-said t = or-numbered (is_originator a.setup.role) (is_originator said.account.setup.role) a.numbered said.account.numbered
-          (ap (λ x. is_originator x.role) (p.stepped.same.setup ∙ (p.is_timed.same.setup ∙ s.setup)))
-          (λ n. p.stepped.same.numbered ∙ (p.is_timed.same.numbered ∙ (s.serves.numbered ∙ t.numbered n))) l.may
+          (ap (λ x. is_originator x.role) (p.stepped.setup ∙ (p.is_timed.setup ∙ s.setup)))
+          (λ n. p.stepped.numbered ∙ (p.is_timed.numbered ∙ (s.serves.numbered ∙ t.numbered n))) l.may
 
       may-served : Takes turn polled a mid → may_send_at b ≡ true
       may-served t = or-numbered (is_originator a.setup.role) (is_originator b.setup.role) a.numbered b.numbered
           (ap (λ x. is_originator x.role) s.setup) (λ n. s.serves.numbered ∙ t.numbered n) l.may
 
       mid-linked : Linked z (turn + 1) turn role mid
-      mid-linked = linked-stand z (turn + 1) turn role mid
-          (subst (λ q. Stands z (turn + 1) turn role q mid) (sym i.heard.phase ∙ s.mid_phase) i.heard.stands)
+      mid-linked = subst (λ q. Stands z (turn + 1) turn role q mid) (sym i.heard.phase ∙ s.mid_phase) i.heard.stands
 
       holds : Takes turn polled a mid → is_waiting b.outgoing ≡ false → said.account.outgoing.front < total
           → (is_waiting said.account.outgoing ≡ true) ⊎ (held_value (turn + 1) said.account + 3 ≤ held_value turn a + eight_if polled)
-      holds t idle less = by (subst (Goes turn b.special d) said-is (steps-go z turn b.special d y ready refl))
+      holds t idle less = untimed z total (length user.breaks) turn role b y k s.linked Lingers
+          (stopped b.wait.timer (s.linked.sends.cause ∙ idle)) rows said s.says
         where
-          no-timer : b.wait.timer ≡ None
-          no-timer = stopped b.wait.timer (s.linked.sends.cause ∙ idle)
-            where
-              stopped : (m : Option ℕ) → is_some m ≡ false → m ≡ None
-              stopped None e = refl
-              stopped (Some set) e = cc
-
-          q : TicksOnly turn b p.timed
-          q = ticks-only z turn b p.timed y k no-timer p.timers
-
-          d : Account
-          d = record b { own_breaks = q.own; special = false }
-
-          said-is : steps turn b.special d ≡ said
-          said-is = subst (λ x. steps turn b.special (record x { special = false }) ≡ said) q.timed_is p.said_is
-
-          linked : Linked z (turn + 1) (turn + 1) role d
-          linked = subst (λ x. Linked z (turn + 1) (turn + 1) role (record x { special = false })) q.timed_is
-              (timed-linked z total (length user.breaks) turn role b p.timed p.is_timed)
+          Lingers : Said → Type 0
+          Lingers x = (is_waiting x.account.outgoing ≡ true)
+              ⊎ (held_value (turn + 1) x.account + 3 ≤ held_value turn a + eight_if polled)
 
           pieces-said : said.account.outgoing.pieces ≡ b.outgoing.pieces
-          pieces-said = p.stepped.same.pieces ∙ p.is_timed.same.pieces
+          pieces-said = p.stepped.pieces ∙ p.is_timed.pieces
 
           more : b.outgoing.front < length b.outgoing.pieces
           more = full-or-ended total b.outgoing
               (ap (λ x. cond x (wanted b.outgoing) None) (sym (ap is_connected s.phase)) ∙ s.serves.wants_none) s.linked.sends.window
-              (λ e. ap (λ x. length x) (sym pieces-said) ∙ offered.whole (p.stepped.same.ended ∙ (p.is_timed.same.ended ∙ e)))
+              (λ e. ap (λ x. length x) (sym pieces-said) ∙ offered.whole (p.stepped.ended ∙ (p.is_timed.ended ∙ e)))
               (omega (arith, less, front-said))
 
-          ready : Ready z turn d
-          ready = record {
+          unreplied : a.owes.reply ≡ false
+          unreplied = l.none_due.reply (ap is_released l.phase)
+
+          rows : (own : OwnBreaks) → ticked turn b.setup.period b.setup.tries b.own_breaks ≡ Some own
+              → Linked z (turn + 1) (turn + 1) role (record b { own_breaks = own; special = false })
+              → Steps Lingers turn b.special (record b { own_breaks = own; special = false })
+          rows own tick linked = steps-so _ _ turn b.special d by (steps-go z turn b.special d y (record {
             sends = linked.sends;
             idle = idle;
             answer = s.serves.answer ∙ t.answer l.none_due.answer l.may;
@@ -172,39 +163,39 @@ module _ {z : Rates} {user : User} {turn : ℕ} {role : Role} {a : Account} {arr
             told = s.serves.busy_told ∙ (t.told ∙ l.told);
             may = may-served t;
             more = more;
-          }
-
-          base : base_value turn b.special d + owed_by a ≤ held_value turn a + owed_by mid + 1
-          base = omega (
-            arith,
-            (served-owes turn (length user.breaks) (is_busy turn user.busy) mid b s.serves),
-            (served-own z turn (length user.breaks) (is_busy turn user.busy) mid b mid-linked.breaks s.serves),
-            t.own,
-            q.value,
-            ap (λ x. cond {A = ℕ} x 0 4) (s.serves.special ∙ t.special),
-            ap (λ x. cond {A = ℕ} x 16 0) (ap (λ w. w.poll) s.serves.wait ∙ t.poll),
-          )
-
-          unreplied : a.owes.reply ≡ false
-          unreplied = l.none_due.reply (ap is_released l.phase)
-
-          by : Goes turn b.special d said
-              → (is_waiting said.account.outgoing ≡ true) ⊎ (held_value (turn + 1) said.account + 3 ≤ held_value turn a + eight_if polled)
-          by (inl w) = inl w
-          by (inr h) = inr (pays h.pays)
+          }) refl)
             where
-              pays : Pays turn b.special d said.account → held_value (turn + 1) said.account + 3 ≤ held_value turn a + eight_if polled
-              pays (Replies e less) = let x = t.asked unreplied (sym s.serves.reply ∙ e) in omega (arith, less, base, x.1, ap eight_if x.0)
-              pays (Much less) = omega (arith, less, base, t.gain)
-              pays (Srejs e n less) =
+              d : Account
+              d = record b { own_breaks = own; special = false }
+
+              base : base_value turn b.special d + owed_by a ≤ held_value turn a + owed_by mid + 1
+              base = omega (
+                arith,
+                (served-owes turn (length user.breaks) (is_busy turn user.busy) mid b s.serves),
+                (served-own z turn (length user.breaks) (is_busy turn user.busy) mid b mid-linked.breaks s.serves),
+                t.own,
+                ticks-value z turn b own y k tick,
+                ap (λ x. cond {A = ℕ} x 0 4) (s.serves.special ∙ t.special),
+                ap (λ x. cond {A = ℕ} x 16 0) (ap (λ w. w.poll) s.serves.wait ∙ t.poll),
+              )
+
+              pays : (x : Said) → Pays turn b.special d x.account
+                  → held_value (turn + 1) x.account + 3 ≤ held_value turn a + eight_if polled
+              pays x (Replies e less) = let q = t.asked unreplied (sym s.serves.reply ∙ e) in omega (arith, less, base, q.1, ap eight_if q.0)
+              pays x (Much less) = omega (arith, less, base, t.gain)
+              pays x (Srejs e n less) =
                   omega (arith, less, base, t.calm (sym s.serves.srej ∙ e) (ap (λ x. is_some x.ack) (sym s.serves.ack) ∙ n))
+
+              by : (x : Said) → Goes turn b.special d x → Lingers x
+              by x (inl w) = inl w
+              by x (inr h) = inr (pays x h.pays)
 
       -- none is wanted: the file has ended, or the window is full
       some-left : is_whole said.account.outgoing ≡ false → said.account.outgoing.front < length said.account.outgoing.pieces
       some-left e = go b.outgoing.ended refl (nat_lt (length b.outgoing.pieces) (b.outgoing.front + b.outgoing.window)) refl none
         where
           pieces-same : length said.account.outgoing.pieces ≡ length b.outgoing.pieces
-          pieces-same = ap (λ x. length x) (p.stepped.same.pieces ∙ p.is_timed.same.pieces)
+          pieces-same = ap (λ x. length x) (p.stepped.pieces ∙ p.is_timed.pieces)
 
           none : cond (not b.outgoing.ended && nat_lt (length b.outgoing.pieces) (b.outgoing.front + b.outgoing.window))
               (Some (length b.outgoing.pieces)) None ≡ None
@@ -221,10 +212,10 @@ module _ {z : Rates} {user : User} {turn : ℕ} {role : Role} {a : Account} {arr
           go true f l g h =
               let other : nat_eq said.account.outgoing.front (length said.account.outgoing.pieces) ≡ false =
               ap (λ x. x && nat_eq said.account.outgoing.front (length said.account.outgoing.pieces))
-              (sym (p.stepped.same.ended ∙ (p.is_timed.same.ended ∙ f))) ∙ e in
-              let low = p.stepped.sends.front_from in
-              let mid = p.stepped.sends.from_high in
-              let high = p.stepped.sends.high_pieces in
+              (sym (p.stepped.ended ∙ (p.is_timed.ended ∙ f))) ∙ e in
+              let low = p.stepped.linked.sends.front_from in
+              let mid = p.stepped.linked.sends.from_high in
+              let high = p.stepped.linked.sends.high_pieces in
               less said.account.outgoing.front (length said.account.outgoing.pieces) (omega (arith, low, mid, high)) other
             where
               less : (m n : ℕ) → m ≤ n → nat_eq m n ≡ false → m < n

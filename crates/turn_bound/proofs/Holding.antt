@@ -1,61 +1,49 @@
 -- A Connected end with a segment to send and nothing outstanding sends it, or something else goes first that it pays for.
-use Rattle.std.proofs.Common.{◌≡◌, ℕ, ◌+◌, ◌-◌, ◌%◌, ◌<◌, ◌≤◌, ◌&&◌, ◌||◌, ◌⊎◌, min, Bool, true, false, cond, nat_eq, [], ◌∷◌}
-use Rattle.std.proofs.Common.{◌++◌, length, slice_index_or, inl, inr, arith, refl, sym, ◌∙◌, ap, Some, None, Ok}
-use Rattle.link_account.proofs.Names.{is_some, nat_tests, is_originator, next_number, Incoming}
-use Rattle.link_account.proofs.Names.{BreakWord, Brk, OwnBreaks, waits, ticked, Account, Said, may_send, steps}
-use Rattle.lapm_sender.specs.Outgoing.{expired}
-use Rattle.link_account.specs.Speak.{polling, timer_expires, on_timer, breaking, differs, then_tries}
+use Rattle.std.proofs.Common.{◌≡◌, ℕ, ◌+◌, ◌-◌, ◌%◌, ◌<◌, ◌≤◌, ◌&&◌, ◌||◌, ◌⊎◌, min, Bool, true, false, cond, nat_eq, [], ◌∷◌, subst, ◌++◌}
+use Rattle.std.proofs.Common.{length, slice_index_or, inl, inr, arith, refl, sym, ◌∙◌, ap, Some, None}
+use Rattle.link_account.proofs.Names.{is_some, nat_tests, is_originator, next_number, Incoming, BreakWord, Brk, OwnBreaks, waits, ticked}
+use Rattle.link_account.proofs.Names.{Account, Said, may_send}
+use Rattle.link_account.specs.Speak.{differs}
 use Rattle.turn_bound.proofs.Clock.{Rates, AreRates, is_waiting, Sends}
 use Rattle.turn_bound.proofs.Value.{IsOf}
 use Rattle.turn_bound.proofs.Sending.{sent-well}
-use Rattle.link_account.proofs.SpeakWays.{NoWord, by-steps}
+use Rattle.link_account.proofs.SpeakWays.{NoWord, Steps}
 use Rattle.turn_bound.proofs.SpeakStill.{asks-rej, idle-next}
 use Rattle.turn_bound.proofs.Credits.{own_value, held_value}
 use Rattle.turn_bound.proofs.Taking.{owed_by, may_send_at}
 
--- The break's timer alone can expire.
-pub record TicksOnly (turn : ℕ) (b timed : Account) : Type 0 where
-  pub own : OwnBreaks
-  pub timed_is : timed ≡ record b { own_breaks = own }
-  pub value : own_value (turn + 1) own ≤ own_value turn b.own_breaks + 1
-
-pub ticks-only : (z : Rates) (turn : ℕ) (b timed : Account) → AreRates z → IsOf z b.setup → b.wait.timer ≡ None
-    → then_tries turn (on_timer turn b) ≡ Ok timed → TicksOnly turn b timed
-ticks-only z turn b timed y k e h =
-    go (waits b.own_breaks) refl (nat_eq turn (b.own_breaks.set + b.setup.period)) refl (nat_eq b.own_breaks.count b.setup.tries) now
+-- what the break's timer makes of it
+pub ticks-value : (z : Rates) (turn : ℕ) (b : Account) (own : OwnBreaks) → AreRates z → IsOf z b.setup
+    → ticked turn b.setup.period b.setup.tries b.own_breaks ≡ Some own → own_value (turn + 1) own ≤ own_value turn b.own_breaks + 1
+ticks-value z turn b own y k h =
+    go (waits b.own_breaks) refl (nat_eq turn (b.own_breaks.set + b.setup.period)) refl (nat_eq b.own_breaks.count b.setup.tries) h
   where
-    now : breaking turn (ticked turn b.setup.period b.setup.tries b.own_breaks) b ≡ Ok timed
-    now = sym (ap (λ t. then_tries turn (cond (timer_expires turn b t) (polling turn (expired b.outgoing) b) (Ok b))) e) ∙ h
+    later : (w : Bool) → cond b.own_breaks.brk 8 0 + cond w (min 8 (turn + 1 - b.own_breaks.set)) (8 - (b.own_breaks.rest - (turn + 1)))
+        ≤ cond b.own_breaks.brk 8 0 + cond w (min 8 (turn - b.own_breaks.set)) (8 - (b.own_breaks.rest - turn)) + 1
+    later true = omega arith
+    later false = omega arith
 
-    later : own_value (turn + 1) b.own_breaks ≤ own_value turn b.own_breaks + 1
-    later = by (waits b.own_breaks)
-      where
-        by : (w : Bool) → cond b.own_breaks.brk 8 0 + cond w (min 8 (turn + 1 - b.own_breaks.set)) (8 - (b.own_breaks.rest - (turn + 1)))
-            ≤ cond b.own_breaks.brk 8 0 + cond w (min 8 (turn - b.own_breaks.set)) (8 - (b.own_breaks.rest - turn)) + 1
-        by true = omega arith
-        by false = omega arith
-
-    quiet : b ≡ timed → TicksOnly turn b timed
-    quiet same = record { own = b.own_breaks; timed_is = sym same; value = later }
+    quiet : b.own_breaks ≡ own → own_value (turn + 1) own ≤ own_value turn b.own_breaks + 1
+    quiet same = subst (λ o. own_value (turn + 1) o ≤ own_value turn b.own_breaks + 1) same (later (waits b.own_breaks))
 
     go : (w : Bool) → waits b.own_breaks ≡ w → (due : Bool) → nat_eq turn (b.own_breaks.set + b.setup.period) ≡ due → (spent' : Bool)
-        → breaking turn (cond (w && due)
-        (cond spent' None (Some (record b.own_breaks { brk = true; set = turn; count = b.own_breaks.count + 1 }))) (Some b.own_breaks))
-        b ≡ Ok timed → TicksOnly turn b timed
+        → cond (w && due) (cond spent' None (Some (record b.own_breaks { brk = true; set = turn; count = b.own_breaks.count + 1 })))
+        (Some b.own_breaks) ≡ Some own → own_value (turn + 1) own ≤ own_value turn b.own_breaks + 1
     go false w due d s f = quiet cc
     go true w false d s f = quiet cc
     go true w true d true f = cc
     go true w true d false f =
-        let own : OwnBreaks = record b.own_breaks { brk = true; set = turn; count = b.own_breaks.count + 1 } in
-        let same : record b { own_breaks = own } ≡ timed = cc in
+        let new : OwnBreaks = record b.own_breaks { brk = true; set = turn; count = b.own_breaks.count + 1 } in
+        let same : new ≡ own = cc in
         let at : turn ≡ b.own_breaks.set + b.setup.period = grind (arith, nat_tests) in
         let long : 20 ≤ b.setup.period = omega (arith, k.period, y.period) in
-        let old : cond (waits b.own_breaks) (min 8 (turn - b.own_breaks.set)) (8 - (b.own_breaks.rest - turn)) ≡ min 8
-        (turn - b.own_breaks.set)
-        = ap (λ x. cond x (min 8 (turn - b.own_breaks.set)) (8 - (b.own_breaks.rest - turn))) w in
-        let new : cond (waits b.own_breaks) (min 8 (turn + 1 - turn)) (8 - (b.own_breaks.rest - (turn + 1))) ≡ min 8 (turn + 1 - turn)
-        = ap (λ x. cond x (min 8 (turn + 1 - turn)) (8 - (b.own_breaks.rest - (turn + 1)))) w in
-        record { own = own; timed_is = sym same; value = omega (arith, at, long, old, new) }
+        subst (λ o. own_value (turn + 1) o ≤ own_value turn b.own_breaks + 1) same (omega (
+          arith,
+          at,
+          long,
+          ap (λ x. cond x (min 8 (turn - b.own_breaks.set)) (8 - (b.own_breaks.rest - turn))) w,
+          ap (λ x. cond x (min 8 (turn + 1 - turn)) (8 - (b.own_breaks.rest - (turn + 1)))) w,
+        ))
 
 -- A Connected account whose timers are done, with a segment to send, nothing waited for and no answer due.
 pub record Ready (z : Rates) (turn : ℕ) (a : Account) : Type 0 where
@@ -145,8 +133,8 @@ module _ (z : Rates) (turn : ℕ) (special : Bool) (a : Account) (y : AreRates z
       (ap (λ b. cond b (record i { asked = i.asked ++ x ∷ [] }) (record i { rej = false })) e)
       ∙ ap (λ b. cond b 0 (cond i.rej 16 0 + cond i.gapped 0 8)) e
 
-  pub steps-go : Goes turn special a (steps turn special a)
-  steps-go = by-steps (Goes turn special a) turn special a (record {
+  pub steps-go : Steps (Goes turn special a) turn special a
+  steps-go = record {
     answers = λ d e. let wrong : None ≡ Some d = sym h.answer ∙ e in cc;
     final = λ n e. holds _ refl refl (Replies e (omega (arith, fresh4)));
     poll = λ n r e. holds _ refl refl (Much (omega (arith, fresh4, ap (λ b. cond {A = ℕ} b 16 0) e)));
@@ -162,4 +150,4 @@ module _ (z : Rates) (turn : ℕ) (special : Bool) (a : Account) (y : AreRates z
         (Much (omega (arith, fresh4, rejected a.incoming n k.kind (asks-rej a.incoming n k.kind k.number))));
     srej = λ b w e n k. holds _ refl refl (Srejs k.kind (unasked e w) (omega (arith, four e, kept a.incoming n k.kind)));
     flags = λ i. absurd (some-free z turn a h i.segment);
-  })
+  }

@@ -7,12 +7,7 @@ use Rattle.link_account.proofs.HearWays.{Ways, by-ways, acked, acked_back, numbe
 pub use Rattle.link_run.proofs.Meeting.{is_ua as frame_ua, is_disc as frame_disc, carries as of_frame, brings as of_arrived}
 pub use Rattle.link_run.proofs.Meeting.{owes_ua as is_ua_due}
 use Rattle.link_account.specs.declared.answer.Answer.TheVariants as answers
-
-abbrev pub is_begun : Phase → Bool
-is_begun Connected = true
-is_begun Releasing = true
-is_begun Closed = true
-is_begun p = false
+pub use Rattle.link_account.specs.Laws.{has_begun as is_begun}
 
 -- the answer to a poll
 abbrev pub frame_final : Frame → Bool

@@ -4,6 +4,7 @@ use Rattle.link_account.proofs.Names.{is_some, nat_tests, Role, Originator, Answ
 use Rattle.link_account.proofs.Names.{agree, offer_in, OwnBreaks, waits, Arrived, LinkFault, Account, hear, on_nothing, trying, owing}
 use Rattle.link_run.proofs.Names.{Phase, Detecting, Negotiating, Establishing, Connected, Releasing, Closed}
 use Rattle.xid_params.specs.Terms.{default_offer}
+use Rattle.xid_params.specs.declared.terms.Terms.{Terms}
 use Rattle.break_signals.specs.Breaks.{no_breaks}
 use Rattle.lapm_frames.specs.declared.seen.Seen.TheVariants.{Odp, Adp}
 use Rattle.link_account.specs.Account.{window_for, size_for}
@@ -159,6 +160,30 @@ tries-now z turn p a = record { tied = omega arith; started = omega arith; withi
 pub later-tries : (z : Rates) (turn : ℕ) (a : Account) → Tries z turn turn a → Tries z (turn + 1) turn a
 later-tries z turn a t = record { tied = t.tied; started = omega (arith, t.started); within = t.within; tried = t.tried }
 
+pub same-unlinked : (a b : Account) → Unlinked a → b.outgoing ≡ a.outgoing → b.wait.timer ≡ a.wait.timer → b.own_breaks ≡ a.own_breaks
+    → b.their_breaks.ack ≡ a.their_breaks.ack → b.terms ≡ a.terms → Unlinked b
+same-unlinked a b u o t w k e =
+    let windows = subst (λ x. (1 ≤ x.window_o) × (1 ≤ x.window_a)) (sym e) (u.window_o, u.window_a) in
+    record {
+      outgoing = o ∙ u.outgoing;
+      timer = t ∙ u.timer;
+      breaks = w ∙ u.breaks;
+      ack = k ∙ u.ack;
+      window_o = windows.0;
+      window_a = windows.1;
+    }
+
+-- on other terms
+on-terms : (a : Account) (terms : Terms) → Unlinked a → (1 ≤ terms.window_o) × (1 ≤ terms.window_a) → Unlinked (record a { terms = terms })
+on-terms a terms u windows = record {
+  outgoing = u.outgoing;
+  timer = u.timer;
+  breaks = u.breaks;
+  ack = u.ack;
+  window_o = windows.0;
+  window_a = windows.1;
+}
+
 -- hearing before Connected, of an originator
 o-detecting : (z : Rates) (total breaks turn : ℕ) (a : Account) → AreRates z → Unlinked a
     → (q : Phase) × HeardAs z total breaks turn 0 Originator Detecting a q (trying Negotiating turn a)
@@ -166,17 +191,7 @@ o-detecting z total breaks turn a y u = (
   Negotiating,
   record {
     phase = refl;
-    stands = (
-      record {
-        outgoing = u.outgoing;
-        timer = u.timer;
-        breaks = u.breaks;
-        ack = u.ack;
-        window_o = u.window_o;
-        window_a = u.window_a;
-      },
-      tries-now z turn Negotiating a,
-    );
+    stands = (u, tries-now z turn Negotiating a);
     setup = refl;
     pieces = refl;
     ended = refl;
@@ -194,14 +209,7 @@ o-negotiating z total breaks turn a offer info y k u f =
       record {
         phase = refl;
         stands = (
-          record {
-            outgoing = u.outgoing;
-            timer = u.timer;
-            breaks = u.breaks;
-            ack = u.ack;
-            window_o = windows.0;
-            window_a = windows.1;
-          },
+          on-terms a (agree a.setup.offer offer) u windows,
           tries-now z turn Establishing a,
         );
         setup = refl;
@@ -250,25 +258,12 @@ early-idle z total breaks turn p q a b i j u phase setup outgoing own =
       );
     }
 
-pub same-unlinked : (a b : Account) → Unlinked a → b.outgoing ≡ a.outgoing → b.wait.timer ≡ a.wait.timer → b.own_breaks ≡ a.own_breaks
-    → b.their_breaks.ack ≡ a.their_breaks.ack → (1 ≤ b.terms.window_o) × (1 ≤ b.terms.window_a) → Unlinked b
-same-unlinked a b u o t w k windows =
-    record {
-      outgoing = o ∙ u.outgoing;
-      timer = t ∙ u.timer;
-      breaks = w ∙ u.breaks;
-      ack = k ∙ u.ack;
-      window_o = windows.0;
-      window_a = windows.1;
-    }
-
 a-xid : (z : Rates) (total breaks turn : ℕ) (p : Phase) (a : Account) (offer : Offer) (info : List ℕ) → IsEarly p
     → IsOf z a.setup → Unlinked a → offer_in info ≡ Some offer
     → (q : Phase) × HeardAs z total breaks turn 0 Answerer p a q (on_xid_command (Some offer) a)
 a-xid z total breaks turn p a offer info i k u f = (
   Negotiating,
-  early-idle z total breaks turn p Negotiating a _ i tt
-      (same-unlinked a _ u refl refl refl refl
+  early-idle z total breaks turn p Negotiating a _ i tt (on-terms a (agree offer a.setup.offer) u
       (agreed-windows offer a.setup.offer (read-windows info offer f) (k.tx_window, k.rx_window))) refl refl refl refl,
 )
 
@@ -287,7 +282,7 @@ a-sabme z total breaks turn p a pf i y k u er =
         → HeardAs z total breaks turn 0 Answerer q a Connected (owing (answers.Ua pf) b)
     owed q b h = record {
       phase = h.phase;
-      stands = record { sends = h.stands.sends; breaks = h.stands.breaks; ack = h.stands.ack; silent = h.stands.silent };
+      stands = h.stands;
       setup = h.setup;
       pieces = h.pieces;
       ended = h.ended;
@@ -308,7 +303,7 @@ a-sabme-default : (z : Rates) (total breaks turn : ℕ) (a : Account) (pf : Bool
     (owing (answers.Ua pf) (connected turn (record a { terms = agree default_offer a.setup.offer })))
 a-sabme-default z total breaks turn a pf y k u er =
     let b : Account = record a { terms = agree default_offer a.setup.offer } in
-    let h = a-sabme z total breaks turn Detecting b pf tt y k (same-unlinked a b u refl refl refl refl (default-windows a z k)) er in
+    let h = a-sabme z total breaks turn Detecting b pf tt y k (on-terms a b.terms u (default-windows a z k)) er in
     record { phase = h.phase; stands = h.stands; setup = h.setup; pieces = h.pieces; ended = h.ended; lengths = h.lengths; falls = h.falls }
 
 closes : (z : Rates) (total breaks turn : ℕ) (a b : Account) → AreRates z → Linked z turn turn Answerer a → b.phase ≡ Closed
@@ -344,27 +339,20 @@ closes z total breaks turn a b y h phase setup outgoing own = record {
 -- nothing changes but what it owes
 still-well : (z : Rates) (total breaks turn : ℕ) (role : Role) (p : Phase) (a : Account) (o : Owes) → Stands z turn turn role p a
     → a.phase ≡ p → HeardAs z total breaks turn 0 role p a p (record a { owes = o })
-still-well z total breaks turn Originator Detecting a o h e = idle-well z total breaks turn Originator Detecting a _
-    (same-unlinked a _ h refl refl refl refl (h.window_o, h.window_a)) e refl refl refl refl refl
-still-well z total breaks turn Originator Negotiating a o h e = idle-well z total breaks turn Originator Negotiating a _
-    (same-unlinked a _ h.0 refl refl refl refl (h.0.window_o, h.0.window_a), later-tries z turn a h.1) e refl refl refl refl refl
-still-well z total breaks turn Originator Establishing a o h e = idle-well z total breaks turn Originator Establishing a _
-    (same-unlinked a _ h.0 refl refl refl refl (h.0.window_o, h.0.window_a), later-tries z turn a h.1) e refl refl refl refl refl
-still-well z total breaks turn Originator Connected a o h e =
-    quiet-well z total breaks turn Originator a _ h e refl refl refl h.ack refl refl refl
+still-well z total breaks turn role Connected a o h e = quiet-well z total breaks turn role a h e o _ h.ack
+still-well z total breaks turn role Closed a o h e = idle-well z total breaks turn role Closed a _ tt e refl refl refl refl refl
+still-well z total breaks turn Originator Detecting a o h e =
+    idle-well z total breaks turn Originator Detecting a _ h e refl refl refl refl refl
+still-well z total breaks turn Originator Negotiating a o h e =
+    idle-well z total breaks turn Originator Negotiating a _ (h.0, later-tries z turn a h.1) e refl refl refl refl refl
+still-well z total breaks turn Originator Establishing a o h e =
+    idle-well z total breaks turn Originator Establishing a _ (h.0, later-tries z turn a h.1) e refl refl refl refl refl
 still-well z total breaks turn Originator Releasing a o h e =
     idle-well z total breaks turn Originator Releasing a _ (later-tries z turn a h) e refl refl refl refl refl
-still-well z total breaks turn Originator Closed a o h e =
-    idle-well z total breaks turn Originator Closed a _ tt e refl refl refl refl refl
-still-well z total breaks turn Answerer Detecting a o h e = early-idle z total breaks turn Detecting Detecting a _ tt tt
-    (same-unlinked a _ h refl refl refl refl (h.window_o, h.window_a)) e refl refl refl
-still-well z total breaks turn Answerer Negotiating a o h e = early-idle z total breaks turn Negotiating Negotiating a _ tt tt
-    (same-unlinked a _ h refl refl refl refl (h.window_o, h.window_a)) e refl refl refl
-still-well z total breaks turn Answerer Establishing a o h e = absurd h
-still-well z total breaks turn Answerer Connected a o h e =
-    quiet-well z total breaks turn Answerer a _ h e refl refl refl h.ack refl refl refl
-still-well z total breaks turn Answerer Releasing a o h e = absurd h
-still-well z total breaks turn Answerer Closed a o h e = idle-well z total breaks turn Answerer Closed a _ tt e refl refl refl refl refl
+still-well z total breaks turn Answerer Detecting a o h e = early-idle z total breaks turn Detecting Detecting a _ tt tt h e refl refl refl
+still-well z total breaks turn Answerer Negotiating a o h e =
+    early-idle z total breaks turn Negotiating Negotiating a _ tt tt h e refl refl refl
+still-well z total breaks turn Answerer p a o h e = absurd h
 
 -- Hearing: whatever the role, the phase and what arrives.
 module _ (z : Rates) (total breaks turn : ℕ) (role : Role) (a : Account) (y : AreRates z) (k : IsOf z a.setup)
@@ -390,12 +378,8 @@ module _ (z : Rates) (total breaks turn : ℕ) (role : Role) (a : Account) (y : 
   stands : (p : Phase) → a.phase ≡ p → Stands z turn turn role p a
   stands p e = subst (λ p. Stands z turn turn role p a) e s
 
-  linked : (r : Role) → Stands z turn turn r Connected a → Linked z turn turn r a
-  linked Originator h = h
-  linked Answerer h = h
-
   linked-ways : a.phase ≡ Connected → ConnectedWays P turn a
-  linked-ways e = let h = linked role (stands Connected e) in record {
+  linked-ways e = let h = stands Connected e in record {
     pattern = λ seen. same (arrivals.Pattern seen);
     plain = λ frame p. same (arrivals.Frame frame);
     numbers = number-well z total breaks turn role a y h e all P
@@ -404,7 +388,7 @@ module _ (z : Rates) (total breaks turn : ℕ) (role : Role) (a : Account) (y : 
     disc = λ pf r. now (arrivals.Frame (Disc pf)) _ Connected e (Closed, closed role (sym er ∙ r) h pf);
     brk = λ command pf info number length_octet q.
         now (arrivals.Frame (Ui command pf info)) _ Connected e
-        (Connected, quiet-well z total breaks turn role a _ h e refl refl refl tt refl refl refl);
+        (Connected, quiet-well z total breaks turn role a h e _ _ tt);
     brkack = λ command pf info number length_octet q.
         now (arrivals.Frame (Ui command pf info)) _ Connected e (Connected, answer-well z total breaks turn role a y h e all number);
   }

@@ -1,19 +1,17 @@
 -- How many polls an end sends: in a turn, and in the last turns of a run where no user is busy.
-use Rattle.std.proofs.Common.{◌≡◌, ℕ, ◌+◌, ◌*◌, ◌≤◌, ◌&&◌, Bool, true, false, cond, nat_eq, length, inl, inr, arith, refl, sym, ◌∙◌}
-use Rattle.std.proofs.Common.{ap, subst, Result, Ok, Err}
+use Rattle.std.proofs.Common.{◌≡◌, ℕ, ◌+◌, ◌*◌, ◌≤◌, ◌&&◌, Bool, true, false, cond, nat_eq, length, inl, inr, arith, refl, sym, ◌∙◌, ap}
+use Rattle.std.proofs.Common.{subst, Result, Ok, Err}
 use Rattle.link_account.proofs.Names.{Role, is_originator, Frame, Disc, Arrived, LinkFault, Account, is_connected, hear, trying, Said, says}
 use Rattle.link_account.proofs.Names.{spent, speak_linked, speak, speak_in, speak_releasing}
 use Rattle.link_run.proofs.Names.{Phase, Detecting, Negotiating, Establishing, Connected, Releasing, Closed, User, is_busy, is_released}
 use Rattle.link_account.specs.Speak.{says_frame, else_says, where_says, trying_again, tries_frame, u_try}
 use Rattle.turn_bound.proofs.Clock.{Rates, AreRates}
-use Rattle.turn_bound.proofs.Value.{IsOf, Linked, Stands, arrived_weight, arrived_rnrs}
+use Rattle.turn_bound.proofs.Value.{IsOf, Stands, arrived_weight, arrived_rnrs}
 use Rattle.turn_bound.proofs.Run.{served_account}
 use Rattle.turn_bound.proofs.Serving.{Served, serves-all}
-use Rattle.turn_bound.proofs.Serves.{serves-well}
 use Rattle.turn_bound.proofs.Hearing.{HeardAs}
 use Rattle.turn_bound.proofs.Phases.{hears-well}
 use Rattle.turn_bound.proofs.OneTurn.{heard-ok}
-use Rattle.turn_bound.proofs.StillTurn.{linked-stand}
 use Rattle.turn_bound.proofs.MeetHear.{is_begun, of_arrived}
 use Rattle.turn_bound.proofs.MeetSpeak.{SaysSo, speaks-so}
 use Rattle.turn_bound.proofs.Credits.{frame_poll, poll_value, poll-most, timer_value}
@@ -82,7 +80,7 @@ poll-turn z user turn role arrived a mid released release said y k h er light qu
     hearing Negotiating e = poll-most turn mid.phase mid
     hearing Establishing e = poll-most turn mid.phase mid
     hearing Connected e = elim
-        (takes z turn role a (linked-stand z turn turn role a (subst (λ q. Stands z turn turn role q a) e h)) e arrived mid light quiet
+        (takes z turn role a (subst (λ q. Stands z turn turn role q a) e h) e arrived mid light quiet
         hears) [
           | inl c ↦ omega (arith, late-none turn mid.phase mid (ap is_released c.phase))
           | inr t ↦ omega (arith, heard-polls turn (of_arrived frame_poll arrived) a mid t.1, ap (λ q. poll_value turn q mid) t.0)

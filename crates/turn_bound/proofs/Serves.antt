@@ -25,9 +25,7 @@ pub record Unserved (a b : Account) : Type 0 where
   pub own : b.own_breaks ≡ a.own_breaks
 
 unserved-unlinked : (a b : Account) → Unserved a b → Unlinked a → Unlinked b
-unserved-unlinked a b h u =
-    same-unlinked a b u h.outgoing (ap (λ w. w.timer) h.wait) h.own (ap (λ t. t.ack) h.ack)
-    (subst (λ x. (1 ≤ x.window_o) × (1 ≤ x.window_a)) (sym h.terms) (u.window_o, u.window_a))
+unserved-unlinked a b h u = same-unlinked a b u h.outgoing (ap (λ w. w.timer) h.wait) h.own (ap (λ t. t.ack) h.ack) h.terms
 
 unserved-tries : (z : Rates) (before turn : ℕ) (a b : Account) → Unserved a b → Tries z before turn a → Tries z before turn b
 unserved-tries z before turn a b h t =
@@ -42,18 +40,16 @@ unserved : (z : Rates) (turn : ℕ) (role : Role) (p : Phase) (a b : Account) �
     → Stands z (turn + 1) turn role p b × (lives turn role p b ≡ lives turn role p a)
     × (time_left z turn role p b ≡ time_left z turn role p a)
 unserved z turn role Connected a b c h s = cc
+unserved z turn role Closed a b c h s = (tt, refl, refl)
 unserved z turn Originator Detecting a b c h s = (unserved-unlinked a b h s, refl, refl)
 unserved z turn Originator Negotiating a b c h s =
     ((unserved-unlinked a b h s.0, unserved-tries z (turn + 1) turn a b h s.1), refl, unserved-try z turn a b h)
 unserved z turn Originator Establishing a b c h s =
     ((unserved-unlinked a b h s.0, unserved-tries z (turn + 1) turn a b h s.1), refl, unserved-try z turn a b h)
 unserved z turn Originator Releasing a b c h s = (unserved-tries z (turn + 1) turn a b h s, refl, unserved-try z turn a b h)
-unserved z turn Originator Closed a b c h s = (tt, refl, refl)
 unserved z turn Answerer Detecting a b c h s = (unserved-unlinked a b h s, refl, refl)
 unserved z turn Answerer Negotiating a b c h s = (unserved-unlinked a b h s, refl, refl)
-unserved z turn Answerer Establishing a b c h s = absurd s
-unserved z turn Answerer Releasing a b c h s = absurd s
-unserved z turn Answerer Closed a b c h s = (tt, refl, refl)
+unserved z turn Answerer p a b c h s = absurd s
 
 asked-length : (turn l breaks : ℕ) (b : OwnBreaks) → length b.lengths < breaks → length (after_ask turn l b).lengths ≤ breaks
 asked-length turn l breaks b h = go (not (waits b) && nat_le b.rest turn)
@@ -66,7 +62,10 @@ asked-length turn l breaks b h = go (not (waits b) && nat_le b.rest turn)
 served-connected : (z : Rates) (total breaks turn : ℕ) (busy : Bool) (role : Role) (a b : Account) → AreRates z
     → Linked z (turn + 1) turn role a → a.phase ≡ Connected → Served turn breaks busy a b
     → ServesAs z total breaks turn role Connected a b
-served-connected z total breaks turn busy role a b y h e s = go role h.silent
+served-connected z total breaks turn busy role a b y h e s = record {
+  stands = record { sends = sends; breaks = own.sound; ack = subst (λ t. IsAck t.ack) (sym s.ack) h.ack; silent = silent role h.silent };
+  falls = omega (arith, sender, own.falls, both);
+}
   where
     timer : b.wait.timer ≡ a.wait.timer
     timer = ap (λ w. w.timer) s.wait
@@ -102,21 +101,9 @@ served-connected z total breaks turn busy role a b y h e s = go role h.silent
       ends-same z.room (is_waiting a.outgoing),
     )
 
-    go : (r : Role) → IsSilent r a → ServesAs z total breaks turn r Connected a b
-    go Originator i = record {
-      stands = record { sends = sends; breaks = own.sound; ack = subst (λ t. IsAck t.ack) (sym s.ack) h.ack; silent = tt };
-      falls = omega (arith, sender, own.falls, both);
-    }
-    go Answerer i = record {
-      stands = record {
-        sends = sends;
-        breaks = own.sound;
-        ack = subst (λ t. IsAck t.ack) (sym s.ack) h.ack;
-        silent = λ n. let k =
-            i (sym s.numbered ∙ n) in (ap (λ o. o.high) s.longer.outgoing ∙ k.0, timer ∙ k.1);
-      };
-      falls = omega (arith, sender, own.falls, both);
-    }
+    silent : (r : Role) → IsSilent r a.numbered a.outgoing.high a.wait.timer → IsSilent r b.numbered b.outgoing.high b.wait.timer
+    silent Originator i = tt
+    silent Answerer i = λ n. let k = i (sym s.numbered ∙ n) in (ap (λ o. o.high) s.longer.outgoing ∙ k.0, timer ∙ k.1)
 
 pub serves-well : (z : Rates) (total breaks turn : ℕ) (busy : Bool) (role : Role) (p : Phase) (a b : Account) → AreRates z
     → Stands z (turn + 1) turn role p a → a.phase ≡ p → Served turn breaks busy a b
@@ -150,13 +137,5 @@ serves-well z total breaks turn busy role p a b y h e s = go (is_connected p) re
       where
         connected : (q : Phase) → is_connected q ≡ true → Stands z (turn + 1) turn role q a → a.phase ≡ q
             → ServesAs z total breaks turn role q a b
-        connected Connected c k f = by role k
-          where
-            by : (r : Role) → Stands z (turn + 1) turn r Connected a → ServesAs z total breaks turn r Connected a b
-            by Originator k = served-connected z total breaks turn busy Originator a b y k f s
-            by Answerer k = served-connected z total breaks turn busy Answerer a b y k f s
-        connected Detecting c k f = cc
-        connected Negotiating c k f = cc
-        connected Establishing c k f = cc
-        connected Releasing c k f = cc
-        connected Closed c k f = cc
+        connected Connected c k f = served-connected z total breaks turn busy role a b y k f s
+        connected q c k f = cc

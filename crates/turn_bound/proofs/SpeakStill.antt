@@ -1,8 +1,7 @@
-use Rattle.std.proofs.Common.{Option}
-use Rattle.std.proofs.Common.{◌≡◌, ℕ, ◌+◌, ◌-◌, ◌%◌, ◌<◌, ◌≤◌, ◌&&◌, ◌||◌, not, Bool, true, false, cond, nat_lt, List, [], ◌∷◌, ◌++◌}
-use Rattle.std.proofs.Common.{length, slice_index_or, arith, refl, sym, ◌∙◌, ap, subst, inl, inr, Some, None, Ok, Err}
+use Rattle.std.proofs.Common.{Option, ◌≡◌, ℕ, ◌+◌, ◌-◌, ◌%◌, ◌<◌, ◌≤◌, ◌&&◌, ◌||◌, not, Bool, true, false, cond, nat_lt, List, [], ◌∷◌}
+use Rattle.std.proofs.Common.{◌++◌, length, slice_index_or, arith, refl, sym, ◌∙◌, ap, subst, inl, inr, Some, None, Ok, Err}
 use Rattle.link_account.proofs.Names.{is_some, nat_tests, Role, Outgoing, next_number, is_outstanding, Incoming, BreakWord, Brk, Ack}
-use Rattle.link_account.proofs.Names.{Account, is_originator, Said, frame_for, nr_of, may_send, steps, ready_frame, AllByRecursion}
+use Rattle.link_account.proofs.Names.{Account, is_originator, Said, frame_for, nr_of, may_send, ready_frame, AllByRecursion}
 use Rattle.link_run.proofs.Names.{Answer}
 use Rattle.lapm_sender.specs.Outgoing.{next_among}
 use Rattle.lapm_receiver.specs.Held.{first_outside, missing_from}
@@ -13,7 +12,7 @@ use Rattle.turn_bound.proofs.Clock.{Rates, AreRates, is_waiting, is_free, one_if
 use Rattle.turn_bound.proofs.Value.{two_if, four_if, dues, weight, frame_weight, word_weight, IsAck, Linked}
 use Rattle.turn_bound.proofs.Sending.{sent-well}
 use Rattle.break_signals.specs.Breaks.{after_ack}
-use Rattle.link_account.proofs.SpeakWays.{AllSaid, by-steps}
+use Rattle.link_account.proofs.SpeakWays.{AllSaid, Steps}
 use Rattle.link_account.specs.declared.answer.Answer.TheVariants as answers
 
 -- what is due but for a segment
@@ -174,8 +173,8 @@ module _ (z : Rates) (total turn : ℕ) (role : Role) (a : Account) (special : B
   told false true may' e g = refl
   told false false may' e g = cc
 
-  pub steps-pay : Pays total a special (steps turn special a)
-  steps-pay = by-steps (Pays total a special) turn special a (record {
+  pub steps-pay : Steps (Pays total a special) turn special a
+  steps-pay = record {
     answers = λ d e w. omega (
       arith,
       light d,
@@ -220,4 +219,4 @@ module _ (z : Rates) (total turn : ℕ) (role : Role) (a : Account) (special : B
       one-less (is_free total a.outgoing)
           (not a.special),
     );
-  })
+  }

@@ -1,47 +1,47 @@
-use Rattle.std.proofs.Common.{◌≡◌, ℕ, ◌+◌, ◌-◌, ◌*◌, ◌≤◌, ◌||◌, Bool, true, false, cond, nat_eq, List, [], ◌∷◌, length, arith, refl, sym}
-use Rattle.std.proofs.Common.{◌∙◌, ap, subst, Option, Some, None, Result, Ok, Err}
-use Rattle.link_account.proofs.Names.{Role, Originator, Answerer, Outgoing, next_number, OwnBreaks, ticked, LinkFault, Account}
-use Rattle.link_account.proofs.Names.{is_connected, is_originator, Said, may_send, steps, speak_linked}
-use Rattle.link_run.proofs.Names.{Phase, Connected, is_closed}
-use Rattle.lapm_sender.specs.Outgoing.{after_next, sent_among, expired}
+use Rattle.std.proofs.Common.{◌≡◌, ℕ, ◌+◌, ◌-◌, ◌*◌, ◌≤◌, ◌||◌, Bool, true, false, cond, nat_eq, length, arith, refl, sym, ◌∙◌, ap, subst}
+use Rattle.std.proofs.Common.{Option, Some, None, Result, Ok, Err}
+use Rattle.link_account.proofs.Names.{nat_tests, Role, Originator, Answerer, Outgoing, next_number, BreakWord, OwnBreaks, ticked, LinkFault, Account}
+use Rattle.link_account.proofs.Names.{is_connected, is_originator, Said, may_send, speak_linked}
+use Rattle.link_run.proofs.Names.{Setup, Phase, Connected, is_closed}
+use Rattle.lapm_sender.specs.Outgoing.{after_next}
 use Rattle.break_signals.specs.Breaks.{after_brk}
-use Rattle.link_account.specs.Speak.{polling, timer_expires, on_timer, breaking, on_break_timer, running, says_segment, after_timers}
-use Rattle.link_account.specs.Speak.{then_tries}
-use Rattle.link_account.proofs.SpeakWays.{AllSaid, by-steps}
+use Rattle.link_account.specs.Speak.{timer_expires, breaking, running, says_segment}
+use Rattle.link_account.proofs.SpeakWays.{AllSaid, Steps, steps-so, polling_at, Expired, by-linked, next-keeps}
 use Rattle.turn_bound.proofs.Clock.{Rates, AreRates, is_waiting, Sends, lasts, one_if, sender_value, Breaks, is_breaking, break_left}
-use Rattle.turn_bound.proofs.Value.{value, linked_lives, lives, IsOf, IsAck, IsSilent, Linked, Stands}
+use Rattle.turn_bound.proofs.Value.{value, lives, IsOf, IsAck, IsSilent, LinkedIn, Linked, Stands}
 use Rattle.turn_bound.proofs.Sending.{WaitedWell, waited-quiet, waited-expired, sent-well}
 use Rattle.turn_bound.proofs.Breaking.{TickedWell, ticked-well, brk-sent}
-
--- what no timer and no step changes
-pub record Same (a b : Account) : Type 0 where
-  pub setup : b.setup ≡ a.setup
-  pub phase : b.phase ≡ a.phase
-  pub numbered : b.numbered ≡ a.numbered
-  pub pieces : b.outgoing.pieces ≡ a.outgoing.pieces
-  pub ended : b.outgoing.ended ≡ a.outgoing.ended
-  pub lengths : b.own_breaks.lengths ≡ a.own_breaks.lengths
 
 -- what the timers make of a Connected account
 pub record Timed (z : Rates) (total breaks turn : ℕ) (role : Role) (a b : Account) : Type 0 where
   pub waited : WaitedWell z total turn a.outgoing a.wait.timer b.outgoing b.wait.timer
   pub ticked : TickedWell z breaks turn a.own_breaks b.own_breaks
-  pub ack : IsAck b.their_breaks.ack
-  pub silent : IsSilent role b
-  pub same : Same a b
+  pub linked : Linked z (turn + 1) (turn + 1) role b
+  pub setup : b.setup ≡ a.setup
+  pub phase : b.phase ≡ a.phase
+  pub numbered : b.numbered ≡ a.numbered
+  pub pieces : b.outgoing.pieces ≡ a.outgoing.pieces
+  pub ended : b.outgoing.ended ≡ a.outgoing.ended
 
--- what a step makes of it
-pub record Stepped (z : Rates) (total breaks turn : ℕ) (role : Role) (a b : Account) : Type 0 where
-  pub sends : Sends z (turn + 1) (turn + 1) b.outgoing b.wait.timer
-  pub waits : is_waiting a.outgoing ≡ true → is_waiting b.outgoing ≡ true
-  pub falls : sender_value z total (turn + 1) b.outgoing b.wait.timer + cond (is_waiting a.outgoing) 0
-      (cond (is_waiting b.outgoing) (z.room + 1) 0) ≤ sender_value z total (turn + 1) a.outgoing a.wait.timer
-  pub own : Breaks z (turn + 1) (turn + 1) b.own_breaks
-  pub breaking : is_breaking (turn + 1) b.own_breaks ≡ is_breaking (turn + 1) a.own_breaks
-  pub left : break_left z (turn + 1) b.own_breaks ≡ break_left z (turn + 1) a.own_breaks
-  pub ack : IsAck b.their_breaks.ack
-  pub silent : IsSilent role b
-  pub same : Same a b
+-- what a step makes of it, by the parts that count
+pub record StepIn (z : Rates) (total breaks turn : ℕ) (role : Role) (a : Account) (s : Setup) (p : Phase) (n : Bool) (o : Outgoing)
+    (timer : Option ℕ) (b : OwnBreaks) (due : Option BreakWord) : Type 0 where
+  pub linked : LinkedIn z (turn + 1) (turn + 1) role n o timer b due
+  pub waits : is_waiting a.outgoing ≡ true → is_waiting o ≡ true
+  pub falls : sender_value z total (turn + 1) o timer + cond (is_waiting a.outgoing) 0 (cond (is_waiting o) (z.room + 1) 0)
+      ≤ sender_value z total (turn + 1) a.outgoing a.wait.timer
+  pub breaking : is_breaking (turn + 1) b ≡ is_breaking (turn + 1) a.own_breaks
+  pub left : break_left z (turn + 1) b ≡ break_left z (turn + 1) a.own_breaks
+  pub lengths : b.lengths ≡ a.own_breaks.lengths
+  pub setup : s ≡ a.setup
+  pub phase : p ≡ a.phase
+  pub numbered : n ≡ a.numbered
+  pub pieces : o.pieces ≡ a.outgoing.pieces
+  pub ended : o.ended ≡ a.outgoing.ended
+
+abbrev pub Stepped : Rates → ℕ → ℕ → ℕ → Role → Account → Account → Type 0
+Stepped z total breaks turn role a b =
+    StepIn z total breaks turn role a b.setup b.phase b.numbered b.outgoing b.wait.timer b.own_breaks b.their_breaks.ack
 
 nothing-falls : (v k : ℕ) (w : Bool) → v + cond w 0 (cond w (k + 1) 0) ≤ v
 nothing-falls v k true = omega arith
@@ -50,61 +50,50 @@ nothing-falls v k false = omega arith
 -- The steps of a Connected end.
 module _ (z : Rates) (total breaks turn : ℕ) (role : Role) (a : Account) (y : AreRates z) (h : Linked z (turn + 1) (turn + 1) role a)
     (er : a.setup.role ≡ role) (all : length a.outgoing.pieces ≤ total) where
-  -- a frame that leaves the sender's part and the breaks as they are
-  quiet : (b : Account) → b.outgoing ≡ a.outgoing → b.wait.timer ≡ a.wait.timer → b.own_breaks ≡ a.own_breaks → IsAck b.their_breaks.ack
-      → b.numbered ≡ a.numbered → b.phase ≡ a.phase → b.setup ≡ a.setup → Stepped z total breaks turn role a b
-  quiet b outgoing timer own ack numbered phase setup = record {
-    sends = subst (λ o. Sends z (turn + 1) (turn + 1) o b.wait.timer) (sym outgoing)
-        (subst (Sends z (turn + 1) (turn + 1) a.outgoing) (sym timer) h.sends);
-    waits = λ w. ap is_waiting outgoing ∙ w;
-    falls = subst (λ o. sender_value z total (turn + 1) o b.wait.timer + cond (is_waiting a.outgoing) 0
-        (cond (is_waiting o) (z.room + 1) 0) ≤ sender_value z total (turn + 1) a.outgoing a.wait.timer) (sym outgoing)
-        (subst (λ r. sender_value z total (turn + 1) a.outgoing r + cond (is_waiting a.outgoing) 0
-        (cond (is_waiting a.outgoing) (z.room + 1) 0) ≤ sender_value z total (turn + 1) a.outgoing a.wait.timer) (sym timer)
-        (nothing-falls (sender_value z total (turn + 1) a.outgoing a.wait.timer) z.room (is_waiting a.outgoing)));
-    own = subst (Breaks z (turn + 1) (turn + 1)) (sym own) h.breaks;
-    breaking = ap (is_breaking (turn + 1)) own;
-    left = ap (break_left z (turn + 1)) own;
-    ack = ack;
-    silent = silent-same role h.silent;
-    same = record {
-      setup = setup;
-      phase = phase;
-      numbered = numbered;
-      pieces = ap (λ o. o.pieces) outgoing;
-      ended = ap (λ o. o.ended) outgoing;
-      lengths = ap (λ o. o.lengths) own;
-    };
+  -- a frame that leaves the sender's part as it is
+  leaves : (b : OwnBreaks) (due : Option BreakWord) → Breaks z (turn + 1) (turn + 1) b
+      → is_breaking (turn + 1) b ≡ is_breaking (turn + 1) a.own_breaks
+      → break_left z (turn + 1) b ≡ break_left z (turn + 1) a.own_breaks → b.lengths ≡ a.own_breaks.lengths → IsAck due
+      → StepIn z total breaks turn role a a.setup a.phase a.numbered a.outgoing a.wait.timer b due
+  leaves b due sound breaking left lengths ack = record {
+    linked = record { sends = h.sends; breaks = sound; ack = ack; silent = h.silent };
+    waits = λ w. w;
+    falls = nothing-falls (sender_value z total (turn + 1) a.outgoing a.wait.timer) z.room (is_waiting a.outgoing);
+    breaking = breaking;
+    left = left;
+    lengths = lengths;
+    setup = refl;
+    phase = refl;
+    numbered = refl;
+    pieces = refl;
+    ended = refl;
   }
-    where
-      silent-same : (r : Role) → IsSilent r a → IsSilent r b
-      silent-same Originator s = tt
-      silent-same Answerer s = λ n. let k = s (sym numbered ∙ n) in (ap (λ o. o.high) outgoing ∙ k.0, timer ∙ k.1)
+
+  -- and the breaks
+  same : (due : Option BreakWord) → IsAck due
+      → StepIn z total breaks turn role a a.setup a.phase a.numbered a.outgoing a.wait.timer a.own_breaks due
+  same due ack = leaves a.own_breaks due h.breaks refl refl refl ack
 
   -- an I frame
   segment : (n : ℕ) → may_send a ≡ Some n → AllSaid (λ s. Stepped z total breaks turn role a s.account) (says_segment turn (Some n) a)
   segment n e =
       let g = allowed (is_originator a.setup.role || a.numbered) refl e in
       let s = sent-well z total turn a.outgoing a.wait.timer n y h.sends all g.0 in
+      let keeps = next-keeps a.outgoing in
       record {
-        sends = s.sends;
+        linked = record { sends = s.sends; breaks = h.breaks; ack = h.ack; silent = heard-of role er g.1 _ _ };
         waits = λ w. s.waits;
         falls = subst (λ l. sender_value z total (turn + 1) (after_next a.outgoing) (running turn a.wait.timer) + cond
             (is_waiting a.outgoing) 0 (cond l (z.room + 1) 0) ≤ sender_value z total (turn + 1) a.outgoing a.wait.timer)
             (sym s.waits) s.falls;
-        own = h.breaks;
         breaking = refl;
         left = refl;
-        ack = h.ack;
-        silent = heard-of role er g.1 _ refl;
-        same = record {
-          setup = refl;
-          phase = refl;
-          numbered = refl;
-          pieces = (sent-pieces a.outgoing).0;
-          ended = (sent-pieces a.outgoing).1;
-          lengths = refl;
-        };
+        lengths = refl;
+        setup = refl;
+        phase = refl;
+        numbered = refl;
+        pieces = keeps.pieces;
+        ended = keeps.ended;
       }
     where
       allowed : (b : Bool) → is_originator a.setup.role || a.numbered ≡ b → cond b (next_number a.outgoing) None ≡ Some n
@@ -112,119 +101,105 @@ module _ (z : Rates) (total breaks turn : ℕ) (role : Role) (a : Account) (y : 
       allowed true f e = (e, f)
       allowed false f e = cc
 
-      heard-of : (r : Role) → a.setup.role ≡ r → is_originator a.setup.role || a.numbered ≡ true → (b : Account) → b.numbered ≡ a.numbered
-          → IsSilent r b
-      heard-of Originator f g b e = tt
-      heard-of Answerer f g b e = λ n. let none : is_originator a.setup.role ≡ false = ap is_originator f in
+      heard-of : (r : Role) → a.setup.role ≡ r → is_originator a.setup.role || a.numbered ≡ true → (high : ℕ) (timer : Option ℕ)
+          → IsSilent r a.numbered high timer
+      heard-of Originator f g high timer = tt
+      heard-of Answerer f g high timer = λ n. let none : is_originator a.setup.role ≡ false = ap is_originator f in
           let wrong : false || false ≡ true =
-          subst (λ k. k || false ≡ true) none (subst (λ k. is_originator a.setup.role || k ≡ true) (sym e ∙ n) g) in cc
+          subst (λ k. k || false ≡ true) none (subst (λ k. is_originator a.setup.role || k ≡ true) n g) in cc
 
-      sent-pieces : (o : Outgoing) → ((after_next o).pieces ≡ o.pieces) × ((after_next o).ended ≡ o.ended)
-      sent-pieces o = by o.chosen
-        where
-          by : (l : List ℕ) → ((sent_among l o).pieces ≡ o.pieces) × ((sent_among l o).ended ≡ o.ended)
-          by [] = (refl, refl)
-          by (n ∷ l) = (refl, refl)
-
-  pub steps-well : (special : Bool) → Stepped z total breaks turn role a (steps turn special a).account
-  steps-well special = by-steps (λ s. Stepped z total breaks turn role a s.account) turn special a (record {
-    answers = λ d e. quiet _ refl refl refl h.ack refl refl refl;
-    final = λ n e. quiet _ refl refl refl h.ack refl refl refl;
-    poll = λ n r e. quiet _ refl refl refl h.ack refl refl refl;
+  pub steps-well : (special : Bool) → Steps (λ s. Stepped z total breaks turn role a s.account) turn special a
+  steps-well special = record {
+    answers = λ d e. same _ h.ack;
+    final = λ n e. same _ h.ack;
+    poll = λ n r e. same _ h.ack;
     segment = λ b u n e. segment n e;
-    brkack = λ b s word e. quiet _ refl refl refl tt refl refl refl;
-    brk = λ b s k word e. record {
-      sends = h.sends;
-      waits = λ w. w;
-      falls = nothing-falls (sender_value z total (turn + 1) a.outgoing a.wait.timer) z.room (is_waiting a.outgoing);
-      own = brk-sent z (turn + 1) (turn + 1) a.own_breaks h.breaks;
-      breaking = refl;
-      left = refl;
-      ack = h.ack;
-      silent = silent-same role h.silent;
-      same = record { setup = refl; phase = refl; numbered = refl; pieces = refl; ended = refl; lengths = refl };
-    };
-    tell = λ b w e. quiet _ refl refl refl h.ack refl refl refl;
-    rej = λ b w n k. quiet _ refl refl refl h.ack refl refl refl;
-    srej = λ b w s n k. quiet _ refl refl refl h.ack refl refl refl;
-    flags = λ i. quiet _ refl refl refl h.ack refl refl refl;
+    brkack = λ b s word e. same None tt;
+    brk = λ b s k word e.
+        leaves (after_brk a.own_breaks) _ (brk-sent z (turn + 1) (turn + 1) a.own_breaks h.breaks) refl refl refl h.ack;
+    tell = λ b w e. same _ h.ack;
+    rej = λ b w n k. same _ h.ack;
+    srej = λ b w s n k. same _ h.ack;
+    flags = λ i. same _ h.ack;
+  }
+
+-- The timers come first: the account that they leave, and what the step makes of it.
+pub record Spoke (z : Rates) (total breaks turn : ℕ) (role : Role) (a : Account) (said : Said) : Type 0 where
+  pub timed : Account
+  pub is_timed : Timed z total breaks turn role a timed
+  pub stepped : Stepped z total breaks turn role timed said.account
+
+module _ (z : Rates) (total breaks turn : ℕ) (role : Role) (a : Account) (y : AreRates z) (k : IsOf z a.setup)
+    (h : Linked z (turn + 1) turn role a) where
+  ticks : (own : OwnBreaks) → ticked turn a.setup.period a.setup.tries a.own_breaks ≡ Some own → TickedWell z breaks turn a.own_breaks own
+  ticks own t = ticked-well z breaks turn a.own_breaks own y h.breaks (ap (λ p. ticked turn p z.tries a.own_breaks) (sym k.period)
+      ∙ (ap (λ n. ticked turn a.setup.period n a.own_breaks) (sym k.tries) ∙ t))
+
+  stood : timer_expires turn a a.wait.timer ≡ false → (own : OwnBreaks) → ticked turn a.setup.period a.setup.tries a.own_breaks ≡ Some own
+      → Timed z total breaks turn role a (record a { own_breaks = own; special = false })
+  stood x own t =
+      let w = waited-quiet z total turn a.outgoing a.wait.timer y h.sends
+      (λ set e. ap (λ p. nat_eq turn (set + p)) (sym k.period) ∙ (ap (timer_expires turn a) (sym e) ∙ x)) in
+      let c = ticks own t in
+      record {
+        waited = w;
+        ticked = c;
+        linked = record { sends = w.sends; breaks = c.sound; ack = h.ack; silent = h.silent };
+        setup = refl;
+        phase = refl;
+        numbered = refl;
+        pieces = refl;
+        ended = refl;
+      }
+
+  expired : (set : ℕ) → Expired turn a set → (own : OwnBreaks) → ticked turn a.setup.period a.setup.tries a.own_breaks ≡ Some own
+      → Timed z total breaks turn role a (polling_at turn a own)
+  expired set x own t =
+      let w = subst (λ timer. WaitedWell z total turn a.outgoing timer
+      (record a.outgoing { count = a.outgoing.count + 1; awaited = true }) (Some turn)) (sym x.timer)
+      (waited-expired z total turn a.outgoing set y (subst (Sends z (turn + 1) turn a.outgoing) x.timer h.sends)
+      (due (omega (arith, x.due, k.period))) x.left) in
+      let c = ticks own t in
+      record {
+        waited = w;
+        ticked = c;
+        linked = record { sends = w.sends; breaks = c.sound; ack = h.ack; silent = loud role h.silent };
+        setup = refl;
+        phase = refl;
+        numbered = refl;
+        pieces = refl;
+        ended = refl;
+      }
+    where
+      due : turn ≡ set + z.period → nat_eq turn (set + z.period) ≡ true
+      due q = grind (arith, nat_tests, q)
+
+      loud : (r : Role) → IsSilent r a.numbered a.outgoing.high a.wait.timer → IsSilent r a.numbered a.outgoing.high (Some turn)
+      loud Originator s = tt
+      loud Answerer s = λ n. let wrong : Some set ≡ None = sym x.timer ∙ (s n).1 in cc
+
+  pub spoke : a.setup.role ≡ role → length a.outgoing.pieces ≤ total → (said : Said) → speak_linked turn a ≡ Ok said
+      → Spoke z total breaks turn role a said
+  spoke er all = by-linked (Spoke z total breaks turn role a) turn a (record {
+    stands = λ x own t. rows (record a { own_breaks = own; special = false }) (stood x own t);
+    expires = λ set x own t. rows (polling_at turn a own) (expired set x own t);
   })
     where
-      silent-same : (r : Role) → IsSilent r a → IsSilent r (record a { own_breaks = after_brk a.own_breaks; special = true })
-      silent-same Originator s = tt
-      silent-same Answerer s = s
+      rows : (b : Account) → Timed z total breaks turn role a b → Steps (Spoke z total breaks turn role a) turn a.special b
+      rows b t = steps-so _ _ turn a.special b (λ s x. record { timed = b; is_timed = t; stepped = x })
+          (steps-well z total breaks turn role b y t.linked (ap (λ s. s.role) t.setup ∙ er)
+          (omega (arith, all, ap (λ l. length l) t.pieces)) a.special)
 
--- The timers come first.
-
-abbrev pub OnOk : {A : Type 0} → (A → Type 0) → Result A LinkFault → Type 0
-OnOk P (Err fault) = Unit {0}
-OnOk P (Ok b) = P b
-
-break-timer : (z : Rates) (total breaks turn : ℕ) (role : Role) (a b : Account) → AreRates z → IsOf z a.setup
-    → Breaks z (turn + 1) turn a.own_breaks → WaitedWell z total turn a.outgoing a.wait.timer b.outgoing b.wait.timer
-    → b.own_breaks ≡ a.own_breaks → IsAck b.their_breaks.ack → IsSilent role b → b.setup ≡ a.setup → b.phase ≡ a.phase
-    → b.numbered ≡ a.numbered → b.outgoing.pieces ≡ a.outgoing.pieces → b.outgoing.ended ≡ a.outgoing.ended
-    → OnOk (Timed z total breaks turn role a) (on_break_timer turn b)
-break-timer z total breaks turn role a b y k h w own ack silent setup phase numbered pieces ended =
-    go (ticked turn b.setup.period b.setup.tries b.own_breaks) refl
-  where
-    ticks : ticked turn b.setup.period b.setup.tries b.own_breaks ≡ ticked turn z.period z.tries a.own_breaks
-    ticks = ap (λ p. ticked turn p b.setup.tries b.own_breaks) (ap (λ s. s.period) setup ∙ k.period)
-        ∙ ap (λ n. ticked turn z.period n b.own_breaks) (ap (λ s. s.tries) setup ∙ k.tries) ∙ ap (ticked turn z.period z.tries) own
-
-    silent-same : (r : Role) (c : OwnBreaks) → IsSilent r b → IsSilent r (record b { own_breaks = c })
-    silent-same Originator c s = tt
-    silent-same Answerer c s = s
-
-    go : (m : Option OwnBreaks) → ticked turn b.setup.period b.setup.tries b.own_breaks ≡ m
-        → OnOk (Timed z total breaks turn role a) (breaking turn m b)
-    go None e = tt
-    go (Some c) e =
-        let t = ticked-well z breaks turn a.own_breaks c y h (sym ticks ∙ e) in
-        record {
-          waited = w;
-          ticked = t;
-          ack = ack;
-          silent = silent-same role c silent;
-          same = record { setup = setup; phase = phase; numbered = numbered; pieces = pieces; ended = ended; lengths = t.lengths };
-        }
-
-pub timers-well : (z : Rates) (total breaks turn : ℕ) (role : Role) (a : Account) → AreRates z → IsOf z a.setup
-    → Linked z (turn + 1) turn role a → OnOk (Timed z total breaks turn role a) (then_tries turn (on_timer turn a))
-timers-well z total breaks turn role a y k h = go a.wait.timer refl
-  where
-    quiet : ((set : ℕ) → a.wait.timer ≡ Some set → nat_eq turn (set + z.period) ≡ false)
-        → OnOk (Timed z total breaks turn role a) (on_break_timer turn a)
-    quiet q = break-timer z total breaks turn role a a y k h.breaks
-        (waited-quiet z total turn a.outgoing a.wait.timer y h.sends q) refl h.ack h.silent refl refl refl refl refl
-
-    loud : (r : Role) (set : ℕ) (c : Account) → IsSilent r a → a.wait.timer ≡ Some set → c.numbered ≡ a.numbered → IsSilent r c
-    loud Originator set c s e n = tt
-    loud Answerer set c s e n = λ f. let wrong : Some set ≡ None = sym e ∙ (s (sym n ∙ f)).1 in cc
-
-    go : (timer : Option ℕ) → a.wait.timer ≡ timer
-        → OnOk (Timed z total breaks turn role a)
-        (then_tries turn (cond (timer_expires turn a timer) (polling turn (expired a.outgoing) a) (Ok a)))
-    go None e = quiet (λ set f. let wrong : None ≡ Some set = sym e ∙ f in cc)
-    go (Some set) e = by (nat_eq turn (set + a.setup.period)) refl (nat_eq a.outgoing.count a.outgoing.tries) refl
-      where
-        due-is : nat_eq turn (set + a.setup.period) ≡ nat_eq turn (set + z.period)
-        due-is = ap (λ p. nat_eq turn (set + p)) k.period
-
-        by : (due : Bool) → nat_eq turn (set + a.setup.period) ≡ due → (spent : Bool) → nat_eq a.outgoing.count a.outgoing.tries ≡ spent
-            → OnOk (Timed z total breaks turn role a)
-            (then_tries turn (cond due
-            (polling turn (cond spent None (Some (record a.outgoing { count = a.outgoing.count + 1; awaited = true }))) a) (Ok a)))
-        by false d n f = quiet
-            (λ other g. let same : Some other ≡ Some set = sym g ∙ e in let same' : other ≡ set = cc in
-            subst (λ x. nat_eq turn (x + z.period) ≡ false) (sym same') (sym due-is ∙ d))
-        by true d true f = tt
-        by true d false f =
-            break-timer z total breaks turn role a _ y k h.breaks
-            (subst (λ timer. WaitedWell z total turn a.outgoing timer (record a.outgoing { count = a.outgoing.count + 1; awaited = true })
-            (Some turn)) (sym e)
-            (waited-expired z total turn a.outgoing set y (subst (Sends z (turn + 1) turn a.outgoing) e h.sends) (sym due-is ∙ d) f))
-            refl h.ack (loud role set _ h.silent e refl) refl refl refl refl refl
+  -- where the segments' clock doesn't run that of the break alone can expire
+  pub untimed : (P : Said → Type 0) → a.wait.timer ≡ None
+      → ((own : OwnBreaks) → ticked turn a.setup.period a.setup.tries a.own_breaks ≡ Some own
+      → Linked z (turn + 1) (turn + 1) role (record a { own_breaks = own; special = false })
+      → Steps P turn a.special (record a { own_breaks = own; special = false }))
+      → (said : Said) → speak_linked turn a ≡ Ok said → P said
+  untimed P none rows = by-linked P turn a (record {
+    stands = λ x own t. rows own t (stood x own t).linked;
+    expires = λ set x. let wrong : None ≡ Some set = sym none ∙ x.timer in cc;
+  })
 
 -- what speaking makes of an end
 pub record SpeaksAs (z : Rates) (total breaks turn : ℕ) (role : Role) (p : Phase) (a : Account) (q : Phase) (b : Account) : Type 0 where
@@ -247,68 +222,34 @@ lasts-both : (k : ℕ) (w b w' b' : Bool) → (b ≡ false → b' ≡ false)
     → lasts k (w || b) (w' || b') ≤ one_if w + cond w 0 (cond w' (k + 1) 0) + one_if b
 lasts-both k w b w' b' h = grind (arith)
 
-pub linked-step : (z : Rates) (total breaks turn : ℕ) (role : Role) (a b c : Account) → a.phase ≡ Connected
-    → Timed z total breaks turn role a b → Stepped z total breaks turn role (record b { special = false }) c
-    → SpeaksAs z total breaks turn role Connected a Connected c
-linked-step z total breaks turn role a b c e t s = go role s.silent
-  where
-    bools : lasts z.room (linked_lives turn a) (linked_lives (turn + 1) c) ≤ one_if (is_waiting a.outgoing) + cond (is_waiting a.outgoing) 0
-        (cond (is_waiting c.outgoing) (z.room + 1) 0) + one_if (is_breaking turn a.own_breaks)
-    bools = lasts-both z.room (is_waiting a.outgoing) (is_breaking turn a.own_breaks) (is_waiting c.outgoing)
-        (is_breaking (turn + 1) c.own_breaks) (λ f. s.breaking ∙ t.ticked.lives f)
-
-    same : cond (is_waiting b.outgoing) 0 (cond (is_waiting c.outgoing) (z.room + 1) 0) ≡ cond (is_waiting a.outgoing) 0
-        (cond (is_waiting c.outgoing) (z.room + 1) 0)
-    same = ap (λ w. cond w 0 (cond (is_waiting c.outgoing) (z.room + 1) 0)) t.waited.waits
-
-    same-length : z.quota * (breaks - length c.own_breaks.lengths) ≡ z.quota * (breaks - length b.own_breaks.lengths)
-    same-length = ap (λ l. z.quota * (breaks - length l)) s.same.lengths
-
-    go : (r : Role) → IsSilent r c → SpeaksAs z total breaks turn r Connected a Connected c
-    go Originator silent = record {
-      phase = s.same.phase ∙ (t.same.phase ∙ e);
-      keeps = λ x. refl;
-      opens = λ x. refl;
-      stands = record { sends = s.sends; breaks = s.own; ack = s.ack; silent = silent };
-      setup = s.same.setup ∙ t.same.setup;
-      pieces = s.same.pieces ∙ t.same.pieces;
-      ended = s.same.ended ∙ t.same.ended;
-      lengths = s.same.lengths ∙ t.same.lengths;
-      falls = omega (arith, t.waited.falls, t.ticked.falls, s.falls, s.left, bools, same, same-length);
-    }
-    go Answerer silent = record {
-      phase = s.same.phase ∙ (t.same.phase ∙ e);
-      keeps = λ x. refl;
-      opens = λ x. refl;
-      stands = record { sends = s.sends; breaks = s.own; ack = s.ack; silent = silent };
-      setup = s.same.setup ∙ t.same.setup;
-      pieces = s.same.pieces ∙ t.same.pieces;
-      ended = s.same.ended ∙ t.same.ended;
-      lengths = s.same.lengths ∙ t.same.lengths;
-      falls = omega (arith, t.waited.falls, t.ticked.falls, s.falls, s.left, bools, same, same-length);
-    }
-
-pub timed-linked : (z : Rates) (total breaks turn : ℕ) (role : Role) (a b : Account) → Timed z total breaks turn role a b
-    → Linked z (turn + 1) (turn + 1) role (record b { special = false })
-timed-linked z total breaks turn role a b t =
-    record { sends = t.waited.sends; breaks = t.ticked.sound; ack = t.ack; silent = silent-same role t.silent }
-  where
-    silent-same : (r : Role) → IsSilent r b → IsSilent r (record b { special = false })
-    silent-same Originator s = tt
-    silent-same Answerer s = s
-
 pub speaks-linked : (z : Rates) (total breaks turn : ℕ) (role : Role) (a : Account) → AreRates z → IsOf z a.setup
     → Linked z (turn + 1) turn role a → a.phase ≡ Connected → a.setup.role ≡ role → length a.outgoing.pieces ≤ total
     → SpeaksWell z total breaks turn role Connected a (speak_linked turn a)
-speaks-linked z total breaks turn role a y k h e er all =
-    go (then_tries turn (on_timer turn a)) (timers-well z total breaks turn role a y k h)
+speaks-linked z total breaks turn role a y k h e er all = go (speak_linked turn a) refl
   where
-    go : (r : Result Account LinkFault) → OnOk (Timed z total breaks turn role a) r
-        → SpeaksWell z total breaks turn role Connected a (after_timers turn a.special r)
-    go (Err fault) t = tt
-    go (Ok b) t = (
-      Connected,
-      linked-step z total breaks turn role a b _ e t
-          (steps-well z total breaks turn role (record b { special = false }) y (timed-linked z total breaks turn role a b t)
-          (ap (λ s. s.role) t.same.setup ∙ er) (omega (arith, all, ap (λ l. length l) t.same.pieces)) a.special),
-    )
+    by : (said : Said) → Spoke z total breaks turn role a said → SpeaksAs z total breaks turn role Connected a Connected said.account
+    by said x = let t = x.is_timed in let s = x.stepped in let c = said.account in record {
+      phase = s.phase ∙ (t.phase ∙ e);
+      keeps = λ f. refl;
+      opens = λ f. refl;
+      stands = s.linked;
+      setup = s.setup ∙ t.setup;
+      pieces = s.pieces ∙ t.pieces;
+      ended = s.ended ∙ t.ended;
+      lengths = s.lengths ∙ t.ticked.lengths;
+      falls = omega (
+        arith,
+        t.waited.falls,
+        t.ticked.falls,
+        s.falls,
+        s.left,
+        lasts-both z.room (is_waiting a.outgoing) (is_breaking turn a.own_breaks) (is_waiting c.outgoing)
+            (is_breaking (turn + 1) c.own_breaks) (λ f. s.breaking ∙ t.ticked.lives f),
+        ap (λ w. cond w 0 (cond (is_waiting c.outgoing) (z.room + 1) 0)) t.waited.waits,
+        ap (λ l. z.quota * (breaks - length l)) s.lengths,
+      );
+    }
+
+    go : (r : Result Said LinkFault) → speak_linked turn a ≡ r → SpeaksWell z total breaks turn role Connected a r
+    go (Err fault) f = tt
+    go (Ok said) f = (Connected, by said (spoke z total breaks turn role a y k h er all said f))

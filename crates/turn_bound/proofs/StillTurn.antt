@@ -1,23 +1,22 @@
 use Rattle.std.proofs.Common.{◌≡◌, ℕ, ◌+◌, ◌<◌, ◌≤◌, ◌&&◌, ◌||◌, not, Bool, true, false, cond, nat_eq, nat_lt, nat_le, [], ◌∷◌, ◌++◌}
-use Rattle.std.proofs.Common.{length, length-append, arith, refl, sym, ◌∙◌, ap, subst, Option, Some, None, Result, Ok, Err}
-use Rattle.link_account.proofs.Names.{is_some, nat_tests, Role, Originator, Answerer, Outgoing, is_outstanding, wanted, OwnBreaks}
-use Rattle.link_account.proofs.Names.{after_ask, waits, Arrived, LinkFault, Account, is_connected, after_break_asked, is_originator, trying}
-use Rattle.link_account.proofs.Names.{Disc, Said, speak, speak_linked, steps, speak_in, speak_releasing, other}
-use Rattle.link_run.proofs.Names.{Phase, Connected, Releasing, User, BreakLine, is_busy, has_finished, next_break}
-use Rattle.lapm_sender.specs.Outgoing.{expired, is_whole}
+use Rattle.std.proofs.Common.{length, length-append, arith, refl, sym, ◌∙◌, ap, subst, Option, Some, None, Ok}
+use Rattle.link_account.proofs.Names.{is_some, nat_tests, Role, Outgoing, is_outstanding, wanted, OwnBreaks, after_ask, waits, Arrived}
+use Rattle.link_account.proofs.Names.{Account, is_connected, after_break_asked, is_originator, Said, speak, speak_linked, ticked}
+use Rattle.link_run.proofs.Names.{Phase, Connected, User, BreakLine, is_busy, has_finished, next_break}
+use Rattle.lapm_sender.specs.Outgoing.{is_whole}
 use Rattle.link_account.specs.Account.{is_done, break_waits}
-use Rattle.link_account.specs.Speak.{then_tries, on_timer, after_timers, timer_expires, polling, breaking, u_try}
+use Rattle.link_account.specs.Speak.{breaking}
 use Rattle.turn_bound.proofs.Clock.{Rates, AreRates, is_waiting, is_free, one_if, Breaks, is_breaking}
 use Rattle.turn_bound.proofs.Value.{two_if, four_if, linked_lives, IsOf, Linked, Stands, dues, weight, arrived_weight}
 use Rattle.turn_bound.proofs.Run.{served_account}
 use Rattle.link_run.specs.End.{asked_at, is_ready}
 use Rattle.turn_bound.proofs.Serving.{Served, serves-first, serves-own, before_asking}
-use Rattle.turn_bound.proofs.Speaking.{OnOk, Timed, Stepped, timers-well, steps-well, timed-linked}
-use Rattle.turn_bound.proofs.Turning.{tries-well, Tried, OnSaid}
+use Rattle.turn_bound.proofs.Speaking.{Spoke, spoke, untimed}
+use Rattle.turn_bound.proofs.Turning.{linked-says, stopped}
+use Rattle.link_account.proofs.SpeakWays.{Steps}
 use Rattle.turn_bound.proofs.Still.{still-hears}
 use Rattle.turn_bound.proofs.SpeakStill.{steps-pay}
 use Rattle.turn_bound.proofs.OneTurn.{Hearing, spoken-as}
-use Rattle.turn_bound.proofs.Tied.{tied}
 
 pub or-false-both : (b c : Bool) → b || c ≡ false → (b ≡ false) × (c ≡ false)
 or-false-both true c e = cc
@@ -26,54 +25,6 @@ or-false-both false c e = (refl, e)
 pub not-true : (b : Bool) → (b ≡ true → ⊥) → b ≡ false
 not-true true f = absurd (f refl)
 not-true false f = refl
-
--- an end that stays Connected isn't told to release
-pub linked-of : (z : Rates) (turn : ℕ) (release : Bool) (b : Account) (said : Said) → AreRates z → IsOf z b.setup → b.phase ≡ Connected
-    → speak turn release b ≡ Ok said → said.account.phase ≡ Connected
-    → (speak_linked turn b ≡ Ok said) × (release && is_originator b.setup.role ≡ false)
-linked-of z turn release b said y k e speaks after =
-    go (release && is_originator b.setup.role) (subst (λ p. speak_in p turn release b ≡ Ok said) e speaks)
-  where
-    releasing : (r : Result Said LinkFault) → OnSaid (Tried z turn (trying Releasing turn b)) r → r ≡ Ok said → ⊥
-    releasing (Err fault) t f = cc
-    releasing (Ok other) t f = let same : other ≡ said = cc in let wrong : Releasing ≡ Connected =
-        sym t.phase ∙ (ap (λ s. s.account.phase) same ∙ after) in cc
-
-    go : (x : Bool) → cond x (speak_releasing turn (trying Releasing turn b)) (speak_linked turn b) ≡ Ok said
-        → (speak_linked turn b ≡ Ok said) × (x ≡ false)
-    go true f = absurd (releasing (u_try turn (Disc true) (trying Releasing turn b))
-        (tries-well z turn (Disc true) (trying Releasing turn b) y k
-        (record { tied = omega arith; started = omega arith; within = omega arith; tried = omega arith })) f)
-    go false f = (f, refl)
-
--- the timers and the step of a Connected end
-pub record Spoke (z : Rates) (total breaks turn : ℕ) (role : Role) (b : Account) (said : Said) : Type 0 where
-  pub timed : Account
-  pub is_timed : Timed z total breaks turn role b timed
-  pub timers : then_tries turn (on_timer turn b) ≡ Ok timed
-  pub said_is : steps turn b.special (record timed { special = false }) ≡ said
-  pub stepped : Stepped z total breaks turn role (record timed { special = false }) said.account
-
-pub spoke : (z : Rates) (total breaks turn : ℕ) (role : Role) (b : Account) (said : Said) → AreRates z → IsOf z b.setup
-    → Linked z (turn + 1) turn role b → b.setup.role ≡ role → length b.outgoing.pieces ≤ total → speak_linked turn b ≡ Ok said
-    → Spoke z total breaks turn role b said
-spoke z total breaks turn role b said y k h er all e =
-    go (then_tries turn (on_timer turn b)) refl (timers-well z total breaks turn role b y k h) e
-  where
-    go : (r : Result Account LinkFault) → then_tries turn (on_timer turn b) ≡ r → OnOk (Timed z total breaks turn role b) r
-        → after_timers turn b.special r ≡ Ok said → Spoke z total breaks turn role b said
-    go (Err fault) f t g = cc
-    go (Ok c) f t g =
-        let same : steps turn b.special (record c { special = false }) ≡ said = cc in
-        record {
-          timed = c;
-          is_timed = t;
-          timers = f;
-          said_is = same;
-          stepped = subst (λ s. Stepped z total breaks turn role (record c { special = false }) s.account) same
-              (steps-well z total breaks turn role (record c { special = false }) y (timed-linked z total breaks turn role b c t)
-              (ap (λ s. s.role) t.same.setup ∙ er) (omega (arith, all, ap (λ l. length l) t.same.pieces)) b.special);
-        }
 
 -- what waits goes on waiting
 pub keeps-waiting : (z : Rates) (total breaks turn : ℕ) (role : Role) (b : Account) (said : Said) → Spoke z total breaks turn role b said
@@ -88,23 +39,6 @@ keeps-waiting z total breaks turn role b said s dead =
           let wrong : true ≡ false = sym lives ∙ parts.1 in cc),
     )
 
--- with nothing to wait for no timer expires
-no-timer : (z : Rates) (turn : ℕ) (role : Role) (b : Account) → Linked z (turn + 1) turn role b → is_waiting b.outgoing ≡ false
-    → waits b.own_breaks ≡ false → then_tries turn (on_timer turn b) ≡ Ok b
-no-timer z turn role b h e f = go b.wait.timer (h.sends.cause ∙ e)
-  where
-    quiet : (w : Bool) → w ≡ false
-        → breaking turn (cond (w && nat_eq turn (b.own_breaks.set + b.setup.period))
-        (cond (nat_eq b.own_breaks.count b.setup.tries) None
-        (Some (record b.own_breaks { brk = true; set = turn; count = b.own_breaks.count + 1 }))) (Some b.own_breaks)) b ≡ Ok b
-    quiet true e = cc
-    quiet false e = refl
-
-    go : (timer : Option ℕ) → is_some timer ≡ false
-        → then_tries turn (cond (timer_expires turn b timer) (polling turn (expired b.outgoing) b) (Ok b)) ≡ Ok b
-    go None g = quiet (waits b.own_breaks) f
-    go (Some set) g = cc
-
 -- Speaking, where nothing lives after it.
 pub speaks-still : (z : Rates) (total breaks turn : ℕ) (role : Role) (b : Account) (said : Said) → AreRates z → IsOf z b.setup
     → Linked z (turn + 1) turn role b → b.setup.role ≡ role → length b.outgoing.pieces ≤ total
@@ -112,24 +46,37 @@ pub speaks-still : (z : Rates) (total breaks turn : ℕ) (role : Role) (b : Acco
     → is_originator b.setup.role || b.numbered ≡ true → (b.outgoing.front < total → b.outgoing.front < length b.outgoing.pieces)
     → dues total said.account + weight said.sent + one_if (is_free total b.outgoing) ≤ dues total b
 speaks-still z total breaks turn role b said y k h er all e dead busy may more =
-    let s = spoke z total breaks turn role b said y k h er all e in
-    let idle = keeps-waiting z total breaks turn role b said s dead in
-    let same : s.timed ≡ b = let both : Ok s.timed ≡ Ok b = sym s.timers ∙ no-timer z turn role b h idle.0 idle.1 in cc in
-    let t : Timed z total breaks turn role b b = subst (Timed z total breaks turn role b) same s.is_timed in
-    let said_is : steps turn b.special (record b { special = false }) ≡ said =
-    subst (λ c. steps turn b.special (record c { special = false }) ≡ said) same s.said_is in
-    subst (λ x. is_waiting x.account.outgoing ≡ false
-    → dues total x.account + weight x.sent + one_if (is_free total b.outgoing) ≤ dues total b) said_is
-    (steps-pay z total turn role (record b { special = false }) b.special y (record {
-      linked = timed-linked z total breaks turn role b b t;
-      idle = idle.0;
-      brk = not-true b.own_breaks.brk (λ d. let wrong : true ≡ false = sym (h.breaks.due d) ∙ idle.1 in cc);
-      busy = busy;
-      may = may;
-      more = more;
-      all = all;
-    }))
+    let idle = keeps-waiting z total breaks turn role b said (spoke z total breaks turn role b y k h er all said e) dead in
+    untimed z total breaks turn role b y k h P (stopped b.wait.timer (h.sends.cause ∙ idle.0)) (rows idle.0 idle.1) said e
     (or-false-both (is_waiting said.account.outgoing) (is_breaking (turn + 1) said.account.own_breaks) dead).0
+  where
+    P : Said → Type 0
+    P x = is_waiting x.account.outgoing ≡ false
+        → dues total x.account + weight x.sent + one_if (is_free total b.outgoing) ≤ dues total b
+
+    unticked : (own : OwnBreaks) (w : Bool) → w ≡ false → (due spent : Bool) → cond (w && due)
+        (cond spent None (Some (record b.own_breaks { brk = true; set = turn; count = b.own_breaks.count + 1 }))) (Some b.own_breaks)
+        ≡ Some own → b.own_breaks ≡ own
+    unticked own true f due spent g = cc
+    unticked own false f due spent g = cc
+
+    rows : is_waiting b.outgoing ≡ false → waits b.own_breaks ≡ false → (own : OwnBreaks)
+        → ticked turn b.setup.period b.setup.tries b.own_breaks ≡ Some own
+        → Linked z (turn + 1) (turn + 1) role (record b { own_breaks = own; special = false })
+        → Steps P turn b.special (record b { own_breaks = own; special = false })
+    rows waiting breaking own t l =
+        let same : b.own_breaks ≡ own = unticked own (waits b.own_breaks) breaking (nat_eq turn (b.own_breaks.set + b.setup.period))
+        (nat_eq b.own_breaks.count b.setup.tries) t in
+        subst (λ o. Steps P turn b.special (record b { own_breaks = o; special = false })) same
+        (steps-pay z total turn role (record b { special = false }) b.special y (record {
+          linked = subst (λ o. Linked z (turn + 1) (turn + 1) role (record b { own_breaks = o; special = false })) (sym same) l;
+          idle = waiting;
+          brk = not-true b.own_breaks.brk (λ d. let wrong : true ≡ false = sym (h.breaks.due d) ∙ breaking in cc);
+          busy = busy;
+          may = may;
+          more = more;
+          all = all;
+        }))
 
 pub only-connected : (p : Phase) → is_connected p ≡ true → p ≡ Connected
 only-connected Connected e = refl
@@ -145,11 +92,6 @@ pub record Stays (z : Rates) (turn : ℕ) (user : User) (role : Role) (a mid b :
   pub unreleased : release && is_originator b.setup.role ≡ false
   pub serves : Served turn (length user.breaks) (is_busy turn user.busy) mid b
 
-pub linked-stand : (z : Rates) (before turn : ℕ) (role : Role) (a : Account) → Stands z before turn role Connected a
-    → Linked z before turn role a
-linked-stand z before turn Originator a h = h
-linked-stand z before turn Answerer a h = h
-
 module _ {z : Rates} {user : User} {turn : ℕ} {role : Role} {a : Account} {arrived : Arrived} {mid b : Account}
     (i : Hearing z user turn role a arrived mid b) where
   pub stays : a.phase ≡ Connected → (release : Bool) {said : Said} → speak turn release b ≡ Ok said → said.account.phase ≡ Connected
@@ -162,11 +104,11 @@ module _ {z : Rates} {user : User} {turn : ℕ} {role : Role} {a : Account} {arr
       (λ f. let same : Connected ≡ i.phase = sym after ∙ (spoke.1.phase ∙ spoke.1.keeps f) in let wrong : true ≡ false =
       ap is_connected same ∙ f in cc)) in
       let phase : b.phase ≡ Connected = i.b_phase ∙ linked in
-      let says = linked-of z turn release b said i.rates i.b_is_of phase speaks after in
+      let says = linked-says turn release b said phase (ap is_connected after) speaks in
       record {
         mid_phase = i.heard.phase ∙ linked;
         phase = phase;
-        linked = linked-stand z (turn + 1) turn role b (subst (λ q. Stands z (turn + 1) turn role q b) linked i.b_stands);
+        linked = subst (λ q. Stands z (turn + 1) turn role q b) linked i.b_stands;
         setup = i.b_setup;
         says = says.0;
         unreleased = says.1;
@@ -214,7 +156,7 @@ module _ {z : Rates} {user : User} {turn : ℕ} {role : Role} {a : Account} {arr
       → Stilled z total turn a mid b said (arrived_weight arrived)
   stilled total {release} {said} h e s all dead dead' busy may more =
       let idle = keeps-waiting z total (length user.breaks) turn role b said
-      (spoke z total (length user.breaks) turn role b said i.rates i.b_is_of s.linked i.b_role all s.says) dead' in
+      (spoke z total (length user.breaks) turn role b i.rates i.b_is_of s.linked i.b_role all said s.says) dead' in
       let before = or-false-both (is_waiting a.outgoing) (is_breaking turn a.own_breaks) dead in
       let waits-a : waits a.own_breaks ≡ false = (or-false-both (waits a.own_breaks) (nat_lt turn a.own_breaks.rest) before.1).0 in
       let same : is_waiting b.outgoing ≡ is_waiting mid.outgoing = ap is_waiting s.serves.longer.outgoing in

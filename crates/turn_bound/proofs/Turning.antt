@@ -2,10 +2,11 @@ use Rattle.std.proofs.Common.{◌≡◌, ℕ, ◌+◌, ◌-◌, ◌*◌, ◌<◌
 use Rattle.std.proofs.Common.{ap, subst, Option, Some, None, Result, Ok, Err}
 use Rattle.link_account.proofs.Names.{nat_tests, Role, Originator, Answerer, Frame, Sabme, Disc, Xid, written, Sent, LinkFault, NotDetected}
 use Rattle.link_account.proofs.Names.{Account, is_connected, is_originator, trying, Said, says, spent, speak_linked, speak, speak_in}
-use Rattle.link_account.proofs.Names.{speak_releasing}
+use Rattle.link_account.proofs.Names.{speak_releasing, is_some}
 use Rattle.link_run.proofs.Names.{Phase, Detecting, Negotiating, Establishing, Connected, Releasing, Closed, is_closed, Answer}
 use Rattle.link_account.specs.Speak.{says_frame, else_says, where_says, answering, trying_again, tries_frame, u_try, speak_detecting}
 use Rattle.link_account.specs.Speak.{speak_answer, speak_negotiating}
+use Rattle.link_account.proofs.SpeakWays.{OnSaid as AllSpoken, tries-alike, by-tries}
 use Rattle.turn_bound.proofs.Clock.{Rates, AreRates, lasts, worth}
 use Rattle.turn_bound.proofs.Value.{value, time_left, try_left, linked_lives, lives, IsOf, Unlinked, Tries, Stands}
 use Rattle.turn_bound.proofs.Arithmetic.{tries_fit}
@@ -116,8 +117,7 @@ module _ (z : Rates) (total breaks turn : ℕ) (a : Account) where
   }
 
   unlinked : (b : Account) → Unlinked a → Tried z turn a b → Unlinked b
-  unlinked b u t = same-unlinked a b u t.outgoing t.timer t.own t.ack
-      (subst (λ x. (1 ≤ x.window_o) × (1 ≤ x.window_a)) (sym t.terms) (u.window_o, u.window_a))
+  unlinked b u t = same-unlinked a b u t.outgoing t.timer t.own t.ack t.terms
 
   negotiates : (r : Result Said LinkFault) → Unlinked a → a.phase ≡ Negotiating → OnSaid (Tried z turn a) r
       → SpeaksWell z total breaks turn Originator Negotiating a r
@@ -195,14 +195,11 @@ same-speaks z total breaks turn role p a b s dead dead' none phase setup outgoin
 
 closed-speaks : (z : Rates) (total breaks turn : ℕ) (role : Role) (a : Account) → a.phase ≡ Closed
     → SpeaksWell z total breaks turn role Closed a (speak_answer a)
-closed-speaks z total breaks turn role a e = (Closed, go role a.owes.answer)
+closed-speaks z total breaks turn role a e = (Closed, go a.owes.answer)
   where
-    go : (r : Role) (m : Option Answer)
-        → SpeaksAs z total breaks turn r Closed a Closed (else_says (answering m a) (says slots.Flags a)).account
-    go Originator None = same-speaks z total breaks turn Originator Closed a a tt refl refl refl e refl refl refl
-    go Originator (Some answer) = same-speaks z total breaks turn Originator Closed a _ tt refl refl refl e refl refl refl
-    go Answerer None = same-speaks z total breaks turn Answerer Closed a a tt refl refl refl e refl refl refl
-    go Answerer (Some answer) = same-speaks z total breaks turn Answerer Closed a _ tt refl refl refl e refl refl refl
+    go : (m : Option Answer) → SpeaksAs z total breaks turn role Closed a Closed (else_says (answering m a) (says slots.Flags a)).account
+    go None = same-speaks z total breaks turn role Closed a a tt refl refl refl e refl refl refl
+    go (Some answer) = same-speaks z total breaks turn role Closed a _ tt refl refl refl e refl refl refl
 
 early-speaks : (z : Rates) (total breaks turn : ℕ) (p : Phase) (a : Account) (silence : Sent) → IsEarly p → Unlinked a → a.phase ≡ p
     → SpeaksAs z total breaks turn Answerer p a p (else_says (answering a.owes.answer a) (says silence a)).account
@@ -217,7 +214,7 @@ early-speaks z total breaks turn p a silence i u e = go a.owes.answer
 
     go : (m : Option Answer) → SpeaksAs z total breaks turn Answerer p a p (else_says (answering m a) (says silence a)).account
     go None = by a u e refl refl refl
-    go (Some answer) = by _ (same-unlinked a _ u refl refl refl refl (u.window_o, u.window_a)) e refl refl refl
+    go (Some answer) = by (record a { owes = record a.owes { answer = None } }) u e refl refl refl
 
 detects : (z : Rates) (total breaks turn : ℕ) (a : Account) → AreRates z → IsOf z a.setup → Unlinked a → a.phase ≡ Detecting
     → SpeaksWell z total breaks turn Originator Detecting a (speak_detecting Originator turn a)
@@ -291,3 +288,25 @@ speaks-well z total breaks turn role p release a y k h e er all =
         by false w false = speaks-linked z total breaks turn Answerer a y k s f g all
     go Answerer Releasing s f g = absurd s
     go Answerer Closed s f g = closed-speaks z total breaks turn Answerer a f
+
+pub stopped : (m : Option ℕ) → is_some m ≡ false → m ≡ None
+stopped None e = refl
+stopped (Some set) e = cc
+
+released-says : (turn : ℕ) (a : Account) (said : Said) → speak_releasing turn (trying Releasing turn a) ≡ Ok said
+    → is_connected said.account.phase ≡ false
+released-says turn a said h = subst (AllSpoken P) h
+    (by-tries P turn (Disc true) (trying Releasing turn a) (tries-alike P turn (Disc true) (trying Releasing turn a) (λ w. refl) refl))
+  where
+    P : Said → Type 0
+    P s = is_connected s.account.phase ≡ false
+
+-- an end that stays Connected isn't told to release
+pub linked-says : (turn : ℕ) (release : Bool) (a : Account) (said : Said) → a.phase ≡ Connected → is_connected said.account.phase ≡ true
+    → speak turn release a ≡ Ok said → (speak_linked turn a ≡ Ok said) × (release && is_originator a.setup.role ≡ false)
+linked-says turn release a said e c h = go (release && is_originator a.setup.role) (sym (ap (λ p. speak_in p turn release a) e) ∙ h)
+  where
+    go : (x : Bool) → cond x (speak_releasing turn (trying Releasing turn a)) (speak_linked turn a) ≡ Ok said
+        → (speak_linked turn a ≡ Ok said) × (x ≡ false)
+    go false q = (q, refl)
+    go true q = let wrong : true ≡ false = sym c ∙ released-says turn a said q in cc

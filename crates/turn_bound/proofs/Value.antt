@@ -1,8 +1,10 @@
 use Rattle.link_account.proofs.Names.{is_some, Role, Originator, Answerer, Frame, I, Rr, Rnr, Rej, Sabme, Ui, BreakWord, Brk, Ack}
-use Rattle.link_account.proofs.Names.{BreakFault, word_in, Sent, Arrived, Account}
+use Rattle.link_account.proofs.Names.{BreakFault, word_in, Sent, Arrived, Account, Outgoing, OwnBreaks, is_connected}
 use Rattle.link_run.proofs.Names.{Setup, Phase, Detecting, Negotiating, Establishing, Connected, Releasing, Closed}
 use Rattle.std.specs.Prelude.{◌≡◌, ℕ, ◌+◌, ◌-◌, ◌*◌, ◌≤◌, Bool, true, false, not, cond, ◌&&◌, ◌||◌, length, Option, Some, None, Result, Ok}
 use Rattle.std.specs.Prelude.{Err}
+use Rattle.link_account.specs.Laws.{has_begun}
+use Rattle.xid_params.specs.declared.terms.Terms.{Terms}
 use Rattle.break_signals.specs.Breaks.{no_breaks}
 use Rattle.turn_bound.proofs.Clock.{Rates, Runs, left, is_waiting, Sends, is_free, worth, Breaks, is_breaking, break_left, one_if}
 use Rattle.lapm_sender.specs.Outgoing as outgoing
@@ -26,19 +28,15 @@ try_left z turn a = left z turn a.wait.try_count (Some a.wait.try_set)
 abbrev pub linked_left : Rates → ℕ → Account → ℕ
 linked_left z turn a = left z turn a.outgoing.count a.wait.timer + break_left z turn a.own_breaks
 
+abbrev pub time_in : Phase → Role → Rates → ℕ → Account → ℕ
+time_in Connected role z turn a = linked_left z turn a
+time_in Closed role z turn a = 0
+time_in Detecting Originator z turn a = z.whole - turn
+time_in p Originator z turn a = try_left z turn a
+time_in p Answerer z turn a = 0
+
 abbrev pub time_left : Rates → ℕ → Role → Phase → Account → ℕ
-time_left z turn Originator Detecting a = z.whole - turn
-time_left z turn Originator Negotiating a = try_left z turn a
-time_left z turn Originator Establishing a = try_left z turn a
-time_left z turn Originator Connected a = linked_left z turn a
-time_left z turn Originator Releasing a = try_left z turn a
-time_left z turn Originator Closed a = 0
-time_left z turn Answerer Detecting a = 0
-time_left z turn Answerer Negotiating a = 0
-time_left z turn Answerer Establishing a = 0
-time_left z turn Answerer Connected a = linked_left z turn a
-time_left z turn Answerer Releasing a = 0
-time_left z turn Answerer Closed a = 0
+time_left z turn role p a = time_in p role z turn a
 
 -- what an end is worth, of so many segments and breaks in all
 abbrev pub value : Rates → ℕ → ℕ → ℕ → Role → Phase → Account → ℕ
@@ -50,19 +48,14 @@ value z total breaks turn role phase a =
 abbrev pub linked_lives : ℕ → Account → Bool
 linked_lives turn a = is_waiting a.outgoing || is_breaking turn a.own_breaks
 
+abbrev pub lives_in : Phase → Role → ℕ → Account → Bool
+lives_in Connected role turn a = linked_lives turn a
+lives_in Closed role turn a = false
+lives_in p Originator turn a = true
+lives_in p Answerer turn a = false
+
 abbrev pub lives : ℕ → Role → Phase → Account → Bool
-lives turn Originator Detecting a = true
-lives turn Originator Negotiating a = true
-lives turn Originator Establishing a = true
-lives turn Originator Connected a = linked_lives turn a
-lives turn Originator Releasing a = true
-lives turn Originator Closed a = false
-lives turn Answerer Detecting a = false
-lives turn Answerer Negotiating a = false
-lives turn Answerer Establishing a = false
-lives turn Answerer Connected a = linked_lives turn a
-lives turn Answerer Releasing a = false
-lives turn Answerer Closed a = false
+lives turn role p a = lives_in p role turn a
 
 -- the rates are those of a setup, whose windows aren't 0
 pub record IsOf (z : Rates) (setup : Setup) : Type 0 where
@@ -72,13 +65,16 @@ pub record IsOf (z : Rates) (setup : Setup) : Type 0 where
   pub rx_window : 1 ≤ setup.offer.rx_window
 
 -- what holds of one end, whatever the other does
-pub record Unlinked (a : Account) : Type 0 where
-  pub outgoing : a.outgoing ≡ outgoing.not_begun
-  pub timer : a.wait.timer ≡ None
-  pub breaks : a.own_breaks ≡ no_breaks
-  pub ack : a.their_breaks.ack ≡ None
-  pub window_o : 1 ≤ a.terms.window_o
-  pub window_a : 1 ≤ a.terms.window_a
+pub record UnlinkedIn (o : Outgoing) (m : Option ℕ) (own : OwnBreaks) (due : Option BreakWord) (terms : Terms) : Type 0 where
+  pub outgoing : o ≡ outgoing.not_begun
+  pub timer : m ≡ None
+  pub breaks : own ≡ no_breaks
+  pub ack : due ≡ None
+  pub window_o : 1 ≤ terms.window_o
+  pub window_a : 1 ≤ terms.window_a
+
+abbrev pub Unlinked : Account → Type 0
+Unlinked a = UnlinkedIn a.outgoing a.wait.timer a.own_breaks a.their_breaks.ack a.terms
 
 -- a BRKACK alone is due as an answer
 abbrev pub IsAck : Option BreakWord → Type 0
@@ -87,32 +83,51 @@ IsAck (Some (Ack number length_octet)) = Unit {0}
 IsAck (Some (Brk number length_octet)) = ⊥
 
 -- an answerer that heard no I frame and no supervisory frame has sent none
-abbrev pub IsSilent : Role → Account → Type 0
-IsSilent Originator a = Unit {0}
-IsSilent Answerer a = a.numbered ≡ false → (a.outgoing.high ≡ 0) × (a.wait.timer ≡ None)
+abbrev pub IsSilent : Role → Bool → ℕ → Option ℕ → Type 0
+IsSilent Originator numbered high timer = Unit {0}
+IsSilent Answerer numbered high timer = numbered ≡ false → (high ≡ 0) × (timer ≡ None)
 
-pub record Linked (z : Rates) (before turn : ℕ) (role : Role) (a : Account) : Type 0 where
-  pub sends : Sends z before turn a.outgoing a.wait.timer
-  pub breaks : Breaks z before turn a.own_breaks
-  pub ack : IsAck a.their_breaks.ack
-  pub silent : IsSilent role a
+pub record LinkedIn (z : Rates) (before turn : ℕ) (role : Role) (numbered : Bool) (o : Outgoing) (timer : Option ℕ) (own : OwnBreaks)
+    (due : Option BreakWord) : Type 0 where
+  pub sends : Sends z before turn o timer
+  pub breaks : Breaks z before turn own
+  pub ack : IsAck due
+  pub silent : IsSilent role numbered o.high timer
+
+abbrev pub Linked : Rates → ℕ → ℕ → Role → Account → Type 0
+Linked z before turn role a = LinkedIn z before turn role a.numbered a.outgoing a.wait.timer a.own_breaks a.their_breaks.ack
 
 abbrev pub Tries : Rates → ℕ → ℕ → Account → Type 0
 Tries z before turn a = Runs z before turn a.wait.try_count a.wait.try_set
 
+abbrev pub StandsIn : Phase → Role → Rates → ℕ → ℕ → Account → Type 0
+StandsIn Connected role z before turn a = Linked z before turn role a
+StandsIn Closed role z before turn a = Unit {0}
+StandsIn Detecting role z before turn a = Unlinked a
+StandsIn Negotiating Originator z before turn a = Unlinked a × Tries z before turn a
+StandsIn Negotiating Answerer z before turn a = Unlinked a
+StandsIn Establishing Originator z before turn a = Unlinked a × Tries z before turn a
+StandsIn Establishing Answerer z before turn a = ⊥
+StandsIn Releasing Originator z before turn a = Tries z before turn a
+StandsIn Releasing Answerer z before turn a = ⊥
+
 abbrev pub Stands : Rates → ℕ → ℕ → Role → Phase → Account → Type 0
-Stands z before turn Originator Detecting a = Unlinked a
-Stands z before turn Originator Negotiating a = Unlinked a × Tries z before turn a
-Stands z before turn Originator Establishing a = Unlinked a × Tries z before turn a
-Stands z before turn Originator Connected a = Linked z before turn Originator a
-Stands z before turn Originator Releasing a = Tries z before turn a
-Stands z before turn Originator Closed a = Unit {0}
-Stands z before turn Answerer Detecting a = Unlinked a
-Stands z before turn Answerer Negotiating a = Unlinked a
-Stands z before turn Answerer Establishing a = ⊥
-Stands z before turn Answerer Connected a = Linked z before turn Answerer a
-Stands z before turn Answerer Releasing a = ⊥
-Stands z before turn Answerer Closed a = Unit {0}
+Stands z before turn role p a = StandsIn p role z before turn a
+
+-- by what phases are
+pub linked-of : (z : Rates) (before turn : ℕ) (role : Role) (p : Phase) (a : Account) → Stands z before turn role p a → is_connected p ≡ true
+    → Linked z before turn role a
+linked-of z before turn role Connected a s e = s
+linked-of z before turn role p a s e = cc
+
+pub unlinked-of : (z : Rates) (before turn : ℕ) (role : Role) (p : Phase) (a : Account) → Stands z before turn role p a
+    → has_begun p ≡ false → Unlinked a
+unlinked-of z before turn role Detecting a s e = s
+unlinked-of z before turn Originator Negotiating a s e = s.0
+unlinked-of z before turn Originator Establishing a s e = s.0
+unlinked-of z before turn Answerer Negotiating a s e = s
+unlinked-of z before turn Answerer Establishing a s e = absurd s
+unlinked-of z before turn role p a s e = cc
 
 -- what is due, where nothing lives: the least is 2 for what makes nothing due at the other end
 abbrev pub two_if : Bool → ℕ

@@ -11,9 +11,10 @@ use Rattle.link_run.specs.Run.{finished_at, served_ends}
 use Rattle.turn_bound.specs.Time.{KeepsTime}
 use Rattle.turn_bound.specs.Advance.{NeverBusy}
 use Rattle.turn_bound.proofs.Clock.{Rates, rates, AreRates}
-use Rattle.turn_bound.proofs.Value.{IsOf, Unlinked, Linked, Stands, arrived_weight, arrived_rnrs}
+use Rattle.turn_bound.proofs.Value.{IsOf, Linked, Stands, arrived_weight, arrived_rnrs, unlinked-of}
 use Rattle.turn_bound.proofs.Run.{served_account}
-use Rattle.turn_bound.proofs.StillTurn.{linked-stand, only-connected, spoke}
+use Rattle.turn_bound.proofs.StillTurn.{only-connected}
+use Rattle.turn_bound.proofs.Speaking.{spoke}
 use Rattle.turn_bound.proofs.MeetHear.{is_begun, of_arrived}
 use Rattle.turn_bound.proofs.Credits.{frame_poll}
 use Rattle.turn_bound.proofs.Taking.{TakesNumber, Takes, Closes, takes}
@@ -38,18 +39,6 @@ whole-is o e = go o.ended refl (nat_eq o.front (length o.pieces)) refl e
 
 pub is-whole : (o : Outgoing) → IsWhole o → is_whole o ≡ true
 is-whole o (e, f) = let same : nat_eq o.front (length o.pieces) ≡ true = grind (arith, nat_tests, f) in rw (e, same) refl
-
-unlinked-of : (z : Rates) (before turn : ℕ) (role : Role) (p : Phase) (a : Account) → Stands z before turn role p a → is_begun p ≡ false
-    → Unlinked a
-unlinked-of z before turn Originator Detecting a h e = h
-unlinked-of z before turn Originator Negotiating a h e = h.0
-unlinked-of z before turn Originator Establishing a h e = h.0
-unlinked-of z before turn Answerer Detecting a h e = h
-unlinked-of z before turn Answerer Negotiating a h e = h
-unlinked-of z before turn Answerer Establishing a h e = absurd h
-unlinked-of z before turn r Connected a h e = cc
-unlinked-of z before turn r Releasing a h e = cc
-unlinked-of z before turn r Closed a h e = cc
 
 -- what is served and what is said of it
 pub record Spoken (z : Rates) (turn : ℕ) (role : Role) (b : Account) (said : Said) : Type 0 where
@@ -109,7 +98,7 @@ module _ {z : Rates} {user : User} {turn : ℕ} {role : Role} {a : Account} {arr
       hearing-so Connected e = by (takes z turn role a linked e arrived mid light quiet i.hears)
         where
           linked : Linked z turn turn role a
-          linked = linked-stand z turn turn role a (subst (λ q. Stands z turn turn role q a) e i.stands)
+          linked = subst (λ q. Stands z turn turn role q a) e i.stands
 
           number : TakesNumber turn a mid → IsWhole mid.outgoing
           number (inl n) = (
@@ -151,10 +140,9 @@ told-now z turn role release b said y s e open_ told = go (is_connected b.phase)
             → cond x (speak_releasing turn (trying Releasing turn b)) (speak_linked turn b) ≡ Ok said → release ≡ true
         by true f g = first-true release (is_originator b.setup.role) f
         by false f g =
-            let p = spoke z (length b.outgoing.pieces) 0 turn role b said y s.is_of
-            (linked-stand z (turn + 1) turn role b (subst (λ q. Stands z (turn + 1) turn role q b) linked s.stands)) s.role_is
-            (omega arith) g in
-            let wrong : true ≡ false = sym told ∙ ap is_released (p.stepped.same.phase ∙ (p.is_timed.same.phase ∙ linked)) in cc
+            let p = spoke z (length b.outgoing.pieces) 0 turn role b y s.is_of
+            (subst (λ q. Stands z (turn + 1) turn role q b) linked s.stands) s.role_is (omega arith) said g in
+            let wrong : true ≡ false = sym told ∙ ap is_released (p.stepped.phase ∙ (p.is_timed.phase ∙ linked)) in cc
 
 finished-whole : (user : User) (turn : ℕ) (a : Account) → has_finished user turn a ≡ true → IsWhole a.outgoing
 finished-whole user turn a e = whole-is a.outgoing (by (is_connected a.phase) (first-true (is_done a) _ e))
@@ -242,8 +230,7 @@ released-whole tries period delay link (t ∷ ts) ends k n (before, run, g) c e 
         heard-open Closed h = let wrong : true ≡ false = sym (ap is_released h) ∙ open_ in cc
         heard-open Connected h = elim
             (takes (rates tries period) turn Originator before.orig
-            (linked-stand (rates tries period) turn turn Originator before.orig
-            (subst (λ q. Stands (rates tries period) turn turn Originator q before.orig) h x.stands)) h
+            (subst (λ q. Stands (rates tries period) turn turn Originator q before.orig) h x.stands) h
             (arrival t.orig.heard) g.mid.orig light.0 light.1 x.hears) [
               | inl q ↦ (let wrong : Originator ≡ Answerer = sym x.role_is ∙ q.answers in cc)
               | inr q ↦ ap is_released q.0

@@ -1,22 +1,16 @@
-use Rattle.std.proofs.Common.{◌⊎◌, inl, inr, ◌≡◌, ℕ, ◌+◌, ◌<◌, ◌&&◌, Bool, true, false, cond, nat_eq, length, arith, refl, sym, ◌∙◌, ap}
-use Rattle.std.proofs.Common.{subst, Option, Some, None, Ok}
-use Rattle.link_account.proofs.Names.{nat_tests, Role, Originator, Answerer, Disc, is_outstanding, Arrived, Account, is_connected}
-use Rattle.link_account.proofs.Names.{is_originator, hear, trying, Said, speak_linked, speak, speak_in, speak_releasing, of}
-use Rattle.link_run.proofs.Names.{Phase, Connected, Releasing, is_busy, is_released, Link}
+use Rattle.std.proofs.Common.{◌⊎◌, inl, inr, ◌≡◌, ℕ, ◌+◌, ◌<◌, Bool, true, false, nat_eq, length, arith, refl, sym, ◌∙◌, ap, subst, Option}
+use Rattle.std.proofs.Common.{Some, None, Ok}
+use Rattle.turn_bound.proofs.Value.{linked-of}
+use Rattle.turn_bound.proofs.Turning.{linked-says}
+use Rattle.link_account.proofs.Names.{nat_tests, Role, is_outstanding, Arrived, Account, is_connected, hear, Said, speak, of}
+use Rattle.link_run.proofs.Names.{Phase, Connected, is_busy, is_released, Link}
 use Rattle.link_account.specs.Speak.{timer_expires}
-use Rattle.link_account.proofs.SpeakWays.{OnSaid, tries-alike, by-tries}
 use Rattle.turn_losses.proofs.Answered.{SendsSegment, AnswerTurn}
 use Rattle.turn_losses.proofs.Answering.{AnswerHeard, frame_rnr, answer-hears, Segment, urgent-says, front-may}
 use Rattle.turn_losses.proofs.InTurn.{InTurn}
 use Rattle.turn_losses.proofs.PollHear.{PollHeard, poll-hears}
-use Rattle.turn_losses.proofs.Names.{Rates, Sends, Stands, Served, is_poll, is_final, of_arrived, rates}
+use Rattle.turn_losses.proofs.Names.{Sends, Served, is_poll, is_final, of_arrived, rates}
 use Rattle.lapm_frames.specs.declared.arrived.Arrived.TheVariants as arrivals
-
-pub linked-sends : (z : Rates) (before turn : ℕ) (r : Role) (p : Phase) (a : Account) → Stands z before turn r p a → is_connected p ≡ true
-    → Sends z before turn a.outgoing a.wait.timer
-linked-sends z before turn Originator Connected a st e = st.sends
-linked-sends z before turn Answerer Connected a st e = st.sends
-linked-sends z before turn r p a st e = cc
 
 pub connected-is : (p : Phase) → is_connected p ≡ true → p ≡ Connected
 connected-is Connected e = refl
@@ -28,23 +22,6 @@ not-expires turn a (Some s) h = let less = h s refl in apart turn (s + a.setup.p
   where
     apart : (x y : ℕ) → x < y → nat_eq x y ≡ false
     apart x y l = grind (arith, nat_tests, l)
-
-released-says : (turn : ℕ) (a : Account) (said : Said) → speak_releasing turn (trying Releasing turn a) ≡ Ok said
-    → is_connected said.account.phase ≡ false
-released-says turn a said h = subst (OnSaid P) h
-    (by-tries P turn (Disc true) (trying Releasing turn a) (tries-alike P turn (Disc true) (trying Releasing turn a) (λ w. refl) refl))
-  where
-    P : Said → Type 0
-    P s = is_connected s.account.phase ≡ false
-
-pub linked-says : (turn : ℕ) (release : Bool) (a : Account) (said : Said) → a.phase ≡ Connected → is_connected said.account.phase ≡ true
-    → speak turn release a ≡ Ok said → speak_linked turn a ≡ Ok said
-linked-says turn release a said e c h = go (release && is_originator a.setup.role) (sym (ap (λ p. speak_in p turn release a) e) ∙ h)
-  where
-    go : (x : Bool) → cond x (speak_releasing turn (trying Releasing turn a)) (speak_linked turn a) ≡ Ok said
-        → speak_linked turn a ≡ Ok said
-    go false q = q
-    go true q = let wrong : true ≡ false = sym c ∙ released-says turn a said q in cc
 
 -- the turn of one end in which it hears the answer
 module _ {tries period : ℕ} {link : Link} {role : Role} {turn : ℕ} {a : Account} {arrived : Arrived} {mid b : Account}
@@ -74,8 +51,8 @@ module _ {tries period : ℕ} {link : Link} {role : Role} {turn : ℕ} {a : Acco
           phase = s.phase ∙ (t.phase ∙ connected-is a.phase c)
 
           sends : Sends (rates tries period) (turn + 1) turn b.outgoing b.wait.timer
-          sends = linked-sends (rates tries period) (turn + 1) turn role i.phase b i.b_stands
-              (ap is_connected (sym (s.phase ∙ i.heard.phase)) ∙ ap is_connected phase)
+          sends = (linked-of (rates tries period) (turn + 1) turn role i.phase b i.b_stands
+              (ap is_connected (sym (s.phase ∙ i.heard.phase)) ∙ ap is_connected phase)).sends
 
           unexpired : timer_expires turn b b.wait.timer ≡ false
           unexpired = not-expires turn b b.wait.timer (λ n e. within n (polls.timer c n (ap (λ v. v.timer) (sym s.wait) ∙ e)))
@@ -87,7 +64,7 @@ module _ {tries period : ℕ} {link : Link} {role : Role} {turn : ℕ} {a : Acco
           sent : frame_rnr frame ≡ false → is_outstanding mid.outgoing ≡ true → SendsSegment mid.outgoing.front b said
           sent r o =
               let g : Segment b.outgoing.front b said =
-              urgent-says turn b.outgoing.front b said (linked-says turn release b said phase c' speaks) unexpired
+              urgent-says turn b.outgoing.front b said (linked-says turn release b said phase c' speaks).0 unexpired
               (s.answer ∙ (t.answer ∙ i.none_due.answer)) (s.reply ∙ (t.reply ∙ i.none_due.reply (ap is_released (connected-is a.phase c))))
               (ap (λ v. v.poll) s.wait ∙ (t.poll ∙ p)) (ap (λ v. v.urgent) s.wait ∙ t.urgent r)
               (front-may (rates tries period) (turn + 1) turn b sends (s.numbered ∙ t.numbered)

@@ -1,11 +1,12 @@
 -- A turn of an end that is Connected before it and after it, by the numbers that it hears and tells.
 use Rattle.std.proofs.Common.{◌⊎◌, inl, inr, ◌≡◌, ℕ, zero, suc, ◌+◌, ◌%◌, ◌≤◌, Bool, true, false, List, length, arith, refl, sym, ◌∙◌, ap}
 use Rattle.std.proofs.Common.{Some, None, Ok}
+use Rattle.turn_bound.proofs.Turning.{linked-says}
 use Rattle.link_account.proofs.Names.{is_some, Role, Sent, Arrived, Account, is_connected, Said, speak, IsAllowed}
 use Rattle.link_run.proofs.Names.{Link}
 use Rattle.turn_losses.proofs.InTurn.{InTurn}
 use Rattle.turn_losses.proofs.PollSpeak.{SaidPoll, poll-speaks}
-use Rattle.turn_losses.proofs.AnswerTurn.{linked-says, connected-is}
+use Rattle.turn_losses.proofs.AnswerTurn.{connected-is}
 use Rattle.turn_losses.proofs.HeardPaused.{PausedHeard, paused-hears}
 use Rattle.turn_losses.proofs.NumberHear.{nr_sent, ns_sent, NumbersHeard, numbers-heard}
 use Rattle.turn_losses.proofs.NumberSpeak.{NumbersSaid, linked-numbers}
@@ -42,7 +43,7 @@ module _ {tries period : ℕ} {link : Link} {role : Role} {turn : ℕ} {a : Acco
   connected = ap is_connected (sym i.served.phase) ∙ polled.0
 
   numbers : NumbersSaid b.special b said
-  numbers = linked-numbers turn b said (linked-says turn release b said (connected-is b.phase polled.0) now speaks)
+  numbers = linked-numbers turn b said (linked-says turn release b said (connected-is b.phase polled.0) now speaks).0
 
   room-said : Room mid → Room said.account
   room-said r =

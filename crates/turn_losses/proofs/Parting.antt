@@ -1,9 +1,11 @@
 -- An answerer that gives up, also while the originator releases.
 use Rattle.std.proofs.Common.{◌⊎◌, inl, inr, ◌≡◌, ◌≢◌, ℕ, zero, suc, ◌+◌, ◌-◌, ◌*◌, ◌<◌, ◌≤◌, ◌&&◌, ◌||◌, not, Bool, true, false, cond}
-use Rattle.std.proofs.Common.{nat_eq, max, List, ◌∷◌, length, arith, refl, sym, ◌∙◌, ap, subst, Option, Some, None, Ok, Err}
+use Rattle.std.proofs.Common.{nat_eq, max, List, ◌∷◌, length, arith, refl, sym, ◌∙◌, ap, subst, Some, None, Ok, Err}
+use Rattle.turn_bound.proofs.Value.{linked-of}
+use Rattle.turn_bound.proofs.Turning.{stopped}
 use Rattle.link_account.proofs.Names.{cases_lt, nat_tests, Role, Originator, Answerer, is_originator, Outgoing, ReadsWritten, waits}
 use Rattle.link_account.proofs.Names.{Arrived, LinkFault, Spent, Account, is_connected, hear, trying, MayPlay, Said, speak, speak_in}
-use Rattle.link_account.proofs.Names.{speak_linked, speak_releasing, is_some, other}
+use Rattle.link_account.proofs.Names.{speak_linked, speak_releasing, other}
 use Rattle.link_run.proofs.Names.{Phase, Detecting, Negotiating, Establishing, Connected, Releasing, Closed, is_released, is_closed}
 use Rattle.link_run.proofs.Names.{next_break, Link, Accounts, Turn, Hears, arrival, served_at, releases, Carries}
 use Rattle.lapm_sender.specs.Outgoing.{is_whole}
@@ -15,7 +17,7 @@ use Rattle.turn_losses.proofs.Truths.{and-two, clash, is-true}
 use Rattle.turn_losses.proofs.Periods.{once, later-loses, loses-at, loses-last, loses-of}
 use Rattle.turn_losses.specs.Losses.{AnswererWantsAnswers}
 use Rattle.turn_losses.proofs.PollHear.{linked-connected}
-use Rattle.turn_losses.proofs.AnswerTurn.{connected-is, linked-sends}
+use Rattle.turn_losses.proofs.AnswerTurn.{connected-is}
 use Rattle.turn_losses.proofs.Tracing.{timed-run, longer}
 use Rattle.turn_losses.proofs.Numbering.{Plays, counts-of}
 use Rattle.turn_losses.proofs.LineLaw.{is-heard, last-heard}
@@ -238,7 +240,7 @@ told-at reads w m (suc u) y q = subst (ToldIn w (end_of w Originator)) (next u)
 -- where the answerer is told in a turn that it is whole, its clock runs for a poll or a pause alone
 whole-stops : (w : TimedRun) → (v : ℕ) → v < length w.ts → Released w.link v (w.deed v).mid → (w.deed v).mid.answ.outgoing.awaited ≡ false
     → (w.deed v).mid.answ.outgoing.paused ≡ false → (w.deed v).mid.answ.wait.timer ≡ None
-whole-stops w v b told f g = none m.wait.timer (sends.cause ∙ still (nat_lt m.outgoing.front m.outgoing.high) idle)
+whole-stops w v b told f g = stopped m.wait.timer (sends.cause ∙ still (nat_lt m.outgoing.front m.outgoing.high) idle)
   where
     m : Account
     m = (w.deed v).mid.answ
@@ -247,8 +249,8 @@ whole-stops w v b told f g = none m.wait.timer (sends.cause ∙ still (nat_lt m.
     i = (end-turn w Answerer v b).in_turn
 
     sends : Sends (rates w.tries w.period) (v + 1) v m.outgoing m.wait.timer
-    sends = linked-sends (rates w.tries w.period) (v + 1) v Answerer i.phase m i.heard.stands
-        (ap is_connected (sym i.heard.phase) ∙ (ap is_connected (sym i.served.phase) ∙ told.connected))
+    sends = (linked-of (rates w.tries w.period) (v + 1) v Answerer i.phase m i.heard.stands
+        (ap is_connected (sym i.heard.phase) ∙ (ap is_connected (sym i.served.phase) ∙ told.connected))).sends
 
     idle : nat_lt m.outgoing.front m.outgoing.high ≡ false
     idle =
@@ -259,10 +261,6 @@ whole-stops w v b told f g = none m.wait.timer (sends.cause ∙ still (nat_lt m.
     still : (x : Bool) → x ≡ false → x || (m.outgoing.awaited || m.outgoing.paused) ≡ false
     still true q = cc
     still false q = ap (λ y. y || m.outgoing.paused) f ∙ g
-
-    none : (timer : Option ℕ) → is_some timer ≡ false → timer ≡ None
-    none None q = refl
-    none (Some x) q = cc
 
 disc-heard : (arrived : Arrived) (turn : ℕ) (a mid : Account) → a.setup.role ≡ Answerer → is_connected a.phase ≡ true
     → of_arrived (asks Releasing) arrived ≡ true → hear turn arrived a ≡ Ok mid → is_connected mid.phase ≡ false
@@ -402,7 +400,7 @@ parted-each laws reads w may t mid cs hearing cm om last n less = at-expiry
               | inl b ↦ parted-stops k c s v.turn within b late un co
                   (await-hears (e.heard v.turn) v.turn (e.account v.turn) (e.mid v.turn) at-v i.hears)
                   (whole-stops w v.turn before-end v.told) (count-hears z (e.heard v.turn) v.turn (e.account v.turn) (e.mid v.turn) at-v
-                  (linked-sends z v.turn v.turn Answerer (e.account v.turn).phase (e.account v.turn) i.stands at-v) i.hears) none
+                  (linked-of z v.turn v.turn Answerer (e.account v.turn).phase (e.account v.turn) i.stands at-v).sends i.hears) none
               | inr g ↦ (let r = period-cleared k c s within un.made un.on (λ u lo hi. co u lo (omega (arith, hi, g))) none in
                   un.uncleared r.0 r.1 r.2 r.3)
             ])

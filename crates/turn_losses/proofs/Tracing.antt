@@ -1,15 +1,15 @@
 use Rattle.std.proofs.Common.{◌⊎◌, inl, inr, ◌≡◌, ℕ, suc, ◌+◌, ◌<◌, ◌≤◌, Bool, true, false, cond, nat_lt, List, [], ◌∷◌, length, arith}
 use Rattle.std.proofs.Common.{refl, sym, ◌∙◌, ap, subst, None, Ok}
+use Rattle.turn_bound.proofs.Value.{linked-of, unlinked-of}
 use Rattle.link_account.proofs.Names.{nat_tests, Role, Originator, Answerer, Arrived, Account, is_connected, Said, speak, cases_lt, of}
-use Rattle.link_run.proofs.Names.{Phase, Detecting, Negotiating, Establishing, Connected, Releasing, Closed, is_busy, is_closed}
-use Rattle.link_run.proofs.Names.{is_released, Link, Accounts, Turn, RunOf, GoingTurn, start, arrival, served_at, said_at, releases}
-use Rattle.link_run.proofs.Names.{Carries, IsCarried}
+use Rattle.link_run.proofs.Names.{Phase, Connected, is_busy, is_closed, is_released, Link, Accounts, Turn, RunOf, GoingTurn, start, arrival}
+use Rattle.link_run.proofs.Names.{served_at, said_at, releases, Carries, IsCarried}
 use Rattle.turn_bound.proofs.AtMostOne.{OneDue, one-hears}
 use Rattle.turn_losses.proofs.PollHear.{PollHeard}
 use Rattle.turn_losses.proofs.PollSpeak.{poll-speaks}
 use Rattle.turn_losses.proofs.InTurn.{InTurn, in-turn}
 use Rattle.turn_losses.proofs.PollTurn.{poll-turn}
-use Rattle.turn_losses.proofs.AnswerTurn.{end-answers, linked-sends}
+use Rattle.turn_losses.proofs.AnswerTurn.{end-answers}
 use Rattle.turn_losses.proofs.HeardCount.{CountKept, count-hears}
 use Rattle.turn_losses.proofs.Awaiting.{await-hears}
 use Rattle.turn_losses.proofs.Polling.{Early}
@@ -42,18 +42,6 @@ pub silent-of : (z : Rates) (before turn : ℕ) (r : Role) (p : Phase) (a : Acco
 silent-of z before turn Answerer Connected a st e f n = (st.silent n).1
 silent-of z before turn q x a st e f n = cc
 
-pub untimed-of : (z : Rates) (before turn : ℕ) (r : Role) (p : Phase) (a : Account) → Stands z before turn r p a → is_linked p ≡ false
-    → a.wait.timer ≡ None
-untimed-of z before turn Originator Detecting a st e = st.timer
-untimed-of z before turn Originator Negotiating a st e = st.0.timer
-untimed-of z before turn Originator Establishing a st e = st.0.timer
-untimed-of z before turn Answerer Detecting a st e = st.timer
-untimed-of z before turn Answerer Negotiating a st e = st.timer
-untimed-of z before turn Answerer Establishing a st e = absurd st
-untimed-of z before turn r Connected a st e = cc
-untimed-of z before turn r Releasing a st e = cc
-untimed-of z before turn r Closed a st e = cc
-
 -- a turn of one end
 module _ {tries period : ℕ} {link : Link} {role : Role} {turn : ℕ} {a : Account} {arrived : Arrived} {mid b : Account}
     (i : InTurn tries period link role turn a arrived mid b) where
@@ -84,11 +72,11 @@ module _ {tries period : ℕ} {link : Link} {role : Role} {turn : ℕ} {a : Acco
         calm = λ c x. s.reply ∙ one.calm (ap is_connected (sym s.phase) ∙ c) (ap is_released (sym s.phase) ∙ x);
         none = λ r c. s.answer ∙ one.none r (ap is_closed (sym s.phase) ∙ c);
       })
-      i.none_due early (λ e. untimed-of z turn turn role a.phase a i.stands e)
+      i.none_due early (λ e. (unlinked-of z turn turn role a.phase a i.stands e).timer)
       (λ r e n. silent-of z (turn + 1) turn role i.phase b i.b_stands r (ap is_connected (sym (s.phase ∙ i.heard.phase)) ∙ e) n)
       i.b_period (λ e. ap (λ o. o.awaited) s.longer.outgoing ∙ await-hears arrived turn a mid e i.hears)
       mid.outgoing.count (ap (λ o. o.count) s.longer.outgoing)
-      (λ e. served-count (count-hears z arrived turn a mid e (linked-sends z turn turn role a.phase a i.stands e) i.hears))
+      (λ e. served-count (count-hears z arrived turn a mid e (linked-of z turn turn role a.phase a i.stands e).sends i.hears))
 
 -- an end speaks as its role does
 abbrev pub release_of : Link → ℕ → Accounts → Role → Bool

@@ -1,10 +1,11 @@
 -- Each turn of a run after which an end is Connected, by its breaks.
 use Rattle.std.proofs.Common.{◌⊎◌, inl, inr, ◌≡◌, ℕ, ◌+◌, ◌<◌, ◌≤◌, Bool, true, false, length, arith, refl, sym, ◌∙◌, ap, subst}
-use Rattle.link_account.proofs.Names.{is_some, cases_lt, Role, Originator, Answerer, of, waits, Arrived, Account, is_connected}
-use Rattle.link_run.proofs.Names.{Phase, Detecting, Negotiating, Establishing, Connected, Releasing, Closed, arrival, served_at}
-use Rattle.turn_bound.proofs.Value.{Linked, Unlinked, IsAck}
+use Rattle.link_account.proofs.Names.{is_some, cases_lt, Role, of, waits, Arrived, Account, is_connected}
+use Rattle.turn_bound.proofs.Value.{linked-of, unlinked-of, Linked, IsAck}
+use Rattle.turn_bound.proofs.Turning.{linked-says}
+use Rattle.link_run.proofs.Names.{arrival, served_at}
 use Rattle.turn_losses.proofs.Truths.{clash}
-use Rattle.turn_losses.proofs.AnswerTurn.{connected-is, linked-says}
+use Rattle.turn_losses.proofs.AnswerTurn.{connected-is}
 use Rattle.turn_losses.proofs.Tracing.{release_of}
 use Rattle.turn_losses.proofs.BreakHear.{quiet-heard, break-heard}
 use Rattle.turn_losses.proofs.BreakSpeak.{SaidBreaks, breaks-said}
@@ -12,27 +13,9 @@ use Rattle.turn_losses.proofs.BreakTurn.{Deeds, BreakTurn, break-turn}
 use Rattle.turn_losses.proofs.Begun.{old-heard}
 use Rattle.turn_losses.proofs.Windows.{Breaking}
 use Rattle.turn_losses.proofs.Establishing.{word-connected}
-use Rattle.turn_losses.proofs.Names.{Rates, rates, Stands, of_frame, is_linked, sent_or, TimedRun, end_of}
+use Rattle.turn_losses.proofs.Names.{Rates, rates, of_frame, is_linked, sent_or, TimedRun, end_of}
 use Rattle.turn_losses.proofs.EndTurn.{TurnAt, EndTurn, end-turn}
 use Rattle.turn_losses.proofs.Words.{any_brk, of_word}
-
-pub linked-of : (z : Rates) (before turn : ℕ) (r : Role) (p : Phase) (a : Account) → Stands z before turn r p a → is_connected p ≡ true
-    → Linked z before turn r a
-linked-of z before turn Originator Connected a s e = s
-linked-of z before turn Answerer Connected a s e = s
-linked-of z before turn r p a s e = cc
-
-pub unlinked-of : (z : Rates) (before turn : ℕ) (r : Role) (p : Phase) (a : Account) → Stands z before turn r p a → is_linked p ≡ false
-    → Unlinked a
-unlinked-of z before turn Originator Detecting a s e = s
-unlinked-of z before turn Originator Negotiating a s e = s.0
-unlinked-of z before turn Originator Establishing a s e = s.0
-unlinked-of z before turn Answerer Detecting a s e = s
-unlinked-of z before turn Answerer Negotiating a s e = s
-unlinked-of z before turn Answerer Establishing a s e = absurd s
-unlinked-of z before turn r Connected a s e = cc
-unlinked-of z before turn r Releasing a s e = cc
-unlinked-of z before turn r Closed a s e = cc
 
 -- a turn of a run
 abbrev pub TurnOf : TimedRun → Role → ℕ → Deeds → Type 0
@@ -76,7 +59,7 @@ turn-of w r u l c = moved (by (i.polls.from mid-connected))
 
     says : SaidBreaks u b g.said
     says = breaks-said u b g.said (subst (λ t. IsAck t.ack) (sym i.served.ack) mid-linked.ack)
-        (linked-says u (release_of w.link u (w.deed u).mid r) b g.said (i.served.phase ∙ connected-is mid.phase mid-connected) after g.says)
+        (linked-says u (release_of w.link u (w.deed u).mid r) b g.said (i.served.phase ∙ connected-is mid.phase mid-connected) after g.says).0
 
     moved : (d : Deeds) × (d.answers ≡ is_some b.owes.answer) × BreakTurn w.period u arrived g.said.sent d a g.said.account
         × (waits g.said.account.own_breaks ≡ waits b.own_breaks) → (d : Deeds) × TurnOf w r u d

@@ -2,10 +2,11 @@
 use Rattle.std.proofs.Common.{◌⊎◌, inl, inr, ◌≡◌, ℕ, ◌+◌, ◌*◌, ◌<◌, ◌≤◌, Bool, true, false, length, arith, sym, ◌∙◌, ap, Some, Err, subst}
 use Rattle.link_account.proofs.Names.{nat_tests, Role, other, of, waits, Arrived, LinkFault, Account, is_connected, speak, IsAllowed}
 use Rattle.link_account.proofs.Names.{MayPlay, false≢true}
+use Rattle.turn_bound.proofs.Value.{linked-of}
 use Rattle.link_run.proofs.Names.{Connected, Releasing, Phase, Detecting, Negotiating, Establishing, Turn, Accounts, Hears, arrival}
 use Rattle.link_run.proofs.Names.{served_at, Link}
 use Rattle.turn_losses.proofs.Periods.{once, loses-of}
-use Rattle.turn_losses.proofs.AnswerTurn.{linked-sends, connected-is}
+use Rattle.turn_losses.proofs.AnswerTurn.{connected-is}
 use Rattle.link_account.proofs.SpeakWays.{Ended, TryEnds, ReleaseEnds, TimerEnds, BreakEnds, Breaks, Undetected, Spends, why-broken}
 use Rattle.turn_losses.proofs.HeardCount.{CountKept, count-hears}
 use Rattle.turn_losses.proofs.PollLaws.{two-ends}
@@ -80,7 +81,7 @@ module _ {tries period : ℕ} {link : Link} {role : Role} {turn : ℕ} {a : Acco
       z = rates tries period
 
       sends : Sends z (turn + 1) turn b.outgoing b.wait.timer
-      sends = linked-sends z (turn + 1) turn role i.phase b i.b_stands (ap is_connected (sym i.heard.phase) ∙ cm)
+      sends = (linked-of z (turn + 1) turn role i.phase b i.b_stands (ap is_connected (sym i.heard.phase) ∙ cm)).sends
 
       mid-count : mid.outgoing.count ≡ tries
       mid-count = ap (λ o. o.count) (sym i.served.longer.outgoing) ∙ (why.count ∙ sends.tries_are)
@@ -90,7 +91,7 @@ module _ {tries period : ℕ} {link : Link} {role : Role} {turn : ℕ} {a : Acco
 
       from : (is_connected a.phase ≡ true) ⊎ (is_linked a.phase ≡ false) → LastTry tries period turn a
       from (inr u) = let c = begins u cm in absurd (omega (arith, c, mid-count, some-tries))
-      from (inl ca) = by (count-hears z arrived turn a mid ca (linked-sends z turn turn role a.phase a i.stands ca) i.hears)
+      from (inl ca) = by (count-hears z arrived turn a mid ca (linked-of z turn turn role a.phase a i.stands ca).sends i.hears)
         where
           by : CountKept a mid → LastTry tries period turn a
           by (inl c) = absurd (omega (arith, c, mid-count, some-tries))
