@@ -1,25 +1,23 @@
 -- The laws of runs over lines that carry what is sent, by what holds of runs with queues.
-use Rattle.std.proofs.Common.{ℕ, ◌+◌, ◌*◌, ◌<◌, ◌≤◌, map, length, arith, sym, ◌∙◌, ap, subst, false}
-use Rattle.link_account.proofs.Names.{Role, Originator, Answerer, of}
-use Rattle.link_run.proofs.Names.{is_released, served_at, releases}
-use Rattle.link_run.specs.Run.{BrokenTurn, IsBroken}
+use Rattle.std.proofs.Common.{◌≡◌, ℕ, ◌+◌, ◌*◌, ◌<◌, ◌≤◌, map, length, arith, subst, false, Err, Bool}
+use Rattle.link_account.proofs.Names.{Role, Originator, Answerer, of, speak}
+use Rattle.link_run.proofs.Names.{served_at, releases}
+use Rattle.link_run.specs.Run.{IsBroken}
 use Rattle.turn_bound.specs.Bound.{of_both, weight, most_turns, offered_to, EndsSoon, EndsSoonByFiles, EndsSoonByOctets}
 use Rattle.turn_bound.specs.Offered.{HoldsFile, IsWithin, OffersWithin}
 use Rattle.turn_bound.specs.Together.{StandTogether}
-use Rattle.turn_bound.specs.Spent.{IsTimely, SpendsOnTime}
+use Rattle.turn_bound.specs.Spent.{SpendsOnTime}
 use Rattle.turn_bound.specs.Due.{NoneDue, AnswersAtOnce}
 use Rattle.turn_bound.specs.Limits.{NoRunIsLong}
-use Rattle.turn_bound.proofs.Clock.{Rates, rates}
-use Rattle.turn_bound.proofs.Value.{IsOf}
-use Rattle.turn_bound.proofs.Tied.{Tied, tied, keeps, link_of, turn_of, state_of, turns-length}
-use Rattle.turn_bound.proofs.Falls.{Fits, Sound}
-use Rattle.turn_bound.proofs.Ending.{fits, sound-run}
+use Rattle.turn_bound.proofs.Clock.{rates}
+use Rattle.turn_bound.proofs.Tied.{tied, keeps, link_of, turn_of, state_of, turns-length}
+use Rattle.turn_bound.proofs.Ending.{fits}
 use Rattle.turn_bound.proofs.Soon.{ends-soon, stands-together}
 use Rattle.turn_bound.proofs.Spending.{end-spends}
+use Rattle.turn_bound.proofs.CalmRuns.{hears-in}
 use Rattle.turn_bound.proofs.AtMostOne.{none-due-run}
 use Rattle.turn_bound.proofs.Sizes.{within-run}
 use Rattle.turn_bound.proofs.Counted.{offered-few, octets-hold, busy-few, product-most}
-use Rattle.link_run.specs.Run as runs
 
 pub ends-soon-always : EndsSoon
 ends-soon-always tries period delay link ts ends k run c =
@@ -56,31 +54,14 @@ within-always tries period delay link ts ends k run c role =
     by Answerer h = h.1
 
 pub spends-always : SpendsOnTime
-spends-always tries period delay link ts before t mid role fault k run c broken = by role broken.broken
+spends-always tries period delay link ts before t mid role fault k run c broken =
+    let e = by role broken.broken in
+    end-spends (hears-in tries period delay link ts before role k run c t mid broken.hearing) e.0 fault e.1
   where
-    z : Rates
-    z = rates tries period
-
-    i : Tied delay link ts before
-    i = tied delay link ts before k.delays run c
-
-    f : Fits z (link_of delay link)
-    f = fits tries period (link_of delay link) (keeps tries period delay link k)
-
-    h : Sound z (link_of delay link) (length ts) (state_of before i.forward i.back)
-    h = subst (λ n. Sound z (link_of delay link) n (state_of before i.forward i.back)) (turns-length ts)
-        (sound-run z (link_of delay link) (map turn_of ts) (state_of before i.forward i.back) f i.run)
-
     by : (r : Role) → IsBroken link (length ts) mid r fault
-        → IsTimely period ((tries + 1) * period) (length ts) (served_at link (length ts) mid r).account fault
-    by Originator e =
-        end-spends z link.orig.user (length ts) Originator (runs.arrival t.orig.heard) before.orig mid.orig (is_released mid.orig.phase)
-        (releases link (length ts) mid) fault f.rates (subst (IsOf z) (sym h.orig_setup) f.orig) h.orig
-        (ap (λ x. x.role) h.orig_setup ∙ f.originates) (broken.hearing Originator).hears e
-    by Answerer e =
-        end-spends z link.answ.user (length ts) Answerer (runs.arrival t.answ.heard) before.answ mid.answ
-        (is_released mid.orig.phase) false fault f.rates (subst (IsOf z) (sym h.answ_setup) f.answ) h.answ
-        (ap (λ x. x.role) h.answ_setup ∙ f.answers) (broken.hearing Answerer).hears e.1
+        → (release : Bool) × (speak (length ts) release (served_at link (length ts) mid r).account ≡ Err fault)
+    by Originator e = (releases link (length ts) mid, e)
+    by Answerer e = (false, e.1)
 
 pub by-files-always : EndsSoonByFiles
 by-files-always tries period delay link ts ends segments k run c holds =

@@ -1,11 +1,10 @@
 -- What holds all through a run where no user is busy.
 use Rattle.std.proofs.Common.{◌≡◌, ℕ, zero, suc, ◌+◌, ◌-◌, ◌*◌, ◌≤◌, Bool, true, false, List, [], ◌∷◌, drop, map, length, arith, refl, sym}
 use Rattle.std.proofs.Common.{◌∙◌, ap, subst, Option, Some, None, Result, Ok, Err}
-use Rattle.link_account.proofs.Names.{slice_get, AllByRecursion, Role, Originator, Answerer, other, of, Heard, Passed}
-use Rattle.link_account.proofs.Names.{LinkFault, Account, is_connected, Said, speak}
+use Rattle.link_account.proofs.Names.{slice_get, AllByRecursion, Role, Originator, Answerer, other, of, Heard, Passed, LinkFault, Account}
+use Rattle.link_account.proofs.Names.{is_connected, Said, speak}
 use Rattle.link_run.proofs.Names.{User, is_busy, is_released, Link, Accounts, Spoken, Turn, GoingTurn, RunOf, said_at, releases, arrival}
-use Rattle.link_run.proofs.Names.{Crosses, Carries, IsCarried, sent_in, sent_ago}
-use Rattle.link_run.proofs.Names.{Hears}
+use Rattle.link_run.proofs.Names.{Crosses, Carries, IsCarried, sent_in, sent_ago, Hears}
 use Rattle.link_run.specs.End.{BusyLine}
 use Rattle.turn_bound.specs.Time.{KeepsTime}
 use Rattle.turn_bound.specs.Advance.{NeverBusy}
@@ -223,13 +222,10 @@ few-sent tries period delay link zero ts ends role k nb run c = omega (arith, po
 few-sent tries period delay link (suc n) [] ends role k nb run c = omega (arith, poll-most 0 (of role ends).phase (of role ends))
 few-sent tries period delay link (suc n) (t ∷ ts) ends role k nb (before, run, g) c =
     let turn : ℕ = length ts in
-    let user : User = (of role link).user in
     let o = g.speaking role in
-    let e = end-at tries period delay link ts before role k run c.1 in
     let light = light-arrival delay link ts before t role nb run c.0 in
     let sp = said-speaks link turn g.mid role o.said o.says in
-    let one = poll-turn (rates tries period) user turn role (arrival (of role t).heard) (of role before) (of role g.mid)
-    (is_released g.mid.orig.phase) sp.0 o.said e.rates e.is_of e.stands e.role_is light.0 light.1 (g.hearing role).hears sp.1 in
+    let one = poll-turn (hears-in tries period delay link ts before role k run c.1 t g.mid g.hearing) sp.0 o.said light.0 light.1 sp.1 in
     let rest = few-sent tries period delay link n ts before role k nb run c.1 in
     let now : poll_value (turn + 1) (of role ends).phase (of role ends) ≡ poll_value (turn + 1) o.said.account.phase o.said.account =
     ap (λ a. poll_value (turn + 1) a.phase a) o.after_is in

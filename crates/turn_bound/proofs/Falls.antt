@@ -184,14 +184,14 @@ pub record Both (z : Rates) (link : Link) (totals : Totals) (turn : ℕ) (s : St
       (served_account link.answ.user turn (is_released orig_mid.phase) answ_mid) answ_said
 
 -- an end hears in a turn
-hears-o : {z : Rates} {link : Link} {turn : ℕ} {s : State} {t : Turn} {u : State} → Fits z link → Sound z link turn s
+pub hears-o : {z : Rates} {link : Link} {turn : ℕ} {s : State} {t : Turn} {u : State} → Fits z link → Sound z link turn s
     → (g : GoingTurn link turn s t u)
     → Hearing z link.orig.user turn Originator s.orig (arrival link.answ.delay t.orig_loses s.back) g.orig_mid
     (served_account link.orig.user turn (is_released g.orig_mid.phase) g.orig_mid)
 hears-o {z} {link} f h g = hearing link.orig.user (is_released g.orig_mid.phase) f.rates (subst (IsOf z) (sym h.orig_setup) f.orig) h.orig
     (ap (λ x. x.role) h.orig_setup ∙ f.originates) g.orig_hears
 
-hears-a : {z : Rates} {link : Link} {turn : ℕ} {s : State} {t : Turn} {u : State} → Fits z link → Sound z link turn s
+pub hears-a : {z : Rates} {link : Link} {turn : ℕ} {s : State} {t : Turn} {u : State} → Fits z link → Sound z link turn s
     → (g : GoingTurn link turn s t u)
     → Hearing z link.answ.user turn Answerer s.answ (arrival link.orig.delay t.answ_loses s.forward) g.answ_mid
     (served_account link.answ.user turn (is_released g.orig_mid.phase) g.answ_mid)

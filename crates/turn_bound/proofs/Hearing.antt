@@ -1,7 +1,7 @@
 use Rattle.std.proofs.Common.{◌≡◌, ℕ, ◌+◌, ◌-◌, ◌*◌, ◌%◌, ◌<◌, ◌≤◌, ◌&&◌, ◌||◌, Bool, true, false, cond, nat_eq, length, arith, refl, subst}
-use Rattle.std.proofs.Common.{Option, Some, Result, Ok, Err}
-use Rattle.link_account.proofs.Names.{nat_tests, Role, Originator, Answerer, Outgoing, OwnBreaks, after_answer, waits, LinkFault, Account}
-use Rattle.link_account.proofs.Names.{Frame, I, Rr, Rnr, Rej, Srej, Arrived, Incoming}
+use Rattle.std.proofs.Common.{Option, Some}
+use Rattle.link_account.proofs.Names.{nat_tests, Role, Originator, Answerer, Outgoing, OwnBreaks, after_answer, waits, Account, Frame, I}
+use Rattle.link_account.proofs.Names.{Rr, Rnr, Rej, Srej, Arrived, Incoming}
 use Rattle.link_run.proofs.Names.{Phase, Connected}
 use Rattle.lapm_sender.specs.Outgoing.{paused_at}
 use Rattle.link_account.specs.Hear.{timer_after}
@@ -26,10 +26,6 @@ pub record HeardAs (z : Rates) (total breaks turn more : ℕ) (role : Role) (p :
   pub lengths : b.own_breaks.lengths ≡ a.own_breaks.lengths
   pub falls : value z total breaks turn role q b + ends z.room (lives turn role p a)
       (lives turn role q b) ≤ value z total breaks turn role p a + more
-
-abbrev pub HearsWell : Rates → ℕ → ℕ → ℕ → ℕ → Role → Phase → Account → Result Account LinkFault → Type 0
-HearsWell z total breaks turn more role p a (Err fault) = Unit {0}
-HearsWell z total breaks turn more role p a (Ok b) = (q : Phase) × HeardAs z total breaks turn more role p a q b
 
 pub more-as : (z : Rates) (total breaks turn more : ℕ) (role : Role) (p : Phase) (a : Account) (q : Phase) (b : Account)
     → HeardAs z total breaks turn 0 role p a q b → HeardAs z total breaks turn more role p a q b

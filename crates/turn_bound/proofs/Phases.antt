@@ -1,7 +1,7 @@
 use Rattle.std.proofs.Common.{◌≡◌, ℕ, ◌+◌, ◌-◌, ◌*◌, ◌<◌, ◌≤◌, ◌||◌, Bool, true, false, cond, nat_lt, List, length, arith, refl, sym, ◌∙◌}
-use Rattle.std.proofs.Common.{ap, subst, Some, Result, Ok, Err, inl, inr}
+use Rattle.std.proofs.Common.{ap, subst, Some, Ok, inl, inr}
 use Rattle.link_account.proofs.Names.{is_some, nat_tests, Role, Originator, Answerer, Sabme, Disc, Ui, Ua, Xid, is_originator, other, Offer}
-use Rattle.link_account.proofs.Names.{agree, offer_in, OwnBreaks, waits, Arrived, LinkFault, Account, hear, on_nothing, trying, owing}
+use Rattle.link_account.proofs.Names.{agree, offer_in, OwnBreaks, waits, Arrived, Account, hear, on_nothing, trying, owing}
 use Rattle.link_run.proofs.Names.{Phase, Detecting, Negotiating, Establishing, Connected, Releasing, Closed}
 use Rattle.xid_params.specs.Terms.{default_offer}
 use Rattle.xid_params.specs.declared.terms.Terms.{Terms}
@@ -17,8 +17,8 @@ use Rattle.turn_bound.proofs.Arithmetic.{tries_fit, left-some, ticks-now}
 use Rattle.turn_bound.proofs.Sender.{ends-is}
 use Rattle.turn_bound.proofs.Offers.{read-windows, agreed-windows}
 use Rattle.turn_bound.proofs.Breaking.{or-false, ends-same}
-use Rattle.link_account.proofs.HearWays.{ConnectedWays, EarlyWays, Ways, by-ways}
-use Rattle.turn_bound.proofs.Hearing.{HeardAs, HearsWell, more-as, quiet-well, number-well, answer-well}
+use Rattle.link_account.proofs.HearWays.{ConnectedWays, EarlyWays, by-ways}
+use Rattle.turn_bound.proofs.Hearing.{HeardAs, more-as, quiet-well, number-well, answer-well}
 use Rattle.lapm_sender.specs.Outgoing as outgoing
 use Rattle.lapm_receiver.specs.Incoming as incoming
 use Rattle.lapm_frames.specs.declared.arrived.Arrived.TheVariants as arrivals
@@ -475,28 +475,16 @@ module _ (z : Rates) (total breaks turn : ℕ) (a : Account) (y : AreRates z) (k
       wrong : {A : Type 0} → a.setup.role ≡ Originator → A
       wrong r = let other-role : Answerer ≡ Originator = sym er ∙ r in cc
 
-pub hears-well : (z : Rates) (total breaks turn : ℕ) (role : Role) (p : Phase) (arrived : Arrived) (a : Account) → AreRates z
-    → IsOf z a.setup → Stands z turn turn role p a → a.phase ≡ p → a.setup.role ≡ role
-    → length a.outgoing.pieces ≤ total → HearsWell z total breaks turn (z.quota * arrived_rnrs arrived) role p a (hear turn arrived a)
-hears-well z total breaks turn role p arrived a y k h e er all = go (hear turn arrived a) refl
+pub hears-well : (z : Rates) (total breaks turn : ℕ) (role : Role) (arrived : Arrived) (a mid : Account) → AreRates z → IsOf z a.setup
+    → Stands z turn turn role a.phase a → a.setup.role ≡ role → length a.outgoing.pieces ≤ total → hear turn arrived a ≡ Ok mid
+    → (q : Phase) × HeardAs z total breaks turn (z.quota * arrived_rnrs arrived) role a.phase a q mid
+hears-well z total breaks turn role arrived a mid y k s er all = by-ways (P z total breaks turn role a y k s er all) turn a (record {
+  nothing = still z total breaks turn role a y k s er all arrivals.Nothing (on_nothing a).owes;
+  linked = linked-ways z total breaks turn role a y k s er all;
+  early = λ c. early role s er;
+}) arrived mid
   where
-    s : Stands z turn turn role a.phase a
-    s = subst (λ q. Stands z turn turn role q a) (sym e) h
-
-    early : (r : Role) (t : Stands z turn turn r a.phase a) (f : a.setup.role ≡ r) → EarlyWays
-        (P z total breaks turn r a y k t f all) turn a
+    early : (r : Role) (t : Stands z turn turn r a.phase a) (f : a.setup.role ≡ r)
+        → EarlyWays (P z total breaks turn r a y k t f all) turn a
     early Originator t f = o-early z total breaks turn a y k t f all
     early Answerer t f = a-early z total breaks turn a y k t f all
-
-    ways : Ways (P z total breaks turn role a y k s er all) turn a
-    ways = record {
-      nothing = still z total breaks turn role a y k s er all arrivals.Nothing (on_nothing a).owes;
-      linked = linked-ways z total breaks turn role a y k s er all;
-      early = λ c. early role s er;
-    }
-
-    go : (r : Result Account LinkFault) → hear turn arrived a ≡ r → HearsWell z total breaks turn
-        (z.quota * arrived_rnrs arrived) role p a r
-    go (Err fault) f = tt
-    go (Ok b) f = subst (λ q. (r : Phase) × HeardAs z total breaks turn (z.quota * arrived_rnrs arrived) role q a r b) e
-        (by-ways (P z total breaks turn role a y k s er all) turn a ways arrived b f)

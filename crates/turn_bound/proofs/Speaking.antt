@@ -1,12 +1,12 @@
 use Rattle.std.proofs.Common.{◌≡◌, ℕ, ◌+◌, ◌-◌, ◌*◌, ◌≤◌, ◌||◌, Bool, true, false, cond, nat_eq, length, arith, refl, sym, ◌∙◌, ap, subst}
-use Rattle.std.proofs.Common.{Option, Some, None, Result, Ok, Err}
-use Rattle.link_account.proofs.Names.{nat_tests, Role, Originator, Answerer, Outgoing, next_number, BreakWord, OwnBreaks, ticked, LinkFault, Account}
+use Rattle.std.proofs.Common.{Option, Some, None, Ok}
+use Rattle.link_account.proofs.Names.{nat_tests, Role, Originator, Answerer, Outgoing, next_number, BreakWord, OwnBreaks, ticked, Account}
 use Rattle.link_account.proofs.Names.{is_connected, is_originator, Said, may_send, speak_linked}
 use Rattle.link_run.proofs.Names.{Setup, Phase, Connected, is_closed}
 use Rattle.lapm_sender.specs.Outgoing.{after_next}
 use Rattle.break_signals.specs.Breaks.{after_brk}
 use Rattle.link_account.specs.Speak.{timer_expires, breaking, running, says_segment}
-use Rattle.link_account.proofs.SpeakWays.{AllSaid, Steps, steps-so, polling_at, Expired, by-linked, next-keeps}
+use Rattle.link_account.proofs.SpeakWays.{AllSaid, Steps, steps-so, polling_at, Expired, ConnectedWays, by-linked, next-keeps}
 use Rattle.turn_bound.proofs.Clock.{Rates, AreRates, is_waiting, Sends, lasts, one_if, sender_value, Breaks, is_breaking, break_left}
 use Rattle.turn_bound.proofs.Value.{value, lives, IsOf, IsAck, IsSilent, LinkedIn, Linked, Stands}
 use Rattle.turn_bound.proofs.Sending.{WaitedWell, waited-quiet, waited-expired, sent-well}
@@ -178,17 +178,20 @@ module _ (z : Rates) (total breaks turn : ℕ) (role : Role) (a : Account) (y : 
       loud Originator s = tt
       loud Answerer s = λ n. let wrong : Some set ≡ None = sym x.timer ∙ (s n).1 in cc
 
-  pub spoke : a.setup.role ≡ role → length a.outgoing.pieces ≤ total → (said : Said) → speak_linked turn a ≡ Ok said
-      → Spoke z total breaks turn role a said
-  spoke er all = by-linked (Spoke z total breaks turn role a) turn a (record {
+  pub spoke-ways : a.setup.role ≡ role → length a.outgoing.pieces ≤ total → ConnectedWays (Spoke z total breaks turn role a) turn a
+  spoke-ways er all = record {
     stands = λ x own t. rows (record a { own_breaks = own; special = false }) (stood x own t);
     expires = λ set x own t. rows (polling_at turn a own) (expired set x own t);
-  })
+  }
     where
       rows : (b : Account) → Timed z total breaks turn role a b → Steps (Spoke z total breaks turn role a) turn a.special b
       rows b t = steps-so _ _ turn a.special b (λ s x. record { timed = b; is_timed = t; stepped = x })
           (steps-well z total breaks turn role b y t.linked (ap (λ s. s.role) t.setup ∙ er)
           (omega (arith, all, ap (λ l. length l) t.pieces)) a.special)
+
+  pub spoke : a.setup.role ≡ role → length a.outgoing.pieces ≤ total → (said : Said) → speak_linked turn a ≡ Ok said
+      → Spoke z total breaks turn role a said
+  spoke er all = by-linked (Spoke z total breaks turn role a) turn a (spoke-ways er all)
 
   -- where the segments' clock doesn't run that of the break alone can expire
   pub untimed : (P : Said → Type 0) → a.wait.timer ≡ None
@@ -214,42 +217,30 @@ pub record SpeaksAs (z : Rates) (total breaks turn : ℕ) (role : Role) (p : Pha
   pub falls : value z total breaks (turn + 1) role q b + lasts z.room (lives turn role p a)
       (lives (turn + 1) role q b) ≤ value z total breaks turn role p a
 
-abbrev pub SpeaksWell : Rates → ℕ → ℕ → ℕ → Role → Phase → Account → Result Said LinkFault → Type 0
-SpeaksWell z total breaks turn role p a (Err fault) = Unit {0}
-SpeaksWell z total breaks turn role p a (Ok said) = (q : Phase) × SpeaksAs z total breaks turn role p a q said.account
-
 lasts-both : (k : ℕ) (w b w' b' : Bool) → (b ≡ false → b' ≡ false)
     → lasts k (w || b) (w' || b') ≤ one_if w + cond w 0 (cond w' (k + 1) 0) + one_if b
 lasts-both k w b w' b' h = grind (arith)
 
-pub speaks-linked : (z : Rates) (total breaks turn : ℕ) (role : Role) (a : Account) → AreRates z → IsOf z a.setup
-    → Linked z (turn + 1) turn role a → a.phase ≡ Connected → a.setup.role ≡ role → length a.outgoing.pieces ≤ total
-    → SpeaksWell z total breaks turn role Connected a (speak_linked turn a)
-speaks-linked z total breaks turn role a y k h e er all = go (speak_linked turn a) refl
-  where
-    by : (said : Said) → Spoke z total breaks turn role a said → SpeaksAs z total breaks turn role Connected a Connected said.account
-    by said x = let t = x.is_timed in let s = x.stepped in let c = said.account in record {
-      phase = s.phase ∙ (t.phase ∙ e);
-      keeps = λ f. refl;
-      opens = λ f. refl;
-      stands = s.linked;
-      setup = s.setup ∙ t.setup;
-      pieces = s.pieces ∙ t.pieces;
-      ended = s.ended ∙ t.ended;
-      lengths = s.lengths ∙ t.ticked.lengths;
-      falls = omega (
-        arith,
-        t.waited.falls,
-        t.ticked.falls,
-        s.falls,
-        s.left,
-        lasts-both z.room (is_waiting a.outgoing) (is_breaking turn a.own_breaks) (is_waiting c.outgoing)
-            (is_breaking (turn + 1) c.own_breaks) (λ f. s.breaking ∙ t.ticked.lives f),
-        ap (λ w. cond w 0 (cond (is_waiting c.outgoing) (z.room + 1) 0)) t.waited.waits,
-        ap (λ l. z.quota * (breaks - length l)) s.lengths,
-      );
-    }
-
-    go : (r : Result Said LinkFault) → speak_linked turn a ≡ r → SpeaksWell z total breaks turn role Connected a r
-    go (Err fault) f = tt
-    go (Ok said) f = (Connected, by said (spoke z total breaks turn role a y k h er all said f))
+pub spoken-linked : (z : Rates) (total breaks turn : ℕ) (role : Role) (a : Account) (said : Said) → a.phase ≡ Connected
+    → Spoke z total breaks turn role a said → SpeaksAs z total breaks turn role Connected a Connected said.account
+spoken-linked z total breaks turn role a said e x = let t = x.is_timed in let s = x.stepped in let c = said.account in record {
+  phase = s.phase ∙ (t.phase ∙ e);
+  keeps = λ f. refl;
+  opens = λ f. refl;
+  stands = s.linked;
+  setup = s.setup ∙ t.setup;
+  pieces = s.pieces ∙ t.pieces;
+  ended = s.ended ∙ t.ended;
+  lengths = s.lengths ∙ t.ticked.lengths;
+  falls = omega (
+    arith,
+    t.waited.falls,
+    t.ticked.falls,
+    s.falls,
+    s.left,
+    lasts-both z.room (is_waiting a.outgoing) (is_breaking turn a.own_breaks) (is_waiting c.outgoing)
+        (is_breaking (turn + 1) c.own_breaks) (λ f. s.breaking ∙ t.ticked.lives f),
+    ap (λ w. cond w 0 (cond (is_waiting c.outgoing) (z.room + 1) 0)) t.waited.waits,
+    ap (λ l. z.quota * (breaks - length l)) s.lengths,
+  );
+}

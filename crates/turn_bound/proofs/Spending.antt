@@ -1,17 +1,12 @@
-use Rattle.std.proofs.Common.{◌≡◌, ℕ, ◌+◌, ◌-◌, ◌*◌, Bool, true, false, nat_eq, nat_le, length, arith, refl, sym, ◌∙◌, ap, subst, Ok, Err}
-use Rattle.std.proofs.Common.{inl, inr, ◌⊎◌}
-use Rattle.link_account.proofs.Names.{nat_tests, Role, Originator, Answerer, LinkFault, Spent, Account, is_connected, spent, speak, Arrived}
-use Rattle.link_account.proofs.Names.{hear}
-use Rattle.link_run.proofs.Names.{Phase, Negotiating, Establishing, Connected, Releasing, User, is_busy}
+use Rattle.std.proofs.Common.{◌≡◌, ℕ, ◌+◌, ◌-◌, ◌*◌, Bool, true, false, nat_eq, nat_le, arith, refl, sym, ◌∙◌, ap, subst, Err, inl, inr}
+use Rattle.std.proofs.Common.{◌⊎◌}
+use Rattle.link_account.proofs.Names.{nat_tests, Role, Originator, Answerer, LinkFault, Account, is_connected, spent, speak, Arrived}
+use Rattle.link_run.proofs.Names.{Phase, Negotiating, Establishing, Connected, Releasing, User}
 use Rattle.turn_bound.proofs.Clock.{Rates, AreRates, Runs, Ticks}
-use Rattle.turn_bound.proofs.Value.{IsOf, Linked, Tries, Stands, arrived_rnrs}
+use Rattle.turn_bound.proofs.Value.{IsOf, Linked, Tries, Stands}
 use Rattle.turn_bound.specs.Spent.{since, IsTimely}
-use Rattle.turn_bound.proofs.Run.{served_account}
 use Rattle.link_account.proofs.SpeakWays.{Ended, TryEnds, ReleaseEnds, TimerEnds, BreakEnds, Breaks, Undetected, Spends, why-broken}
-use Rattle.turn_bound.proofs.Phases.{hears-well}
-use Rattle.turn_bound.proofs.Serving.{serves-all}
-use Rattle.turn_bound.proofs.Serves.{serves-well}
-use Rattle.turn_bound.proofs.OneTurn.{heard-ok}
+use Rattle.turn_bound.proofs.OneTurn.{Hearing}
 
 -- the arithmetic: a clock expires with its last try
 on-time : (z : Rates) (before turn count set tries period : ℕ) → AreRates z → Runs z before turn count set → tries ≡ z.tries
@@ -55,11 +50,7 @@ speaks-spend z turn role p release a fault y k s e er h = go (why-broken turn re
         trying Answerer t = absurd t
 
     linked : a.phase ≡ Connected → Linked z (turn + 1) turn role a
-    linked q = by role (subst (λ x. Stands z (turn + 1) turn role x a) (sym e ∙ q) s)
-      where
-        by : (r : Role) → Stands z (turn + 1) turn r Connected a → Linked z (turn + 1) turn r a
-        by Originator t = t
-        by Answerer t = t
+    linked q = subst (λ x. Stands z (turn + 1) turn role x a) (sym e ∙ q) s
 
     whole-is : (a.setup.tries + 1) * a.setup.period ≡ z.whole
     whole-is = ap (λ n. (n + 1) * a.setup.period) k.tries ∙ ap (λ p. (z.tries + 1) * p) k.period ∙ sym y.whole
@@ -88,18 +79,8 @@ speaks-spend z turn role p release a fault y k s e er h = go (why-broken turn re
     go (Spends x f) = subst (IsTimely z.period z.whole turn a) (sym f) (by x)
 
 -- an end that has heard and is served
-pub end-spends : (z : Rates) (user : User) (turn : ℕ) (role : Role) (arrived : Arrived) (a mid : Account) (released release : Bool)
-    (fault : LinkFault) → AreRates z → IsOf z a.setup → Stands z turn turn role a.phase a → a.setup.role ≡ role
-    → hear turn arrived a ≡ Ok mid → speak turn release (served_account user turn released mid) ≡ Err fault
-    → IsTimely z.period z.whole turn (served_account user turn released mid) fault
-end-spends z user turn role arrived a mid released release fault y k h er hears breaks =
-    let b : Account = served_account user turn released mid in
-    let heard = heard-ok z (length a.outgoing.pieces) (length user.breaks) turn (z.quota * arrived_rnrs arrived) role a.phase a mid
-    (hear turn arrived a) hears
-    (hears-well z (length a.outgoing.pieces) (length user.breaks) turn role a.phase arrived a y k h refl er (omega arith)) in
-    let s = serves-all user turn released mid in
-    let serves = serves-well z (length a.outgoing.pieces) (length user.breaks) turn
-    (is_busy turn user.busy) role heard.0 mid b y heard.1.stands heard.1.phase s in
-    speaks-spend z turn role heard.0 release b fault y (subst (IsOf z) (sym (s.setup ∙ heard.1.setup)) k) serves.stands
-    (s.phase ∙ heard.1.phase)
-    (ap (λ x. x.role) (s.setup ∙ heard.1.setup) ∙ er) breaks
+pub end-spends : {z : Rates} {user : User} {turn : ℕ} {role : Role} {a : Account} {arrived : Arrived} {mid b : Account}
+    → Hearing z user turn role a arrived mid b → (release : Bool) (fault : LinkFault) → speak turn release b ≡ Err fault
+    → IsTimely z.period z.whole turn b fault
+end-spends {z} {turn = turn} {role = role} {b = b} i release fault breaks =
+    speaks-spend z turn role i.phase release b fault i.rates i.b_is_of i.b_stands i.b_phase i.b_role breaks

@@ -3,8 +3,6 @@ pub use Rattle.turn_bound.proofs.Clock.{AreRates, Rates, Sends, rates}
 pub use Rattle.turn_bound.proofs.Hearing.{HeardAs}
 pub use Rattle.turn_bound.proofs.MeetHear.{frame_disc, is_begun, of_arrived, of_frame}
 pub use Rattle.turn_bound.proofs.Meeting.{arrives-flag}
-pub use Rattle.turn_bound.proofs.OneTurn.{heard-ok}
-pub use Rattle.turn_bound.proofs.Phases.{hears-well}
 pub use Rattle.turn_bound.proofs.Run.{served_account}
 pub use Rattle.turn_bound.proofs.Serves.{serves-well}
 pub use Rattle.turn_bound.proofs.Serving.{Served, serves-all}

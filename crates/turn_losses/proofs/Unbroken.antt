@@ -1,10 +1,7 @@
 -- Where a user asks for no break, none waits.
-use Rattle.std.proofs.Common.{inl, inr, ◌≡◌, ℕ, Bool, true, false, cond, List, [], ◌∷◌, length, arith, refl, sym, ◌∙◌, ap, subst, Result}
-use Rattle.std.proofs.Common.{Ok, Err}
-use Rattle.link_account.proofs.Names.{nat_tests, Role, Originator, Answerer, of, OwnBreaks, waits, LinkFault, Account, is_connected, Said}
-use Rattle.link_account.proofs.Names.{speak}
-use Rattle.link_run.proofs.Names.{Phase, BreakLine, is_busy, Link, Accounts, Turn, RunOf, SpeaksAt, served_at, said_at, IsCarried, Hears}
-use Rattle.turn_bound.proofs.Speaking.{SpeaksWell}
+use Rattle.std.proofs.Common.{inl, inr, ◌≡◌, ℕ, Bool, true, false, cond, List, [], ◌∷◌, length, arith, refl, sym, ◌∙◌, ap, subst}
+use Rattle.link_account.proofs.Names.{nat_tests, Role, Originator, Answerer, of, OwnBreaks, waits, Account, is_connected}
+use Rattle.link_run.proofs.Names.{BreakLine, is_busy, Link, Accounts, Turn, RunOf, SpeaksAt, served_at, said_at, IsCarried, Hears}
 use Rattle.turn_bound.proofs.Turning.{speaks-well}
 use Rattle.turn_losses.proofs.Tracing.{release_of, said-as}
 use Rattle.turn_losses.specs.Tries.{GivesUpUnbroken}
@@ -21,12 +18,6 @@ served-none turn breaks busy a b none s e = elim s.own [
   | inl q ↦ ap (λ (x : OwnBreaks). length x.lengths) q ∙ e
   | inr z ↦ (let n = ap (λ (x : List BreakLine). length x) none in absurd (omega (arith, z.2, n)))
 ]
-
-said-lengths : (z : Rates) (total breaks turn : ℕ) (role : Role) (p : Phase) (a : Account) (said : Said) (r : Result Said LinkFault)
-    → r ≡ Ok said → SpeaksWell z total breaks turn role p a r → said.account.own_breaks.lengths ≡ a.own_breaks.lengths
-said-lengths z total breaks turn role p a said (Err fault) e h = cc
-said-lengths z total breaks turn role p a said (Ok x) e h = let same : x ≡ said = cc in ap (λ y. y.account.own_breaks.lengths) (sym same)
-    ∙ h.1.lengths
 
 -- what an end that has heard and is served has taken
 served-taken : (tries period : ℕ) (delay : Role → ℕ) (link : Link) (ts : List Turn) (ends : Accounts) → KeepsTime tries period delay link
@@ -49,11 +40,10 @@ none-taken tries period delay link (t ∷ ts) ends k (before, run, g) c r none =
     let s : SpeaksAt (said_at link turn g.mid r) (of r t) (of r ends) = g.speaking r in
     let own = served-taken tries period delay link ts before k run c.1 r none
     (none-taken tries period delay link ts before k run c.1 r none) t g.mid g.hearing in
-    let same = said-lengths z (length b.outgoing.pieces) (length (of r link).user.breaks) turn r i.phase b s.said
-    (speak turn (release_of link turn g.mid r) b) (sym (said-as link turn g.mid r) ∙ s.says)
-    (speaks-well z (length b.outgoing.pieces) (length (of r link).user.breaks) turn r i.phase (release_of link turn g.mid r) b
-    i.rated (subst (IsOf z) (i.setup ∙ sym i.b_setup) i.is_of) i.b_stands (i.served.phase ∙ i.heard.phase) i.b_role (omega arith)) in
-    ap taken s.after_is ∙ (ap (λ (l : List ℕ). length l) same ∙ own)
+    let said = speaks-well z (length b.outgoing.pieces) (length (of r link).user.breaks) turn r i.phase (release_of link turn g.mid r) b s.said
+    i.rated (subst (IsOf z) (i.setup ∙ sym i.b_setup) i.is_of) i.b_stands (i.served.phase ∙ i.heard.phase) i.b_role (omega arith)
+    (sym (said-as link turn g.mid r) ∙ s.says) in
+    ap taken s.after_is ∙ (ap (λ (l : List ℕ). length l) said.1.lengths ∙ own)
 
 pub gives-up-unbroken : GivesUpForLosses → GivesUpUnbroken
 gives-up-unbroken law tries period delay link ts before t mid role fault kt none run cs broken =
