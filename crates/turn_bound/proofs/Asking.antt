@@ -1,6 +1,6 @@
 -- What serving an end makes of what may hold up a segment.
-use Rattle.std.proofs.Common.{◌≡◌, ℕ, ◌+◌, ◌-◌, ◌≤◌, ◌&&◌, not, min, Bool, true, false, cond, nat_lt, nat_le, [], ◌∷◌, ◌++◌}
-use Rattle.std.proofs.Common.{length, length-append, inl, inr, arith, refl, ap}
+use Rattle.std.proofs.Common.{◌≡◌, ℕ, ◌+◌, ◌-◌, ◌≤◌, ◌&&◌, not, min, Bool, true, false, cond, nat_lt, nat_le, [], ◌∷◌, ◌++◌, length}
+use Rattle.std.proofs.Common.{length-append, inl, inr, arith, refl, ap}
 use Rattle.link_account.proofs.Names.{nat_tests, OwnBreaks, waits, after_ask, is_some, Account}
 use Rattle.turn_bound.proofs.Clock.{Rates, Breaks}
 use Rattle.turn_bound.proofs.Credits.{own_value}

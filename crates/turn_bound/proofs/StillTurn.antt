@@ -1,13 +1,13 @@
+use Rattle.turn_bound.proofs.Value.{connected-is, two_if, four_if, linked_lives, IsOf, Linked, Stands, dues, weight, arrived_weight}
 use Rattle.std.proofs.Common.{◌≡◌, ℕ, ◌+◌, ◌<◌, ◌≤◌, ◌&&◌, ◌||◌, not, Bool, true, false, cond, nat_eq, nat_lt, nat_le, [], ◌∷◌, ◌++◌}
 use Rattle.std.proofs.Common.{length, length-append, arith, refl, sym, ◌∙◌, ap, subst, Option, Some, None, Ok}
 use Rattle.link_account.proofs.Names.{is_some, nat_tests, Role, Outgoing, is_outstanding, wanted, OwnBreaks, after_ask, waits, Arrived}
 use Rattle.link_account.proofs.Names.{Account, is_connected, after_break_asked, is_originator, Said, speak, speak_linked, ticked}
-use Rattle.link_run.proofs.Names.{Phase, Connected, User, BreakLine, is_busy, has_finished, next_break}
+use Rattle.link_run.proofs.Names.{Connected, User, BreakLine, is_busy, has_finished, next_break}
 use Rattle.lapm_sender.specs.Outgoing.{is_whole}
 use Rattle.link_account.specs.Account.{is_done, break_waits}
 use Rattle.link_account.specs.Speak.{breaking}
 use Rattle.turn_bound.proofs.Clock.{Rates, AreRates, is_waiting, is_free, one_if, Breaks, is_breaking}
-use Rattle.turn_bound.proofs.Value.{two_if, four_if, linked_lives, IsOf, Linked, Stands, dues, weight, arrived_weight}
 use Rattle.turn_bound.proofs.Run.{served_account}
 use Rattle.link_run.specs.End.{asked_at, is_ready}
 use Rattle.turn_bound.proofs.Serving.{Served, serves-first, serves-own, before_asking}
@@ -78,10 +78,6 @@ speaks-still z total breaks turn role b said y k h er all e dead busy may more =
           all = all;
         }))
 
-pub only-connected : (p : Phase) → is_connected p ≡ true → p ≡ Connected
-only-connected Connected e = refl
-only-connected p e = cc
-
 -- A turn of an end that stays Connected.
 pub record Stays (z : Rates) (turn : ℕ) (user : User) (role : Role) (a mid b : Account) (release : Bool) (said : Said) : Type 0 where
   pub mid_phase : mid.phase ≡ Connected
@@ -99,7 +95,7 @@ module _ {z : Rates} {user : User} {turn : ℕ} {role : Role} {a : Account} {arr
   stays e release {said} speaks after =
       let spoke = spoken-as i (length b.outgoing.pieces) release speaks (omega arith) in
       let linked : i.phase ≡ Connected =
-      only-connected i.phase
+      connected-is i.phase
       (not-false (is_connected i.phase)
       (λ f. let same : Connected ≡ i.phase = sym after ∙ (spoke.1.phase ∙ spoke.1.keeps f) in let wrong : true ≡ false =
       ap is_connected same ∙ f in cc)) in

@@ -3,6 +3,7 @@ use Rattle.link_account.proofs.Names.{BreakFault, word_in, Sent, Arrived, Accoun
 use Rattle.link_run.proofs.Names.{Setup, Phase, Detecting, Negotiating, Establishing, Connected, Releasing, Closed}
 use Rattle.std.specs.Prelude.{◌≡◌, ℕ, ◌+◌, ◌-◌, ◌*◌, ◌≤◌, Bool, true, false, not, cond, ◌&&◌, ◌||◌, length, Option, Some, None, Result, Ok}
 use Rattle.std.specs.Prelude.{Err}
+use Rattle.std.proofs.Common.{refl}
 use Rattle.link_account.specs.Laws.{has_begun}
 use Rattle.xid_params.specs.declared.terms.Terms.{Terms}
 use Rattle.break_signals.specs.Breaks.{no_breaks}
@@ -113,6 +114,10 @@ StandsIn Releasing Answerer z before turn a = ⊥
 
 abbrev pub Stands : Rates → ℕ → ℕ → Role → Phase → Account → Type 0
 Stands z before turn role p a = StandsIn p role z before turn a
+
+pub connected-is : (p : Phase) → is_connected p ≡ true → p ≡ Connected
+connected-is Connected e = refl
+connected-is p e = cc
 
 -- by what phases are
 pub linked-of : (z : Rates) (before turn : ℕ) (role : Role) (p : Phase) (a : Account) → Stands z before turn role p a → is_connected p ≡ true

@@ -11,9 +11,8 @@ use Rattle.link_run.specs.Run.{finished_at, served_ends}
 use Rattle.turn_bound.specs.Time.{KeepsTime}
 use Rattle.turn_bound.specs.Advance.{NeverBusy}
 use Rattle.turn_bound.proofs.Clock.{Rates, rates, AreRates}
-use Rattle.turn_bound.proofs.Value.{IsOf, Linked, Stands, arrived_weight, arrived_rnrs, unlinked-of}
+use Rattle.turn_bound.proofs.Value.{IsOf, Linked, Stands, arrived_weight, arrived_rnrs, unlinked-of, connected-is}
 use Rattle.turn_bound.proofs.Run.{served_account}
-use Rattle.turn_bound.proofs.StillTurn.{only-connected}
 use Rattle.turn_bound.proofs.Speaking.{spoke}
 use Rattle.turn_bound.proofs.MeetHear.{is_begun, of_arrived}
 use Rattle.turn_bound.proofs.Credits.{frame_poll}
@@ -134,7 +133,7 @@ told-now z turn role release b said y s e open_ told = go (is_connected b.phase)
     go true h = by (release && is_originator b.setup.role) refl (subst (λ q. speak_in q turn release b ≡ Ok said) linked e)
       where
         linked : b.phase ≡ Connected
-        linked = only-connected b.phase h
+        linked = connected-is b.phase h
 
         by : (x : Bool) → release && is_originator b.setup.role ≡ x
             → cond x (speak_releasing turn (trying Releasing turn b)) (speak_linked turn b) ≡ Ok said → release ≡ true

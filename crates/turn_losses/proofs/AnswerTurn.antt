@@ -1,9 +1,9 @@
+use Rattle.turn_bound.proofs.Value.{connected-is, linked-of}
 use Rattle.std.proofs.Common.{◌⊎◌, inl, inr, ◌≡◌, ℕ, ◌+◌, ◌<◌, Bool, true, false, nat_eq, length, arith, refl, sym, ◌∙◌, ap, subst, Option}
 use Rattle.std.proofs.Common.{Some, None, Ok}
-use Rattle.turn_bound.proofs.Value.{linked-of}
 use Rattle.turn_bound.proofs.Turning.{linked-says}
 use Rattle.link_account.proofs.Names.{nat_tests, Role, is_outstanding, Arrived, Account, is_connected, hear, Said, speak, of}
-use Rattle.link_run.proofs.Names.{Phase, Connected, is_busy, is_released, Link}
+use Rattle.link_run.proofs.Names.{Connected, is_busy, is_released, Link}
 use Rattle.link_account.specs.Speak.{timer_expires}
 use Rattle.turn_losses.proofs.Answered.{SendsSegment, AnswerTurn}
 use Rattle.turn_losses.proofs.Answering.{AnswerHeard, frame_rnr, answer-hears, Segment, urgent-says, front-may}
@@ -11,10 +11,6 @@ use Rattle.turn_losses.proofs.InTurn.{InTurn}
 use Rattle.turn_losses.proofs.PollHear.{PollHeard, poll-hears}
 use Rattle.turn_losses.proofs.Names.{Sends, Served, is_poll, is_final, of_arrived, rates}
 use Rattle.lapm_frames.specs.declared.arrived.Arrived.TheVariants as arrivals
-
-pub connected-is : (p : Phase) → is_connected p ≡ true → p ≡ Connected
-connected-is Connected e = refl
-connected-is p e = cc
 
 not-expires : (turn : ℕ) (a : Account) (m : Option ℕ) → ((s : ℕ) → m ≡ Some s → turn < s + a.setup.period) → timer_expires turn a m ≡ false
 not-expires turn a None h = refl

@@ -16,9 +16,9 @@ use Rattle.turn_losses.proofs.Truths.{clash, is-true}
 use Rattle.turn_losses.proofs.EndTurn.{end-turn, last-turn}
 use Rattle.turn_losses.proofs.Clocks.{last}
 
-only-connected : (p : Phase) → is_linked p ≡ true → is_released p ≡ false → is_connected p ≡ true
-only-connected Connected l r = refl
-only-connected p l r = cc
+connected-open : (p : Phase) → is_linked p ≡ true → is_released p ≡ false → is_connected p ≡ true
+connected-open Connected l r = refl
+connected-open p l r = cc
 
 clocked : (z : Rates) (turn : ℕ) (a : Account) → Stands z turn turn Answerer a.phase a → is_connected a.phase ≡ true → (s : ℕ)
     → a.wait.timer ≡ Some s → a.numbered ≡ true
@@ -49,7 +49,7 @@ answerer-each laws w may t mid hearing going last = wants-answers w Answerer (co
     heard = (last-turn w t mid hearing Originator).polls
 
     peer-last : is_connected w.ends.orig.phase ≡ true
-    peer-last = elim (heard.from (only-connected mid.orig.phase (heard.linked linked-last) going)) [
+    peer-last = elim (heard.from (connected-open mid.orig.phase (heard.linked linked-last) going)) [
       | inl c ↦ c
       | inr u ↦ clash (is_linked w.ends.orig.phase) linked-last u
     ]

@@ -1,7 +1,7 @@
 -- What hearing makes of the wait for a poll's answer, at a Connected end: a response with F = 1 ends it, and nothing else.
 use Rattle.std.proofs.Common.{◌≡◌, ℕ, true, false, cond, refl, sym, ap, Ok}
 use Rattle.link_account.proofs.Names.{Arrived, Account, is_connected, hear}
-use Rattle.turn_losses.proofs.AnswerTurn.{connected-is}
+use Rattle.turn_bound.proofs.Value.{connected-is}
 use Rattle.link_account.proofs.HearWays.{by-linked}
 use Rattle.turn_losses.proofs.HeardNumber.{number-rows, plain-frame}
 use Rattle.turn_losses.proofs.Names.{of_arrived, is_final}

@@ -7,7 +7,7 @@ use Rattle.link_run.specs.Run.{BrokenTurn}
 use Rattle.link_run.specs.Laws.{EachEndIsNamed, IsNamed}
 use Rattle.turn_bound.proofs.Serving.{serves-all}
 use Rattle.turn_losses.specs.Losses.{LosesEach, OriginatorWantsAnswers, OriginatorIsStarved, OriginatorWantsPattern, UndetectedIsStarved}
-use Rattle.turn_losses.proofs.AnswerTurn.{connected-is}
+use Rattle.turn_bound.proofs.Value.{connected-is}
 use Rattle.turn_losses.specs.Tries.{OriginatorWantsFrame, AnswererWantsAnswer, IsForLosses, GivesUpForLosses}
 use Rattle.turn_losses.proofs.Parting.{answerer-gives-up}
 use Rattle.turn_losses.proofs.Periods.{later-loses}

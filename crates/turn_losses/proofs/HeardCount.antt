@@ -2,7 +2,7 @@
 use Rattle.std.proofs.Common.{inr, ◌≡◌, ℕ, true, refl, Ok}
 use Rattle.link_account.proofs.Names.{Arrived, Account, is_connected, hear}
 use Rattle.turn_bound.proofs.Clock.{Rates, Sends}
-use Rattle.turn_losses.proofs.AnswerTurn.{connected-is}
+use Rattle.turn_bound.proofs.Value.{connected-is}
 use Rattle.link_account.proofs.HearWays.{by-linked}
 use Rattle.turn_losses.proofs.HeardNumber.{CountStays, number-rows}
 

@@ -2,7 +2,7 @@
 -- begins it.
 use Rattle.std.proofs.Common.{◌⊎◌, inl, ◌≡◌, ℕ, true, false, refl, sym, ◌∙◌, Ok}
 use Rattle.link_account.proofs.Names.{Arrived, Account, is_connected, hear}
-use Rattle.turn_losses.proofs.AnswerTurn.{connected-is}
+use Rattle.turn_bound.proofs.Value.{connected-is}
 use Rattle.link_account.proofs.HearWays.{by-linked}
 use Rattle.turn_losses.proofs.HeardNumber.{number-rows, plain-frame}
 use Rattle.turn_losses.proofs.Names.{of_arrived, is_final}

@@ -5,7 +5,7 @@ use Rattle.link_run.proofs.Names.{Phase, Releasing, is_released, is_closed, arri
 use Rattle.link_account.specs.Account.{break_waits}
 use Rattle.link_run.specs.Run.{BrokenTurn}
 use Rattle.link_run.specs.Starved.{IsStarved}
-use Rattle.turn_losses.proofs.AnswerTurn.{connected-is}
+use Rattle.turn_bound.proofs.Value.{connected-is}
 use Rattle.turn_losses.proofs.Tracing.{release_of, timed-run}
 use Rattle.turn_losses.proofs.Numbering.{Plays}
 use Rattle.turn_losses.proofs.Wanting.{SpendsTries, LastTry, SpendsBreak, connected-spends, last-tries}

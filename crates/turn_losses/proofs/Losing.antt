@@ -8,7 +8,7 @@ use Rattle.turn_losses.proofs.LineLaw.{is-heard, was-sent, last-heard}
 use Rattle.turn_losses.proofs.PollLaws.{two-ends}
 use Rattle.turn_losses.proofs.PeriodLaws.{NoneLost}
 use Rattle.turn_losses.proofs.PeriodHolds.{LostIn, lost-or-none}
-use Rattle.turn_losses.proofs.AnswerTurn.{connected-is}
+use Rattle.turn_bound.proofs.Value.{connected-is}
 use Rattle.turn_losses.proofs.Establishing.{is_sabme}
 use Rattle.turn_losses.proofs.BreakHear.{answered_own, break-heard}
 use Rattle.turn_losses.proofs.BreakTurn.{waits-not, wait-ends, served-own, Deeds, number_of, brk_due}

@@ -6,7 +6,7 @@ use Rattle.link_account.proofs.Names.{is_some, Role, Sent, Arrived, Account, is_
 use Rattle.link_run.proofs.Names.{Link}
 use Rattle.turn_losses.proofs.InTurn.{InTurn}
 use Rattle.turn_losses.proofs.PollSpeak.{SaidPoll, poll-speaks}
-use Rattle.turn_losses.proofs.AnswerTurn.{connected-is}
+use Rattle.turn_bound.proofs.Value.{connected-is}
 use Rattle.turn_losses.proofs.HeardPaused.{PausedHeard, paused-hears}
 use Rattle.turn_losses.proofs.NumberHear.{nr_sent, ns_sent, NumbersHeard, numbers-heard}
 use Rattle.turn_losses.proofs.NumberSpeak.{NumbersSaid, linked-numbers}

@@ -1,7 +1,7 @@
 -- An answerer that gives up, also while the originator releases.
 use Rattle.std.proofs.Common.{◌⊎◌, inl, inr, ◌≡◌, ◌≢◌, ℕ, zero, suc, ◌+◌, ◌-◌, ◌*◌, ◌<◌, ◌≤◌, ◌&&◌, ◌||◌, not, Bool, true, false, cond}
 use Rattle.std.proofs.Common.{nat_eq, max, List, ◌∷◌, length, arith, refl, sym, ◌∙◌, ap, subst, Some, None, Ok, Err}
-use Rattle.turn_bound.proofs.Value.{linked-of}
+use Rattle.turn_bound.proofs.Value.{linked-of, connected-is}
 use Rattle.turn_bound.proofs.Turning.{stopped}
 use Rattle.link_account.proofs.Names.{cases_lt, nat_tests, Role, Originator, Answerer, is_originator, Outgoing, ReadsWritten, waits}
 use Rattle.link_account.proofs.Names.{Arrived, LinkFault, Spent, Account, is_connected, hear, trying, MayPlay, Said, speak, speak_in}
@@ -17,7 +17,6 @@ use Rattle.turn_losses.proofs.Truths.{and-two, clash, is-true}
 use Rattle.turn_losses.proofs.Periods.{once, later-loses, loses-at, loses-last, loses-of}
 use Rattle.turn_losses.specs.Losses.{AnswererWantsAnswers}
 use Rattle.turn_losses.proofs.PollHear.{linked-connected}
-use Rattle.turn_losses.proofs.AnswerTurn.{connected-is}
 use Rattle.turn_losses.proofs.Tracing.{timed-run, longer}
 use Rattle.turn_losses.proofs.Numbering.{Plays, counts-of}
 use Rattle.turn_losses.proofs.LineLaw.{is-heard, last-heard}

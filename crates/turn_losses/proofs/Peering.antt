@@ -6,7 +6,7 @@ use Rattle.turn_bound.proofs.MeetHear.{o-hears}
 use Rattle.turn_bound.proofs.Serving.{serves-first, before_asking}
 use Rattle.turn_losses.proofs.Truths.{clash, is-true}
 use Rattle.turn_losses.proofs.PollHear.{linked-connected}
-use Rattle.turn_losses.proofs.AnswerTurn.{connected-is}
+use Rattle.turn_bound.proofs.Value.{connected-is}
 use Rattle.turn_losses.proofs.PollLaws.{two-ends}
 use Rattle.turn_losses.proofs.Moving.{try-heard}
 use Rattle.turn_losses.proofs.Parting.{told-at, connected-or}

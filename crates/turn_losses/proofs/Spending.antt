@@ -1,10 +1,9 @@
 -- An end that gives up while a break waits: by the clock of its segments, or by that of the break.
 use Rattle.std.proofs.Common.{◌⊎◌, inl, inr, ◌≡◌, ℕ, ◌+◌, ◌≤◌, true, false, length, arith, sym, ◌∙◌, ap}
 use Rattle.link_account.proofs.Names.{Role, waits, Arrived, Account, is_connected}
-use Rattle.turn_bound.proofs.Value.{linked-of, unlinked-of, Linked}
+use Rattle.turn_bound.proofs.Value.{linked-of, unlinked-of, Linked, connected-is}
 use Rattle.link_run.proofs.Names.{Link}
 use Rattle.turn_losses.proofs.Truths.{clash}
-use Rattle.turn_losses.proofs.AnswerTurn.{connected-is}
 use Rattle.turn_losses.proofs.Wanting.{SpendsBreak}
 use Rattle.turn_losses.proofs.BreakHear.{Unanswered, answered_own, break-heard}
 use Rattle.turn_losses.proofs.BreakTurn.{served-own, waits-not}

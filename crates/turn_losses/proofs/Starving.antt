@@ -6,7 +6,7 @@ use Rattle.link_run.specs.Starved.{SpanLoses, IsStarved}
 use Rattle.turn_bound.specs.Together.{Together}
 use Rattle.turn_losses.proofs.Periods.{later-turn}
 use Rattle.turn_losses.specs.Losses.{OriginatorWantsAnswers, OriginatorIsStarved}
-use Rattle.turn_losses.proofs.AnswerTurn.{connected-is}
+use Rattle.turn_bound.proofs.Value.{connected-is}
 use Rattle.turn_losses.proofs.Tracing.{timed-run}
 use Rattle.turn_losses.proofs.Numbering.{Plays, counts-of}
 use Rattle.turn_losses.proofs.Wanting.{LastTry, last-try, wants-answers}

@@ -1,11 +1,10 @@
 -- Each turn of a run after which an end is Connected, by its breaks.
 use Rattle.std.proofs.Common.{◌⊎◌, inl, inr, ◌≡◌, ℕ, ◌+◌, ◌<◌, ◌≤◌, Bool, true, false, length, arith, refl, sym, ◌∙◌, ap, subst}
 use Rattle.link_account.proofs.Names.{is_some, cases_lt, Role, of, waits, Arrived, Account, is_connected}
-use Rattle.turn_bound.proofs.Value.{linked-of, unlinked-of, Linked, IsAck}
+use Rattle.turn_bound.proofs.Value.{linked-of, unlinked-of, Linked, IsAck, connected-is}
 use Rattle.turn_bound.proofs.Turning.{linked-says}
 use Rattle.link_run.proofs.Names.{arrival, served_at}
 use Rattle.turn_losses.proofs.Truths.{clash}
-use Rattle.turn_losses.proofs.AnswerTurn.{connected-is}
 use Rattle.turn_losses.proofs.Tracing.{release_of}
 use Rattle.turn_losses.proofs.BreakHear.{quiet-heard, break-heard}
 use Rattle.turn_losses.proofs.BreakSpeak.{SaidBreaks, breaks-said}

@@ -2,11 +2,10 @@
 use Rattle.std.proofs.Common.{◌⊎◌, inl, inr, ◌≡◌, ℕ, ◌+◌, ◌*◌, ◌<◌, ◌≤◌, Bool, true, false, length, arith, sym, ◌∙◌, ap, Some, Err, subst}
 use Rattle.link_account.proofs.Names.{nat_tests, Role, other, of, waits, Arrived, LinkFault, Account, is_connected, speak, IsAllowed}
 use Rattle.link_account.proofs.Names.{MayPlay, false≢true}
-use Rattle.turn_bound.proofs.Value.{linked-of}
+use Rattle.turn_bound.proofs.Value.{linked-of, connected-is}
 use Rattle.link_run.proofs.Names.{Connected, Releasing, Phase, Detecting, Negotiating, Establishing, Turn, Accounts, Hears, arrival}
 use Rattle.link_run.proofs.Names.{served_at, Link}
 use Rattle.turn_losses.proofs.Periods.{once, loses-of}
-use Rattle.turn_losses.proofs.AnswerTurn.{connected-is}
 use Rattle.link_account.proofs.SpeakWays.{Ended, TryEnds, ReleaseEnds, TimerEnds, BreakEnds, Breaks, Undetected, Spends, why-broken}
 use Rattle.turn_losses.proofs.HeardCount.{CountKept, count-hears}
 use Rattle.turn_losses.proofs.PollLaws.{two-ends}
