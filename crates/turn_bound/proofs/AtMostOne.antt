@@ -3,8 +3,7 @@ use Rattle.std.proofs.Common.{None, Ok}
 use Rattle.link_account.proofs.Names.{Role, Originator, Answerer, Frame, is_originator, Arrived, Account, is_connected, hear, without_adp}
 use Rattle.link_account.proofs.Names.{trying, Said, speak}
 use Rattle.link_run.proofs.Names.{Phase, Connected, Releasing, Closed, Answer, User, is_busy, is_closed, is_released}
-use Rattle.turn_bound.proofs.Clock.{Rates}
-use Rattle.turn_bound.proofs.Value.{Stands}
+use Rattle.turn_bound.proofs.Value.{Rates, Stands}
 use Rattle.turn_bound.proofs.OneTurn.{Hearing}
 use Rattle.turn_bound.proofs.Falls.{hears-o, hears-a, Fits, after-is}
 use Rattle.turn_bound.proofs.Run.{Link, State, Turn, RunOf}

@@ -8,8 +8,7 @@ use Rattle.link_run.proofs.Names.{Crosses, Carries, IsCarried, sent_in, sent_ago
 use Rattle.link_run.specs.End.{BusyLine}
 use Rattle.turn_bound.specs.Time.{KeepsTime}
 use Rattle.turn_bound.specs.Advance.{NeverBusy}
-use Rattle.turn_bound.proofs.Clock.{Rates, rates, AreRates, one_if}
-use Rattle.turn_bound.proofs.Value.{IsOf, Stands, weight, rnrs, arrived_weight, arrived_rnrs}
+use Rattle.turn_bound.proofs.Value.{Rates, rates, AreRates, one_if, IsOf, Stands, weight, rnrs, arrived_weight, arrived_rnrs}
 use Rattle.turn_bound.proofs.Run.{served_account}
 use Rattle.turn_bound.proofs.Serving.{serves-all}
 use Rattle.turn_bound.proofs.Falls.{Sound, Fits}
@@ -18,12 +17,10 @@ use Rattle.turn_bound.proofs.Tied.{Tied, tied, keeps, link_of, turn_of, state_of
 use Rattle.turn_bound.proofs.Light.{Light, LightSaid, speaks-light}
 use Rattle.turn_bound.proofs.Lines.{arrives-weight, arrives-rnrs}
 use Rattle.turn_bound.proofs.MeetHear.{is_begun, of_arrived, of_frame}
-use Rattle.turn_bound.proofs.MeetSpeak.{speaks-so}
-use Rattle.turn_bound.proofs.Meeting.{arrives-flag}
-use Rattle.turn_bound.proofs.Credits.{frame_poll, poll_value, poll-most}
-use Rattle.turn_bound.proofs.Polling.{nineteen_if}
+use Rattle.turn_bound.proofs.Meeting.{speaks-so, arrives-flag}
+use Rattle.turn_bound.proofs.Taking.{frame_poll, poll_value, poll-most}
+use Rattle.turn_bound.proofs.Polled.{nineteen_if, poll-turn}
 use Rattle.turn_bound.proofs.Pausing.{goes-on, says-calm}
-use Rattle.turn_bound.proofs.Polled.{poll-turn}
 use Rattle.turn_bound.proofs.OneTurn.{Hearing, hearing}
 use Rattle.link_run.specs.Run as runs
 

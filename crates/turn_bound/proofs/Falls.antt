@@ -3,12 +3,11 @@ use Rattle.std.proofs.Common.{arith, refl, sym, ◌∙◌, ap, subst, Some, None
 use Rattle.link_account.proofs.Names.{nat_tests, Role, Originator, Answerer, Outgoing, wanted, Arrived, LinkFault, Account, is_connected}
 use Rattle.link_account.proofs.Names.{is_originator, Said, speak, Slot, other}
 use Rattle.link_run.proofs.Names.{Phase, Connected, User, is_busy, is_closed, is_released, has_finished}
-use Rattle.turn_bound.proofs.Clock.{Rates, is_waiting, is_free, lasts, one_if, is_breaking, AreRates}
-use Rattle.turn_bound.proofs.Value.{value, linked_lives, lives, IsOf, Linked, Stands, dues, arrived_rnrs}
+use Rattle.turn_bound.proofs.Value.{Rates, is_waiting, is_free, lasts, one_if, is_breaking, AreRates, value, linked_lives, lives, IsOf}
+use Rattle.turn_bound.proofs.Value.{Linked, Stands, dues, arrived_rnrs, kept}
 use Rattle.link_run.specs.End.{busy_left}
-use Rattle.turn_bound.proofs.Run.{served_account, Link, State, Turn, GoingTurn, arrival, left_on, slot_of}
-use Rattle.turn_bound.proofs.Potential.{weights, rnrs_on, Totals, is_alive, stall, potential, AreTogether}
-use Rattle.turn_bound.proofs.Arithmetic.{kept}
+use Rattle.turn_bound.proofs.Run.{served_account, Link, State, Turn, GoingTurn, arrival, left_on, slot_of, weights, rnrs_on, Totals}
+use Rattle.turn_bound.proofs.Run.{is_alive, stall, potential, AreTogether}
 use Rattle.turn_bound.proofs.Lines.{AllLight, arrived-well, weights-snoc, rnrs-snoc, light-snoc, weights-most, dues-most, busy-falls}
 use Rattle.turn_bound.proofs.Serving.{serves-all}
 use Rattle.turn_bound.proofs.OneTurn.{TurnsAs, one-turn, Hearing, hearing}

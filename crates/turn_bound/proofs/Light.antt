@@ -3,8 +3,7 @@ use Rattle.link_account.proofs.Names.{BreakWord, BreakFault, Brk, Ack, word_in, 
 use Rattle.link_account.proofs.Names.{nr_of, ready_frame, speak}
 use Rattle.link_run.proofs.Names.{Releasing, Answer}
 use Rattle.break_signals.specs.Words.{spelled}
-use Rattle.turn_bound.proofs.Clock.{one_if}
-use Rattle.turn_bound.proofs.Value.{two_if, weight, frame_weight, word_weight, rnrs, frame_rnrs}
+use Rattle.turn_bound.proofs.Value.{one_if, two_if, weight, frame_weight, word_weight, rnrs, frame_rnrs}
 use Rattle.link_account.proofs.SpeakWays.{Steps, Ways, by-ways, linked-alike, tries-alike, retimed}
 use Rattle.link_account.specs.declared.answer.Answer.TheVariants as answers
 

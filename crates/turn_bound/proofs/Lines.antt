@@ -2,11 +2,9 @@ use Rattle.std.proofs.Common.{◌≡◌, ℕ, ◌+◌, ◌-◌, ◌*◌, ◌<◌
 use Rattle.std.proofs.Common.{◌++◌, length, arith, refl}
 use Rattle.link_account.proofs.Names.{is_some, AllByRecursion, nat_tests, Sent, Arrived, Account, Slot, arrives}
 use Rattle.link_run.proofs.Names.{is_busy}
-use Rattle.turn_bound.proofs.Clock.{one_if, is_free}
-use Rattle.turn_bound.proofs.Value.{weight, rnrs, arrived_weight, arrived_rnrs, dues, two_if, four_if}
+use Rattle.turn_bound.proofs.Value.{one_if, is_free, weight, rnrs, arrived_weight, arrived_rnrs, dues, two_if, four_if}
 use Rattle.link_run.specs.End.{BusyLine, busy_left, busy_turns}
-use Rattle.turn_bound.proofs.Run.{arrival, left_on}
-use Rattle.turn_bound.proofs.Potential.{weights, rnrs_on}
+use Rattle.turn_bound.proofs.Run.{arrival, left_on, weights, rnrs_on}
 use Rattle.lapm_frames.specs.declared.sent.Sent.TheVariants as slots
 use Rattle.lapm_frames.specs.declared.arrived.Arrived.TheVariants as arrivals
 

@@ -1,15 +1,11 @@
 use Rattle.std.proofs.Common.{◌≡◌, ℕ, ◌+◌, ◌*◌, ◌≤◌, Bool, true, false, length, arith, sym, ◌∙◌, ap, subst, Ok}
 use Rattle.link_account.proofs.Names.{Role, Arrived, Account, hear, Said, speak}
 use Rattle.link_run.proofs.Names.{Phase, User, is_busy, is_closed}
-use Rattle.turn_bound.proofs.Clock.{Rates, AreRates, ends, lasts}
-use Rattle.turn_bound.proofs.Value.{value, lives, IsOf, Stands, arrived_rnrs}
+use Rattle.turn_bound.proofs.Value.{Rates, AreRates, ends, lasts, value, lives, IsOf, Stands, arrived_rnrs}
 use Rattle.turn_bound.proofs.Run.{served_account}
-use Rattle.turn_bound.proofs.Hearing.{HeardAs}
-use Rattle.turn_bound.proofs.Phases.{hears-well}
-use Rattle.turn_bound.proofs.Serving.{serves-all, Served}
-use Rattle.turn_bound.proofs.Serves.{serves-well}
-use Rattle.turn_bound.proofs.Speaking.{SpeaksAs}
-use Rattle.turn_bound.proofs.Turning.{speaks-well}
+use Rattle.turn_bound.proofs.Hearing.{HeardAs, hears-well}
+use Rattle.turn_bound.proofs.Serving.{serves-all, Served, serves-well}
+use Rattle.turn_bound.proofs.Speaking.{SpeaksAs, speaks-well}
 
 -- what a whole turn makes of an end
 pub record TurnsAs (z : Rates) (total breaks turn more : ℕ) (role : Role) (p : Phase) (a mid : Account) (q : Phase)

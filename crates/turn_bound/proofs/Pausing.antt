@@ -7,7 +7,7 @@ use Rattle.turn_bound.proofs.Value.{arrived_rnrs}
 use Rattle.link_account.proofs.HearWays.{numbered_with, acked, acked_back, resumed-unpaused}
 use Rattle.link_account.proofs.SpeakWays.{OnSaid, Steps, linked-alike, tries-alike, by-tries, retimed, next-keeps}
 use Rattle.turn_bound.proofs.MeetHear.{is_begun, of_frame}
-use Rattle.turn_bound.proofs.Credits.{frame_poll}
+use Rattle.turn_bound.proofs.Taking.{frame_poll}
 use Rattle.link_account.specs.declared.answer.Answer.TheVariants as answers
 use Rattle.link_account.proofs.HearWays as HearWays
 use Rattle.link_account.proofs.SpeakWays as SpeakWays

@@ -5,8 +5,8 @@ use Rattle.lapm_sender.specs.Numbers.{with_number, from_number}
 use Rattle.lapm_sender.specs.Outgoing.{gone_back, wait_ended, paused_at}
 use Rattle.link_account.specs.Hear.{timer_after, ends_wait}
 use Rattle.link_account.proofs.HearWays.{acked, acked_back}
-use Rattle.turn_bound.proofs.Clock.{Rates, AreRates, Ticks, left, is_waiting, IsChosen, Sends, is_free, ends, sender_value}
-use Rattle.turn_bound.proofs.Arithmetic.{paid, cond-le, stopped, left-some, ticks-later, ticks-now}
+use Rattle.turn_bound.proofs.Value.{Rates, AreRates, Ticks, left, is_waiting, IsChosen, Sends, is_free, ends, sender_value, paid, cond-le}
+use Rattle.turn_bound.proofs.Value.{stopped, left-some, ticks-later, ticks-now}
 
 -- whether hearing ended what the clock ran for
 abbrev pub ended : Outgoing → Outgoing → Bool

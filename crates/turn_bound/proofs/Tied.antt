@@ -7,8 +7,7 @@ use Rattle.link_run.proofs.Names.{is_released, Link, Accounts, Spoken, Turn, Goi
 use Rattle.link_run.proofs.Names.{sent_ago}
 use Rattle.link_run.specs.Carried.{HasDelays, has_message}
 use Rattle.turn_bound.specs.Time.{KeepsTime}
-use Rattle.turn_bound.proofs.Run.{arrival, left_on, slot_of, served_account, State}
-use Rattle.turn_bound.proofs.Potential.{Keeps}
+use Rattle.turn_bound.proofs.Run.{arrival, left_on, slot_of, served_account, State, Keeps}
 use Rattle.lapm_frames.specs.declared.sent.Sent.TheVariants as slots
 use Rattle.lapm_frames.specs.declared.arrived.Arrived.TheVariants as arrivals
 use Rattle.link_run.specs.Run as runs

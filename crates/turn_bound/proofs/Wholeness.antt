@@ -10,13 +10,11 @@ use Rattle.link_account.specs.Account.{is_done}
 use Rattle.link_run.specs.Run.{finished_at, served_ends}
 use Rattle.turn_bound.specs.Time.{KeepsTime}
 use Rattle.turn_bound.specs.Advance.{NeverBusy}
-use Rattle.turn_bound.proofs.Clock.{Rates, rates, AreRates}
-use Rattle.turn_bound.proofs.Value.{IsOf, Linked, Stands, arrived_weight, arrived_rnrs, unlinked-of, connected-is}
+use Rattle.turn_bound.proofs.Value.{Rates, rates, AreRates, IsOf, Linked, Stands, arrived_weight, arrived_rnrs, unlinked-of, connected-is}
 use Rattle.turn_bound.proofs.Run.{served_account}
 use Rattle.turn_bound.proofs.Speaking.{spoke}
 use Rattle.turn_bound.proofs.MeetHear.{is_begun, of_arrived}
-use Rattle.turn_bound.proofs.Credits.{frame_poll}
-use Rattle.turn_bound.proofs.Taking.{TakesNumber, Takes, Closes, takes}
+use Rattle.turn_bound.proofs.Taking.{frame_poll, TakesNumber, Takes, Closes, takes}
 use Rattle.turn_bound.proofs.Pausing.{goes-on, says-calm}
 use Rattle.turn_bound.proofs.Ending.{fits}
 use Rattle.turn_bound.proofs.Tied.{keeps, Tied, tied, link_of, turn_of, state_of}

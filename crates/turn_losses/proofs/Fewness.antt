@@ -5,9 +5,9 @@ use Rattle.link_account.proofs.Names.{slice_get, cases_lt, nat_tests, Originator
 use Rattle.link_run.proofs.Names.{Turn, LosesSome}
 use Rattle.link_run.specs.Counts.{lost_in, lost_slots}
 use Rattle.link_run.specs.Starved.{SpanLoses, IsLost, turn_at}
-use Rattle.turn_bound.proofs.Clock.{one_if}
+use Rattle.turn_bound.proofs.Value.{one_if}
 use Rattle.turn_bound.proofs.Tied.{is_lost}
-use Rattle.turn_losses.proofs.Counting.{one-most}
+use Rattle.turn_losses.proofs.Windows.{one-most}
 use Rattle.turn_losses.proofs.Truths.{and-two}
 use Rattle.turn_losses.specs.Losses.{StarvedLosesMany, LosslessIsFed}
 use Rattle.turn_losses.proofs.Periods.{later-turn}

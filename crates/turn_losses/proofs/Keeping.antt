@@ -5,12 +5,9 @@ use Rattle.link_run.proofs.Names.{Accounts, Spoken, Turn, arrival, sent_in, sent
 use Rattle.link_run.specs.Overheard.{passes_in}
 use Rattle.link_run.specs.Starved.{turn_at}
 use Rattle.turn_losses.specs.Polls.{is_frame_of, sends_of, PollsIn, PollsKeepApart, RepliesAtOnce, AnswersPoll, AnswersMatchPolls}
-use Rattle.turn_losses.proofs.KeepsPolls.{Answers, KeepsPolls, StillAwaited}
+use Rattle.turn_losses.proofs.PeriodLaws.{Answers, KeepsPolls, StillAwaited, looked, two-ends, due-apart, poll-fresh, poll-held-up}
+use Rattle.turn_losses.proofs.PeriodLaws.{polls-apart, reply-from, reply-at-once, reply-matches, still-awaited}
 use Rattle.turn_losses.proofs.Tracing.{OneMore, traced-turn, past-all, past-before, timed-run, timed-of}
-use Rattle.turn_losses.proofs.LineLaw.{looked}
-use Rattle.turn_losses.proofs.PollLaws.{two-ends, due-apart, poll-fresh, poll-held-up, polls-apart, reply-from, reply-at-once}
-use Rattle.turn_losses.proofs.PollLaws.{reply-matches}
-use Rattle.turn_losses.proofs.PeriodLaws.{still-awaited}
 use Rattle.turn_losses.proofs.Names.{of_frame, of_arrived, is_poll, is_final, Deed, past, sent_or, EndRun, TwoEnds, sends_poll, hears_poll}
 use Rattle.turn_losses.proofs.Names.{sends_final, hears_final, TimedRun, end_of}
 use Rattle.turn_losses.proofs.Truths.{and-not}

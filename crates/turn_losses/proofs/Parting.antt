@@ -2,7 +2,7 @@
 use Rattle.std.proofs.Common.{◌⊎◌, inl, inr, ◌≡◌, ◌≢◌, ℕ, zero, suc, ◌+◌, ◌-◌, ◌*◌, ◌<◌, ◌≤◌, ◌&&◌, ◌||◌, not, Bool, true, false, cond}
 use Rattle.std.proofs.Common.{nat_eq, max, List, ◌∷◌, length, arith, refl, sym, ◌∙◌, ap, subst, Some, None, Ok, Err}
 use Rattle.turn_bound.proofs.Value.{linked-of, connected-is}
-use Rattle.turn_bound.proofs.Turning.{stopped}
+use Rattle.turn_bound.proofs.Speaking.{stopped}
 use Rattle.link_account.proofs.Names.{cases_lt, nat_tests, Role, Originator, Answerer, is_originator, Outgoing, ReadsWritten, waits}
 use Rattle.link_account.proofs.Names.{Arrived, LinkFault, Spent, Account, is_connected, hear, trying, MayPlay, Said, speak, speak_in}
 use Rattle.link_account.proofs.Names.{speak_linked, speak_releasing, other}
@@ -17,27 +17,20 @@ use Rattle.turn_losses.proofs.Truths.{and-two, clash, is-true}
 use Rattle.turn_losses.proofs.Periods.{once, later-loses, loses-at, loses-last, loses-of}
 use Rattle.turn_losses.specs.Losses.{AnswererWantsAnswers}
 use Rattle.turn_losses.proofs.PollHear.{linked-connected}
-use Rattle.turn_losses.proofs.Tracing.{timed-run, longer}
+use Rattle.turn_losses.proofs.Tracing.{timed-run, longer, EndTurn, TurnAt, end-turn, last-turn, starts-fresh}
 use Rattle.turn_losses.proofs.Numbering.{Plays, counts-of}
-use Rattle.turn_losses.proofs.LineLaw.{is-heard, last-heard}
-use Rattle.turn_losses.proofs.PollLaws.{two-ends, turned, due-apart}
-use Rattle.turn_losses.proofs.PeriodLaws.{linked-on, answer-comes, NoneLost, StayConnected, connected-since}
-use Rattle.turn_losses.proofs.PeriodHolds.{LostIn, lost-or-none, period-cleared}
-use Rattle.turn_losses.proofs.Expiries.{Uncleared, expiries}
-use Rattle.turn_losses.proofs.HeardCount.{CountKept, count-hears}
-use Rattle.turn_losses.proofs.HeardPaused.{PausedHeard}
-use Rattle.turn_losses.proofs.Awaiting.{await-hears}
+use Rattle.turn_losses.proofs.PeriodLaws.{is-heard, last-heard, two-ends, turned, due-apart, linked-on, answer-comes, NoneLost}
+use Rattle.turn_losses.proofs.PeriodLaws.{StayConnected, connected-since}
+use Rattle.turn_losses.proofs.Expiries.{LostIn, lost-or-none, period-cleared, Uncleared, expiries}
+use Rattle.turn_losses.proofs.HeardNumber.{CountKept, count-hears, PausedHeard, await-hears}
 use Rattle.std.specs.Prelude.{nat_lt}
 use Rattle.turn_losses.proofs.Acknowledged.{Counts}
-use Rattle.turn_losses.proofs.Wanting.{LastTry, last-try}
+use Rattle.turn_losses.proofs.Wanting.{LastTry, last-try, peer-linked}
 use Rattle.turn_losses.specs.Tries.{AnswererWantsAnswer}
-use Rattle.turn_losses.proofs.Moving.{asks, try-heard, linked-phase}
-use Rattle.turn_losses.proofs.TryAnswering.{can_answer, answer-due}
+use Rattle.turn_losses.proofs.Moving.{asks, try-heard, linked-phase, can_answer, answer-due}
 use Rattle.turn_losses.proofs.Trying.{TryTurn, TriesSo, Tried, tried, tries-so}
 use Rattle.turn_losses.proofs.Names.{Rates, rates, Sends, Stands, of_arrived, is_lost, PeriodLoses, LosesEach, is_linked, EndRun, TwoEnds}
 use Rattle.turn_losses.proofs.Names.{hears_final, TimedRun, end_of}
-use Rattle.turn_losses.proofs.EndTurn.{EndTurn, TurnAt, end-turn, last-turn, starts-fresh}
-use Rattle.turn_losses.proofs.Answerer.{peer-linked}
 
 abbrev IsFree : Account → Type 0
 IsFree a = (a.outgoing.awaited ≡ false) × (a.outgoing.paused ≡ false)

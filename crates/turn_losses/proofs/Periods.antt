@@ -4,7 +4,7 @@ use Rattle.link_account.proofs.Names.{slice_get, Role, other, of, Heard, Lost}
 use Rattle.link_run.proofs.Names.{Turn, LosesSome}
 use Rattle.link_run.specs.Starved.{IsLost, turn_at}
 use Rattle.turn_losses.proofs.Names.{is_lost, PeriodLoses, TimedRun, end_of}
-use Rattle.turn_losses.proofs.PeriodHolds.{LostIn}
+use Rattle.turn_losses.proofs.Expiries.{LostIn}
 use Rattle.turn_losses.proofs.Keeping.{turn-is}
 
 pub lost-is : (h : Heard) → is_lost h ≡ true → IsLost h

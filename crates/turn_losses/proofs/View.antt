@@ -2,18 +2,15 @@
 use Rattle.std.proofs.Common.{◌⊎◌, inl, inr, ◌≡◌, ℕ, ◌+◌, ◌<◌, ◌≤◌, Bool, true, false, length, arith, refl, sym, ◌∙◌, ap, subst}
 use Rattle.link_account.proofs.Names.{is_some, cases_lt, Role, of, waits, Arrived, Account, is_connected}
 use Rattle.turn_bound.proofs.Value.{linked-of, unlinked-of, Linked, IsAck, connected-is}
-use Rattle.turn_bound.proofs.Turning.{linked-says}
+use Rattle.turn_bound.proofs.Speaking.{linked-says}
 use Rattle.link_run.proofs.Names.{arrival, served_at}
 use Rattle.turn_losses.proofs.Truths.{clash}
-use Rattle.turn_losses.proofs.Tracing.{release_of}
-use Rattle.turn_losses.proofs.BreakHear.{quiet-heard, break-heard}
-use Rattle.turn_losses.proofs.BreakSpeak.{SaidBreaks, breaks-said}
-use Rattle.turn_losses.proofs.BreakTurn.{Deeds, BreakTurn, break-turn}
-use Rattle.turn_losses.proofs.Begun.{old-heard}
+use Rattle.turn_losses.proofs.Tracing.{release_of, TurnAt, EndTurn, end-turn}
+use Rattle.turn_losses.proofs.BreakHear.{quiet-heard, break-heard, old-heard}
+use Rattle.turn_losses.proofs.BreakTurn.{SaidBreaks, breaks-said, Deeds, BreakTurn, break-turn}
 use Rattle.turn_losses.proofs.Windows.{Breaking}
 use Rattle.turn_losses.proofs.Establishing.{word-connected}
 use Rattle.turn_losses.proofs.Names.{Rates, rates, of_frame, is_linked, sent_or, TimedRun, end_of}
-use Rattle.turn_losses.proofs.EndTurn.{TurnAt, EndTurn, end-turn}
 use Rattle.turn_losses.proofs.Words.{any_brk, of_word}
 
 -- a turn of a run

@@ -2,13 +2,10 @@
 use Rattle.std.proofs.Common.{inl, inr, ◌≡◌, ℕ, ◌+◌, ◌-◌, ◌*◌, ◌%◌, ◌<◌, ◌≤◌, true, false, arith, refl, sym, ◌∙◌, ap}
 use Rattle.link_account.proofs.Names.{cases_lt, waits, Account, is_connected}
 use Rattle.turn_losses.proofs.Truths.{clash}
-use Rattle.turn_losses.proofs.LineLaw.{was-sent, is-heard}
-use Rattle.turn_losses.proofs.PollLaws.{turned}
-use Rattle.turn_losses.proofs.PeriodLaws.{NoneLost}
+use Rattle.turn_losses.proofs.PeriodLaws.{was-sent, is-heard, turned, NoneLost}
 use Rattle.turn_losses.proofs.Clocks.{Ticked, chain}
 use Rattle.turn_losses.proofs.BreakTurn.{Deeds, OwnTurn, wait-ends, BreakTurn, number_of, brk_due}
-use Rattle.turn_losses.proofs.Windows.{Breaking}
-use Rattle.turn_losses.proofs.Soon.{brk-goes, ack-goes}
+use Rattle.turn_losses.proofs.Windows.{Breaking, brk-goes, ack-goes}
 use Rattle.turn_losses.proofs.Names.{of_frame, of_arrived, EndRun, TwoEnds}
 use Rattle.turn_losses.proofs.Clocks.Ticked.{Begins, Expires, Stays}
 use Rattle.turn_losses.proofs.BreakTurn.OwnTurn.{Stays as OwnStays, Ends, Takes, Expires as OwnExpires}

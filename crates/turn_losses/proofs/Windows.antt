@@ -1,17 +1,149 @@
--- How soon a BRK goes, and the BRKACK that answers it.
-use Rattle.std.proofs.Common.{◌⊎◌, inl, inr, ◌≡◌, ℕ, ◌+◌, ◌-◌, ◌<◌, ◌≤◌, ◌&&◌, Bool, true, false, nat_le, arith, refl, sym, ◌∙◌, ap}
-use Rattle.link_account.proofs.Names.{cases_lt, nat_tests, OwnBreaks, waits, is_connected}
+-- How often something happens in some turns that follow one another.
+use Rattle.std.proofs.Common.{◌⊎◌, inl, inr, ◌≡◌, ℕ, zero, suc, ◌+◌, ◌-◌, ◌<◌, ◌≤◌, Bool, true, false, cond, arith, refl, ap, ◌&&◌, nat_le}
+use Rattle.std.proofs.Common.{sym, ◌∙◌, ◌*◌, subst, Option, Some, None}
+use Rattle.std.proofs.lemmas.Bool.{cases_lt}
+use Rattle.turn_losses.proofs.BreakTurn.{holds, Deeds, OwnTurn, made-set, BreakTurn, brk_due, number_of, ack_due}
+use Rattle.link_account.proofs.Names.{nat_tests, OwnBreaks, waits, is_connected, BreakWord}
 use Rattle.turn_losses.proofs.Truths.{not-true, and-two, and-drop, clash}
 use Rattle.turn_losses.proofs.PollHear.{linked-connected}
-use Rattle.turn_losses.proofs.LineLaw.{was-sent}
-use Rattle.turn_losses.proofs.PollLaws.{turned, polls-apart, reply-from, reply-matches}
-use Rattle.turn_losses.proofs.PeriodLaws.{connected-since}
-use Rattle.turn_losses.proofs.BreakTurn.{Deeds, OwnTurn, made-set, BreakTurn, brk_due}
+use Rattle.turn_losses.proofs.PeriodLaws.{was-sent, turned, polls-apart, reply-from, reply-matches, connected-since}
 use Rattle.turn_losses.proofs.BreakTurn.OwnTurn.{Stays, Ends, Takes, Expires}
-use Rattle.turn_losses.proofs.Counting.{hits, one_if, once, twice, at-most-made}
 use Rattle.turn_losses.proofs.Names.{of_frame, of_arrived, is_poll, EndRun, TwoEnds, sends_poll, sends_final, hears_final}
-use Rattle.turn_losses.proofs.Words.{any_brk, of_word}
-use Rattle.turn_losses.proofs.Kept.{kept-in}
+use Rattle.turn_losses.proofs.Words.{any_brk, of_word, ack_of, brk_of, pends_of, pends}
+use Rattle.turn_losses.proofs.Kept.{kept-in, until}
+use Rattle.turn_losses.proofs.Moving.{asks}
+
+abbrev pub one_if : Bool → ℕ
+one_if b = cond b 1 0
+
+abbrev pub hits : (ℕ → Bool) → ℕ → ℕ → ℕ
+hits f from zero = 0
+hits f from (suc n) = hits f from n + one_if (f (from + n))
+
+pub one-most : (b : Bool) → one_if b ≤ 1
+one-most true = omega arith
+one-most false = omega arith
+
+-- of hits that lie so far apart there is one at most in as many turns
+one-hit : (f : ℕ → Bool) (from n : ℕ) → 1 ≤ hits f from n → (t : ℕ) × (from ≤ t) × (t < from + n) × (f t ≡ true)
+one-hit f from zero h = let wrong : ⊥ = omega (arith, h) in absurd wrong
+one-hit f from (suc n) h = by (f (from + n)) refl (cases_lt (hits f from n) 1) (λ g. one-hit f from n g)
+  where
+    by : (x : Bool) → f (from + n) ≡ x → (hits f from n < 1) ⊎ (1 ≤ hits f from n)
+        → (1 ≤ hits f from n → (t : ℕ) × (from ≤ t) × (t < from + n) × (f t ≡ true))
+        → (t : ℕ) × (from ≤ t) × (t < from + suc n) × (f t ≡ true)
+    by x e (inr g) again = let z = again g in (z.0, z.1, omega (arith, z.2), z.3)
+    by true e (inl l) again = (from + n, omega arith, omega arith, e)
+    by false e (inl l) again = let none = ap one_if e in absurd (omega (arith, h, l, none))
+
+pub once : (f : ℕ → Bool) (apart turns : ℕ) → ((s t : ℕ) → s < t → t < turns → f s ≡ true → f t ≡ true → s + apart ≤ t) → (from n : ℕ)
+    → n ≤ apart → from + n ≤ turns → hits f from n ≤ 1
+once f apart turns h from zero l w = omega arith
+once f apart turns h from (suc n) l w = by (f (from + n)) refl (cases_lt (hits f from n) 1)
+    (once f apart turns h from n (omega (arith, l)) (omega (arith, w)))
+  where
+    by : (x : Bool) → f (from + n) ≡ x → (hits f from n < 1) ⊎ (1 ≤ hits f from n) → hits f from n ≤ 1 → hits f from (suc n) ≤ 1
+    by false e g k = let none = ap one_if e in omega (arith, k, none)
+    by true e (inl g) k = let one = one-most (f (from + n)) in omega (arith, g, one)
+    by true e (inr g) k = let x = one-hit f from n g in let far = h x.0 (from + n) x.2 (omega (arith, w)) x.3 e in let low = x.1 in absurd
+        (omega (arith, far, low, l))
+
+pub hits-sum : (f : ℕ → Bool) (from m n : ℕ) → hits f from (m + n) ≡ hits f from m + hits f (from + m) n
+hits-sum f from m zero = let same = ap (hits f from) (none m) in omega (arith, same)
+  where
+    none : (x : ℕ) → x + 0 ≡ x
+    none x = omega arith
+hits-sum f from m (suc n) =
+    let again = hits-sum f from m n in
+    let same : hits f from (m + suc n) ≡ hits f from (m + n) + one_if (f (from + (m + n))) = ap (hits f from) (next m n) in
+    let place : one_if (f (from + (m + n))) ≡ one_if (f (from + m + n)) = ap (λ x. one_if (f x)) (omega arith) in
+    omega (arith, again, same, place)
+  where
+    next : (x y : ℕ) → x + suc y ≡ suc (x + y)
+    next x y = omega arith
+
+pub twice : (f : ℕ → Bool) (apart turns : ℕ) → ((s t : ℕ) → s < t → t < turns → f s ≡ true → f t ≡ true → s + apart ≤ t) → (from n : ℕ)
+    → n ≤ apart + apart → from + n ≤ turns → hits f from n ≤ 2
+twice f apart turns h from n l w = elim (cases_lt n apart) [
+  | inl less ↦ (let one = once f apart turns h from n (omega (arith, less)) w in omega (arith, one))
+  | inr more ↦ split (omega (arith, more))
+]
+  where
+    split : apart ≤ n → hits f from n ≤ 2
+    split more =
+        let first = once f apart turns h from apart (omega arith) (omega (arith, w, more)) in
+        let second = once f apart turns h (from + apart) (n - apart) (omega (arith, l)) (omega (arith, w, more)) in
+        let sum = hits-sum f from apart (n - apart) in
+        let whole = ap (hits f from) (back apart n more) in
+        omega (arith, first, second, sum, whole)
+      where
+        back : (a m : ℕ) → a ≤ m → a + (m - a) ≡ m
+        back a m g = omega (arith, g)
+
+-- what happens only while something stands that another thing makes, and ends by it: once more than that, where it stands at first
+pub made-by : (f stands makes : ℕ → Bool) (from n : ℕ)
+    → ((t : ℕ) → from ≤ t → t < from + n → one_if (stands (t + 1)) + one_if (f t) ≤ one_if (stands t) + one_if (makes t))
+    → hits f from n + one_if (stands (from + n)) ≤ one_if (stands from) + hits makes from n
+made-by f stands makes from zero h = let same = ap (λ x. one_if (stands x)) (none from) in omega (arith, same)
+  where
+    none : (x : ℕ) → x + 0 ≡ x
+    none x = omega arith
+made-by f stands makes from (suc n) h =
+    let again = made-by f stands makes from n (λ t a b. h t a (omega (arith, b))) in
+    let now = h (from + n) (omega arith) (omega arith) in
+    let same : one_if (stands (from + suc n)) ≡ one_if (stands (from + n + 1)) = ap (λ x. one_if (stands x)) (omega arith) in
+    omega (arith, again, now, same)
+
+pub at-most-made : (f stands makes : ℕ → Bool) (from n : ℕ)
+    → ((t : ℕ) → from ≤ t → t < from + n → one_if (stands (t + 1)) + one_if (f t) ≤ one_if (stands t) + one_if (makes t))
+    → hits f from n ≤ 1 + hits makes from n
+at-most-made f stands makes from n h = let k = made-by f stands makes from n h in let one = one-most (stands from) in omega (arith, k, one)
+
+-- where one of these happens in each turn, they happen as often in all
+pub all-held : (final poll hurries acks special answer : ℕ → Bool) (from n : ℕ)
+    → ((t : ℕ) → from ≤ t → t < from + n → holds (final t) (poll t) (hurries t) (acks t) (special t) (answer t) ≡ true)
+    → n ≤ hits final from n + hits poll from n + hits hurries from n + hits acks from n + hits special from n + hits answer from n
+all-held final poll hurries acks special answer from zero h = omega arith
+all-held final poll hurries acks special answer from (suc n) h =
+    let again = all-held final poll hurries acks special answer from n (λ t a b. h t a (omega (arith, b))) in
+    let t : ℕ = from + n in
+    let one = count (final t) (poll t) (hurries t) (acks t) (special t) (answer t) (h t (omega arith) (omega arith)) in
+    omega (arith, again, one)
+  where
+    count : (a b c d e f : Bool) → holds a b c d e f ≡ true → 1 ≤ one_if a + one_if b + one_if c + one_if d + one_if e + one_if f
+    count true b c d e f q = omega arith
+    count false true c d e f q = omega arith
+    count false false true d e f q = omega arith
+    count false false false true e f q = omega arith
+    count false false false false true f q = omega arith
+    count false false false false false true q = omega arith
+    count false false false false false false q = cc
+
+pub no-hits : (f : ℕ → Bool) (from n : ℕ) → ((t : ℕ) → from ≤ t → t < from + n → f t ≡ false) → hits f from n ≡ 0
+no-hits f from zero h = refl
+no-hits f from (suc n) h = let again = no-hits f from n (λ t a b. h t a (omega (arith, b))) in let now = ap one_if
+    (h (from + n) (omega arith) (omega arith)) in omega (arith, again, now)
+
+-- the special turns are the first one, at most, and those behind a BRKACK
+implied : (x y : Bool) → (x ≡ true → y ≡ true) → one_if x ≤ one_if y
+implied true y e = let q = ap one_if (e refl) in omega (arith, q)
+implied false y e = omega arith
+
+behind : (special acks : ℕ → Bool) (from n j : ℕ) → j < n
+    → ((t : ℕ) → from ≤ t → t + 1 < from + n → special (t + 1) ≡ true → acks t ≡ true) → hits special from (suc j) ≤ 1 + hits acks from j
+behind special acks from n zero l h = let one = one-most (special (from + 0)) in omega (arith, one)
+behind special acks from n (suc j) l h =
+    let before = behind special acks from n j (omega (arith, l)) h in
+    let next = implied (special (from + j + 1)) (acks (from + j)) (h (from + j) (omega arith) (omega (arith, l))) in
+    let same : one_if (special (from + suc j)) ≡ one_if (special (from + j + 1)) = ap (λ x. one_if (special x)) (omega arith) in
+    omega (arith, before, next, same)
+
+pub after-acks : (special acks : ℕ → Bool) (from n : ℕ) → ((t : ℕ) → from ≤ t → t + 1 < from + n → special (t + 1) ≡ true → acks t ≡ true)
+    → hits special from n ≤ 1 + hits acks from n
+after-acks special acks from zero h = omega arith
+after-acks special acks from (suc n) h = let w = behind special acks from (suc n) n (omega arith) h in omega (arith, w)
+
+-- How soon a BRK goes, and the BRKACK that answers it.
 
 -- an end's breaks by the turn
 pub record Breaking (period turns : ℕ) (e : EndRun) (d : ℕ → Deeds) : Type 0 where
@@ -216,3 +348,124 @@ brks-heard {period} {turns} {e} {o} {d} k h first s n l w =
                   ap (λ n. nat_le o.delay (t + 1) && brk_due (o.account n)) next
                       ∙ and-drop (nat_le o.delay (t + 1)) (brk_due (o.account (u + 1))) x.1,
                 )
+
+-- A BRK goes within fourteen turns, and the BRKACK that answers it within six.
+abbrev pub AllConnected : EndRun → ℕ → ℕ → Type 0
+AllConnected e s n = (t : ℕ) → s < t → t ≤ s + n → is_connected (e.account t).phase ≡ true
+
+-- each BRKACK that goes was asked for
+acks-few : {period turns : ℕ} {e o : EndRun} {d d' : ℕ → Deeds} → TwoEnds period turns e o → Breaking period turns e d
+    → Breaking period turns o d' → brk_due (o.account 0) ≡ false → (s n : ℕ) → n ≤ 16 → s + n ≤ turns → AllConnected e s n
+    → hits (λ t. (d t).acks) s n ≤ 4
+acks-few {period} {turns} {e} {o} {d} {d'} k h h' first s n l w c =
+    let made = at-most-made (λ t. (d t).acks) (λ t. ack_due (e.account t)) (λ t. of_arrived (of_word any_brk) (e.heard t)) s n
+    (λ t a b. let x = h.turn t (omega (arith, b, w)) (c (t + 1) (omega (arith, a)) (omega (arith, b))) in
+    sum-at-most (ack_due (e.account (t + 1))) (d t).acks (ack_due (e.account t)) (of_arrived (of_word any_brk) (e.heard t))
+    (λ q. (x.ack_from q).0) (λ q. (x.acked q, not-true (ack_due (e.account (t + 1))) (λ f. clash (d t).acks q (x.ack_from f).1)))) in
+    let three = brks-heard k h' first s n l w in
+    omega (arith, made, three)
+
+abbrev pub NoAnswers : (ℕ → Deeds) → ℕ → ℕ → Type 0
+NoAnswers d s n = (t : ℕ) → s ≤ t → t < s + n → (d t).answers ≡ false
+
+abbrev BrkDue : EndRun → ℕ → ℕ → Type 0
+BrkDue e s n = (t : ℕ) → s ≤ t → t < s + n → brk_due (e.account (t + 1)) ≡ true
+
+abbrev AckDue : EndRun → ℕ → ℕ → ℕ → Type 0
+AckDue e number x n = (t : ℕ) → x ≤ t → t < x + n → pends_of number (e.account (t + 1)).their_breaks.ack ≡ true
+
+-- A BRK that is due goes within fourteen turns, while its break waits.
+pub brk-goes : {period turns : ℕ} {e o : EndRun} {d d' : ℕ → Deeds} → TwoEnds period turns e o → Breaking period turns e d
+    → Breaking period turns o d' → brk_due (o.account 0) ≡ false → (s : ℕ) → s + 14 ≤ turns → AllConnected e s 14
+    → ((t : ℕ) → s < t → t ≤ s + 14 → waits (e.account t).own_breaks ≡ true) → NoAnswers d s 14
+    → (brk_due (e.account s) ≡ true) ⊎ ((d s).made ≡ true)
+    → (y : ℕ) × (s ≤ y) × (y < s + 14) × (of_frame (of_word (brk_of (number_of (e.account (y + 1))))) (e.slot y) ≡ true)
+brk-goes {period} {turns} {e} {o} {d} {d'} k h h' first s within c ws na due = elim
+    (until (λ t. of_frame (of_word (brk_of (number_of (e.account (t + 1))))) (e.slot t) ≡ true) (λ t. brk_due (e.account (t + 1)) ≡ true)
+    s 14 step) [
+      | inl x ↦ x
+      | inr all ↦ absurd (none-held all)
+    ]
+  where
+    turn : (t : ℕ) → s ≤ t → t < s + 14 → BreakTurn period t (e.heard t) (e.slot t) (d t) (e.account t) (e.account (t + 1))
+    turn t a b = h.turn t (omega (arith, b, within)) (c (t + 1) (omega (arith, a)) (omega (arith, b)))
+
+    none-held : BrkDue e s 14 → ⊥
+    none-held all =
+        let held = all-held (sends_final e) (sends_poll e) (λ t. (d t).hurries) (λ t. (d t).acks) (λ t. (e.account t).special)
+        (λ t. (d t).answers) s 14 (λ t a b. (turn t a b).held (inl (all t a b))) in
+        let one = once (sends_final e) (period - 1) turns (replies-apart k) s 14 (omega (arith, k.period_is)) within in
+        let one' = once (sends_poll e) (period - 1) turns (polls-far k) s 14 (omega (arith, k.period_is)) within in
+        let two = hurries-twice k h s 14 (omega (arith, k.period_is)) within c in
+        let four = acks-few k h h' first s 14 (omega arith) within c in
+        let five = after-acks (λ t. (e.account t).special) (λ t. (d t).acks) s 14
+        (λ t a b q. (turn t a (omega (arith, b))).special_own q (all t a (omega (arith, b)))) in
+        let zero-answers = no-hits (λ t. (d t).answers) s 14 na in
+        omega (arith, held, one, one', two, four, five, zero-answers)
+
+    step : (t : ℕ) → s ≤ t → t < s + 14 → ((u : ℕ) → s ≤ u → u < t → brk_due (e.account (u + 1)) ≡ true)
+        → (of_frame (of_word (brk_of (number_of (e.account (t + 1))))) (e.slot t) ≡ true) ⊎ (brk_due (e.account (t + 1)) ≡ true)
+    step t a b all = elim ((turn t a b).brk_goes (ws (t + 1) (omega (arith, a)) (omega (arith, b))) due-at) [
+      | inl q ↦ inr q
+      | inr q ↦ inl q
+    ]
+      where
+        due-at : (brk_due (e.account t) ≡ true) ⊎ ((d t).made ≡ true)
+        due-at = elim (cases_lt s t) [
+          | inl l ↦ inl (ap (λ x. brk_due (e.account x)) (omega (arith, l)) ∙ all (t - 1) (omega (arith, l)) (omega (arith, l)))
+          | inr g ↦ subst (λ x. (brk_due (e.account x) ≡ true) ⊎ ((d x).made ≡ true)) (omega (arith, a, g)) due
+        ]
+
+-- A BRK that is heard is answered within six turns, where no BRK of another number is heard in them.
+pub ack-goes : {period turns : ℕ} {e o : EndRun} {d : ℕ → Deeds} → TwoEnds period turns e o → Breaking period turns e d → (x number : ℕ)
+    → number < 2 → x + 6 ≤ turns → AllConnected e x 6
+    → ((t : ℕ) → x ≤ t → t < x + 6 → of_arrived (of_word any_brk) (e.heard t) ≡ true
+    → of_arrived (of_word (brk_of number)) (e.heard t) ≡ true) → NoAnswers d x 6
+    → of_arrived (of_word (brk_of number)) (e.heard x) ≡ true
+    → (z : ℕ) × (x ≤ z) × (z < x + 6) × (of_frame (of_word (ack_of number)) (e.slot z) ≡ true)
+ack-goes {period} {turns} {e} {o} {d} k h x number small within c same na asks = elim
+    (until (λ t. of_frame (of_word (ack_of number)) (e.slot t) ≡ true) (λ t. pends_of number (e.account (t + 1)).their_breaks.ack ≡ true) x 6 step) [
+      | inl y ↦ y
+      | inr all ↦ absurd (none-held all)
+    ]
+  where
+    p : period ≡ 2 * (e.delay + o.delay) + 16
+    p = k.period_is
+
+    turn : (t : ℕ) → x ≤ t → t < x + 6 → BreakTurn period t (e.heard t) (e.slot t) (d t) (e.account t) (e.account (t + 1))
+    turn t a b = h.turn t (omega (arith, b, within)) (c (t + 1) (omega (arith, a)) (omega (arith, b)))
+
+    any-due : (m : Option BreakWord) → pends_of number m ≡ true → pends m ≡ true
+    any-due None q = cc
+    any-due (Some word) q = refl
+
+    none-held : AckDue e number x 6 → ⊥
+    none-held all =
+        let held = all-held (sends_final e) (sends_poll e) (λ t. (d t).hurries) (λ t. (d t).acks) (λ t. (e.account t).special)
+        (λ t. (d t).answers) x 6 (λ t a b. (turn t a b).held (inr (any-due (e.account (t + 1)).their_breaks.ack (all t a b)))) in
+        let one = once (sends_final e) (period - 1) turns (λ s t. replies-apart k s t) x 6 (omega (arith, p)) within in
+        let one' = once (sends_poll e) (period - 1) turns (λ s t. polls-far k s t) x 6 (omega (arith, p)) within in
+        let two = hurries-twice k h x 6 (omega (arith, p)) within c in
+        let none = no-hits (λ t. (d t).acks) x 6 (λ t a b. ((turn t a b).ack_from (any-due (e.account (t + 1)).their_breaks.ack (all t a b))).1) in
+        let five = after-acks (λ t. (e.account t).special) (λ t. (d t).acks) x 6
+        (λ t a b q. absurd ((turn t a (omega (arith, b))).special_ack q (any-due (e.account (t + 1)).their_breaks.ack (all t a (omega (arith, b))))))
+        in
+        let zero-answers = no-hits (λ t. (d t).answers) x 6 na in
+        omega (arith, held, one, one', two, none, five, zero-answers)
+
+    step : (t : ℕ) → x ≤ t → t < x + 6 → ((u : ℕ) → x ≤ u → u < t → pends_of number (e.account (u + 1)).their_breaks.ack ≡ true)
+        → (of_frame (of_word (ack_of number)) (e.slot t) ≡ true) ⊎ (pends_of number (e.account (t + 1)).their_breaks.ack ≡ true)
+    step t a b all = elim (due-at (of_arrived (of_word any_brk) (e.heard t)) refl) [ inl q ↦ inr q | inr q ↦ inl q ]
+      where
+        due-at : (y : Bool) → of_arrived (of_word any_brk) (e.heard t) ≡ y
+            → (pends_of number (e.account (t + 1)).their_breaks.ack ≡ true) ⊎ (of_frame (of_word (ack_of number)) (e.slot t) ≡ true)
+        due-at true q = (turn t a b).asked number small (inl (same t a b q))
+        due-at false q = elim (cases_lt x t) [
+          | inl l ↦ (turn t a b).asked number small (inr (
+            ap (λ y. pends_of number (e.account y).their_breaks.ack) (omega (arith, l))
+                ∙ all (t - 1) (omega (arith, l)) (omega (arith, l)),
+            q,
+          ))
+          | inr g ↦ (turn t a b).asked number small
+              (inl (ap (λ y. of_arrived (of_word (brk_of number)) (e.heard y)) (omega (arith, a, g)) ∙ asks))
+        ]
