@@ -1,6 +1,7 @@
 -- The front of an end that isn't whole advances within the turns of one segment, or the run ends.
 use Rattle.std.proofs.Common.{◌≡◌, ℕ, suc, ◌+◌, ◌-◌, ◌*◌, ◌<◌, ◌≤◌, ◌||◌, ◌⊎◌, Bool, true, false, cond, nat_lt, List, [], ◌∷◌, ◌++◌, length}
 use Rattle.std.proofs.Common.{inl, inr, arith, refl, sym, ◌∙◌, ap, subst, Option, Some, None}
+use Rattle.turn_bound.proofs.Truths.{neither-first}
 use Rattle.link_account.proofs.Names.{nat_tests, Role, Originator, Answerer, is_originator, of, Outgoing, Account}
 use Rattle.link_run.proofs.Names.{Connected, is_released, Link, Accounts, Turn, GoingTurn, RunOf, arrival, IsCarried}
 use Rattle.lapm_sender.specs.Outgoing.{is_whole}
@@ -232,14 +233,10 @@ soon z total start n front list role a y low same less few (Waits e s) =
 soon z total start n front list role a y low same less few (Holds h e s p) =
     let here : z.quota * (total - a.outgoing.front) ≡ z.quota * (total - front) = ap (λ f. z.quota * (total - f)) same in
     let idle : nat_lt a.outgoing.front a.outgoing.high ≡ false =
-    first-false (nat_lt a.outgoing.front a.outgoing.high) (a.outgoing.awaited || a.outgoing.paused) e in
+    neither-first (nat_lt a.outgoing.front a.outgoing.high) (a.outgoing.awaited || a.outgoing.paused) e in
     let some : nat_lt a.outgoing.front total ≡ true = grind (arith, nat_tests) in
     let free : cond (is_free total a.outgoing) z.first 0 ≡ z.first = rw (idle, some) refl in
     omega (arith, s, low, here, free, few h p, y.quota, y.first, y.room, y.period)
-  where
-    first-false : (b c : Bool) → b || c ≡ false → b ≡ false
-    first-false true c f = cc
-    first-false false c f = refl
 
 advances-linked : (tries period : ℕ) (delay : Role → ℕ) (link : Link) (ts us : List Turn) (before after : Accounts) (role : Role)
     → KeepsTime tries period delay link → NeverBusy link → RunOf link ts before → MaySend (of role before) → GoesOn link ts before us after

@@ -1,5 +1,6 @@
 use Rattle.std.proofs.Common.{◌≡◌, ℕ, ◌+◌, ◌*◌, ◌<◌, ◌≤◌, ◌&&◌, ◌||◌, not, Bool, true, false, cond, nat_lt, [], length, length-append}
 use Rattle.std.proofs.Common.{arith, refl, sym, ◌∙◌, ap, subst, Some, None, Result, Ok, Err, List, ◌++◌, ◌∷◌}
+use Rattle.turn_bound.proofs.Truths.{neither-first, neither-second}
 use Rattle.link_account.proofs.Names.{nat_tests, Role, Originator, Answerer, Outgoing, wanted, Arrived, LinkFault, Account, is_connected}
 use Rattle.link_account.proofs.Names.{is_originator, Said, speak, Slot, other}
 use Rattle.link_run.proofs.Names.{Phase, Connected, User, is_busy, is_closed, is_released, has_finished}
@@ -129,14 +130,6 @@ finished-at false r s t h all dead none = finished s t h.breaks all dead none
 lives-linked : (turn : ℕ) (role : Role) (a : Account) → a.phase ≡ Connected → lives turn role a.phase a ≡ false → linked_lives turn a ≡ false
 lives-linked turn role a e f = subst (λ p. lives turn role p a ≡ false) e f
 
-first-false : (b c : Bool) → b || c ≡ false → b ≡ false
-first-false true c e = cc
-first-false false c e = refl
-
-second-false : (b c : Bool) → b || c ≡ false → c ≡ false
-second-false true c e = cc
-second-false false c e = e
-
 released-not : (p : Phase) → p ≡ Connected → is_released p ≡ false
 released-not p e = ap is_released e
 
@@ -250,10 +243,10 @@ standstill z link totals turn s t u f h g oo oa before after dead dead' calm_o c
     let sa = slot_of g.answ_said (served_account link.answ.user turn (is_released g.orig_mid.phase) g.answ_mid) in
     let s' = state_after link turn s g.orig_mid g.answ_mid g.orig_said g.answ_said in
     let sound' = sound-after z link totals turn s t u f h g oo oa in
-    let dead_o = first-false (lives turn Originator s.orig.phase s.orig) (lives turn Answerer s.answ.phase s.answ) dead in
-    let dead_a = second-false (lives turn Originator s.orig.phase s.orig) (lives turn Answerer s.answ.phase s.answ) dead in
-    let dead_o' = first-false (lives (turn + 1) Originator s'.orig.phase s'.orig) (lives (turn + 1) Answerer s'.answ.phase s'.answ) dead' in
-    let dead_a' = second-false (lives (turn + 1) Originator s'.orig.phase s'.orig)
+    let dead_o = neither-first (lives turn Originator s.orig.phase s.orig) (lives turn Answerer s.answ.phase s.answ) dead in
+    let dead_a = neither-second (lives turn Originator s.orig.phase s.orig) (lives turn Answerer s.answ.phase s.answ) dead in
+    let dead_o' = neither-first (lives (turn + 1) Originator s'.orig.phase s'.orig) (lives (turn + 1) Answerer s'.answ.phase s'.answ) dead' in
+    let dead_a' = neither-second (lives (turn + 1) Originator s'.orig.phase s'.orig)
     (lives (turn + 1) Answerer s'.answ.phase s'.answ) dead' in
     let po : s.orig.phase ≡ Connected = dead-connected turn s.orig.phase s.orig h.going dead_o in
     let po' : g.orig_said.account.phase ≡ Connected = dead-connected (turn + 1) s'.orig.phase s'.orig sound'.going dead_o' in
@@ -297,10 +290,10 @@ standstill z link totals turn s t u f h g oo oa before after dead dead' calm_o c
 
     polled-not : (a : Account) → a.outgoing.awaited ≡ true → linked_lives turn a ≡ false → ⊥
     polled-not a e k =
-        let w = first-false (is_waiting a.outgoing) (is_breaking turn a.own_breaks) k in
+        let w = neither-first (is_waiting a.outgoing) (is_breaking turn a.own_breaks) k in
         let v : a.outgoing.awaited || a.outgoing.paused ≡ false =
-        second-false (nat_lt a.outgoing.front a.outgoing.high) (a.outgoing.awaited || a.outgoing.paused) w in
-        let wrong : true ≡ false = sym e ∙ first-false a.outgoing.awaited a.outgoing.paused v in cc
+        neither-second (nat_lt a.outgoing.front a.outgoing.high) (a.outgoing.awaited || a.outgoing.paused) w in
+        let wrong : true ≡ false = sym e ∙ neither-first a.outgoing.awaited a.outgoing.paused v in cc
 
     spoken-to-a : (o n : Bool) → (n ≡ false → ⊥) → o || n ≡ true
     spoken-to-a true n f = refl
@@ -407,4 +400,4 @@ falls z link totals turn s t u f h g oo oa before after = by (is_busy turn link.
         (value z totals.answ (length link.answ.user.breaks) (turn + 1) Answerer s'.answ.phase s'.answ)
         (stall z totals turn s) (stall z totals (turn + 1) s') _ _ ao aa
         (one_if bo + one_if ba) lo la b.orig.turns.falls b.answ.turns.falls lines
-        (calm (first-false bo ba e) (second-false bo ba e) (is_alive turn s) refl (is_alive (turn + 1) s') refl)
+        (calm (neither-first bo ba e) (neither-second bo ba e) (is_alive turn s) refl (is_alive (turn + 1) s') refl)

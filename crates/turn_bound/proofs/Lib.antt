@@ -1,3 +1,4 @@
+pub mod Truths
 pub mod Value
 pub mod Light
 pub mod Run

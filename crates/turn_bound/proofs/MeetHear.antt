@@ -1,4 +1,5 @@
 use Rattle.std.proofs.Common.{◌≡◌, ℕ, ◌&&◌, ◌||◌, not, Bool, true, false, cond, refl, sym, ◌∙◌, ap, Option, Some, Ok, inl, inr}
+use Rattle.turn_bound.proofs.Truths.{or-first, or-true, and-drop}
 use Rattle.link_account.proofs.Names.{Originator, Answerer, Frame, Rr, Rnr, Rej, Outgoing, is_outstanding, resumed, Arrived, Account}
 use Rattle.link_account.proofs.Names.{is_originator, hear, without_adp}
 use Rattle.link_run.proofs.Names.{Phase, Detecting, Negotiating, Establishing, Connected, Closed, Answer, is_closed, is_released}
@@ -21,9 +22,6 @@ pub record OHeard (ua final : Bool) (a b : Account) : Type 0 where
   pub begins : is_begun b.phase ≡ true → is_begun a.phase || ua ≡ true
   pub released : is_released a.phase ≡ true → is_released b.phase ≡ true
   pub awaits : (a.phase ≡ Connected → a.outgoing.awaited ≡ true) → final ≡ false → b.phase ≡ Connected → b.outgoing.awaited ≡ true
-
-or-first : (b c : Bool) → b ≡ true → b || c ≡ true
-or-first b c e = rw e refl
 
 o-same : (ua final : Bool) (a b : Account) → b.phase ≡ a.phase → b.outgoing.awaited ≡ a.outgoing.awaited → OHeard ua final a b
 o-same ua final a b p w = record {
@@ -52,11 +50,7 @@ resumed-awaited o = by o.paused
 acked-awaits : (command pf final : Bool) (a : Account) (n : ℕ) → ends_wait command pf a ≡ final → pf && not command ≡ false
     → ((acked final a.outgoing n).awaited ≡ a.outgoing.awaited) × ((acked_back final a.outgoing n).awaited ≡ a.outgoing.awaited)
 acked-awaits command pf true a n e f = let wrong : true ≡ false = sym e ∙
-    (ap (λ x. a.outgoing.awaited && x) f ∙ none a.outgoing.awaited) in cc
-  where
-    none : (b : Bool) → b && false ≡ false
-    none true = refl
-    none false = refl
+    (ap (λ x. a.outgoing.awaited && x) f ∙ and-drop a.outgoing.awaited false refl) in cc
 acked-awaits command pf false a n e f = (refl, refl)
 
 o-number : (ua final : Bool) (a b : Account) → a.phase ≡ Connected → b.phase ≡ Connected
@@ -95,7 +89,7 @@ o-ways turn a er = record {
     sabme_first = λ p r pf. never r;
     sabme = λ p r pf. never r;
     ua = λ p. record {
-      begins = λ h. or-second (is_begun a.phase);
+      begins = λ h. or-true (is_begun a.phase);
       released = λ h. let wrong : true ≡ false = sym h ∙ ap is_released p in cc;
       awaits = λ h f i. ap is_originator er;
     };
@@ -110,10 +104,6 @@ o-ways turn a er = record {
   where
     never : {A : Type 0} → a.setup.role ≡ Answerer → A
     never r = let wrong : Originator ≡ Answerer = sym er ∙ r in cc
-
-    or-second : (b : Bool) → b || true ≡ true
-    or-second true = refl
-    or-second false = refl
 
 pub o-hears : (arrived : Arrived) (turn : ℕ) (a mid : Account) → a.setup.role ≡ Originator → hear turn arrived a ≡ Ok mid
     → OHeard (of_arrived frame_ua arrived) (of_arrived frame_final arrived) a mid
@@ -193,10 +183,6 @@ a-ways turn a er = record {
     less : (m : Option Answer) → is_ua_due (without_adp m) ≡ true → is_ua_due m ≡ true
     less (Some (answers.Ua pf)) h = refl
     less p h = cc
-
-    or-true : (b : Bool) → b || true ≡ true
-    or-true true = refl
-    or-true false = refl
 
     never : {A : Type 0} → a.setup.role ≡ Originator → A
     never r = let wrong : Answerer ≡ Originator = sym er ∙ r in cc

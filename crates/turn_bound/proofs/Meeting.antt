@@ -1,5 +1,6 @@
 use Rattle.std.proofs.Common.{◌≡◌, ◌≤◌, ℕ, ◌&&◌, not, Bool, true, false, refl, sym, ◌∙◌, ap, arith, Ok, inl, inr, ◌||◌, cond, nat_lt, List}
 use Rattle.std.proofs.Common.{[], ◌∷◌, ◌++◌, length, subst}
+use Rattle.turn_bound.proofs.Truths.{not-true}
 use Rattle.link_account.proofs.Names.{Account, trying, Said, frame_for, ready_frame, nr_of, speak, AllByRecursion, Answerer, Frame, Sent}
 use Rattle.link_account.proofs.Names.{Slot, arrives}
 use Rattle.link_run.proofs.Names.{Phase, Releasing, Closed, Answer, is_closed, is_released, Connected}
@@ -177,10 +178,6 @@ only-answ z before turn p a h e f = cc
 or-either : (a b : Bool) (P : Type 0) → a || b ≡ true → (a ≡ true → P) → (b ≡ true → P) → P
 or-either true b P e f g = f refl
 or-either false b P e f g = g e
-
-not-true : (b : Bool) → (b ≡ true → ⊥) → b ≡ false
-not-true true f = absurd (f refl)
-not-true false f = refl
 
 meets-start : (link : Link) → Meets (start link)
 meets-start link = record {

@@ -1,5 +1,6 @@
 use Rattle.std.proofs.Common.{◌≡◌, ℕ, ◌+◌, ◌-◌, ◌*◌, ◌%◌, ◌<◌, ◌≤◌, ◌&&◌, ◌||◌, not, Bool, true, false, cond, nat_eq, nat_lt, nat_le, List}
 use Rattle.std.proofs.Common.{[], ◌∷◌, length, arith, refl, sym, ◌∙◌, ap, subst, Option, Some, None}
+use Rattle.turn_bound.proofs.Truths.{and-two}
 use Rattle.link_account.proofs.Names.{is_some, AllByRecursion, nat_tests, meant, Outgoing, is_outstanding, advanced, resumed, Account}
 use Rattle.lapm_sender.specs.Numbers.{with_number, from_number}
 use Rattle.lapm_sender.specs.Outgoing.{gone_back, wait_ended, paused_at}
@@ -380,13 +381,9 @@ acked-heard z before turn a final command pf nr n s e m = go final e
     within : (a.outgoing.front ≤ n) × (n ≤ a.outgoing.high)
     within = meant-range a.outgoing.front a.outgoing.high nr n m
 
-    first : (b c : Bool) → b && c ≡ true → b ≡ true
-    first true c f = refl
-    first false c f = cc
-
     go : (b : Bool) → ends_wait command pf a ≡ b → Heard a.outgoing (acked b a.outgoing n) × Heard a.outgoing (acked_back b a.outgoing n)
     go true f = let k = heard-wait_ended z before turn a.outgoing a.wait.timer n s within.0 within.1
-        (first a.outgoing.awaited (pf && not command) f) in
+        (and-two a.outgoing.awaited (pf && not command) f).0 in
         (k, k)
     go false f = let k = heard-advanced z before turn a.outgoing a.wait.timer n s within.0 within.1 in
         (k, heard-gone_back a.outgoing (advanced a.outgoing n) k)

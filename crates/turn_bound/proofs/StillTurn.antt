@@ -1,6 +1,7 @@
 use Rattle.std.proofs.Common.{◌≡◌, ℕ, ◌+◌, ◌%◌, ◌≤◌, ◌&&◌, ◌||◌, not, Bool, true, false, cond, nat_eq, nat_lt, List, arith, refl, sym, ◌∙◌}
 use Rattle.std.proofs.Common.{ap, Option, Some, None, Ok, ◌-◌, ◌<◌, [], ◌∷◌, ◌++◌, length, slice_index_or, subst, inl, inr, Err, nat_le}
 use Rattle.std.proofs.Common.{length-append}
+use Rattle.turn_bound.proofs.Truths.{neither-first, and-second, is-true, or-false-both, not-true}
 use Rattle.link_account.proofs.Names.{is_some, nat_tests, Role, Outgoing, is_outstanding, Incoming, after_kind, kind_of, offset, Took}
 use Rattle.link_account.proofs.Names.{InOrder, Kept, Repeat, Gap, OwnBreaks, after_answer, waits, Arrived, Account, hear, without_adp}
 use Rattle.link_account.proofs.Names.{next_number, BreakWord, Brk, Ack, is_originator, Said, frame_for, nr_of, may_send, ready_frame}
@@ -31,14 +32,10 @@ use Rattle.turn_bound.proofs.OneTurn.{Hearing, spoken-as}
 free-same : (z : Rates) (total before turn : ℕ) (o new : Outgoing) (timer : Option ℕ) → Sends z before turn o timer → is_waiting o ≡ false
     → Heard o new → is_free total new ≡ is_free total o
 free-same z total before turn o new timer s e h =
-    let idle : nat_lt o.front o.high ≡ false = first-false (nat_lt o.front o.high) (o.awaited || o.paused) e in
+    let idle : nat_lt o.front o.high ≡ false = neither-first (nat_lt o.front o.high) (o.awaited || o.paused) e in
     let same : new.front ≡ o.front = grind (arith, nat_tests, h.front_low, h.front_from, h.from_high, h.high, s.front_from, s.from_high) in
     by new.front new.high same h.high
   where
-    first-false : (a b : Bool) → a || b ≡ false → a ≡ false
-    first-false true b e = e
-    first-false false b e = refl
-
     by : (front high : ℕ) → front ≡ o.front → high ≡ o.high → not (nat_lt front high) && nat_lt front total ≡ is_free total o
     by front high e f = rw (e, f) refl
 
@@ -241,14 +238,10 @@ none-free z total turn role a h e = go (is_free total a.outgoing) refl
     o : Outgoing
     o = a.outgoing
 
-    second : (b c : Bool) → b && c ≡ true → c ≡ true
-    second true c e = e
-    second false c e = cc
-
     go : (b : Bool) → is_free total o ≡ b → is_free total o ≡ false
     go false f = f
     go true f =
-        let less : o.front < total = let t = second (not (is_outstanding o)) (nat_lt o.front total) f in grind (arith, nat_tests, t) in
+        let less : o.front < total = let t = and-second (not (is_outstanding o)) (nat_lt o.front total) f in grind (arith, nat_tests, t) in
         let wrong : None ≡ Some o.from = sym e
         ∙ (ap (λ b. cond b (next_number o) None) h.may ∙ idle-next h.linked.sends h.idle (h.more less)) in cc
 
@@ -369,14 +362,6 @@ module _ (z : Rates) (total turn : ℕ) (role : Role) (a : Account) (special : B
     );
   }
 
-pub or-false-both : (b c : Bool) → b || c ≡ false → (b ≡ false) × (c ≡ false)
-or-false-both true c e = cc
-or-false-both false c e = (refl, e)
-
-pub not-true : (b : Bool) → (b ≡ true → ⊥) → b ≡ false
-not-true true f = absurd (f refl)
-not-true false f = refl
-
 -- what waits goes on waiting
 pub keeps-waiting : (z : Rates) (total breaks turn : ℕ) (role : Role) (b : Account) (said : Said) → Spoke z total breaks turn role b said
     → linked_lives (turn + 1) said.account ≡ false → (is_waiting b.outgoing ≡ false) × (waits b.own_breaks ≡ false)
@@ -447,7 +432,7 @@ module _ {z : Rates} {user : User} {turn : ℕ} {role : Role} {a : Account} {arr
       let spoke = spoken-as i (length b.outgoing.pieces) release speaks (omega arith) in
       let linked : i.phase ≡ Connected =
       connected-is i.phase
-      (not-false (is_connected i.phase)
+      (is-true (is_connected i.phase)
       (λ f. let same : Connected ≡ i.phase = sym after ∙ (spoke.1.phase ∙ spoke.1.keeps f) in let wrong : true ≡ false =
       ap is_connected same ∙ f in cc)) in
       let phase : b.phase ≡ Connected = i.b_phase ∙ linked in
@@ -461,10 +446,6 @@ module _ {z : Rates} {user : User} {turn : ℕ} {role : Role} {a : Account} {arr
         unreleased = says.1;
         serves = i.serves;
       }
-    where
-      not-false : (x : Bool) → (x ≡ false → ⊥) → x ≡ true
-      not-false true f = refl
-      not-false false f = absurd (f refl)
 
 served-dues : (turn breaks total : ℕ) (busy : Bool) (m c : Account) → Served turn breaks busy m c
     → is_free total c.outgoing ≡ is_free total m.outgoing → dues total c ≡ dues total m

@@ -4,6 +4,7 @@
 use Rattle.std.proofs.Common.{ℕ, ◌+◌, ◌-◌, ◌≤◌, ◌&&◌, min, Bool, true, false, cond, arith, Option, Some, None, ◌≡◌, ◌%◌, ◌<◌, ◌||◌, ◌⊎◌}
 use Rattle.std.proofs.Common.{not, nat_eq, nat_lt, List, length, inl, inr, refl, sym, ◌∙◌, ap, subst, Ok, nat_le, [], ◌∷◌, ◌++◌}
 use Rattle.std.proofs.Common.{length-append}
+use Rattle.turn_bound.proofs.Truths.{or-false}
 use Rattle.link_account.proofs.Names.{is_some, Frame, Rr, Rnr, Rej, Incoming, BreakWord, OwnBreaks, waits, Account, nat_tests, Role}
 use Rattle.link_account.proofs.Names.{Answerer, is_originator, I, meant, Outgoing, is_outstanding, advanced, after_kind, kind_of, offset}
 use Rattle.link_account.proofs.Names.{Took, InOrder, Kept, Repeat, Gap, after_answer, Arrived, hear, without_adp, after_take, on_nothing}
@@ -190,11 +191,7 @@ same-takes : (turn : ℕ) (a : Account) → a.phase ≡ Connected → (b : Accou
 same-takes turn a e b outgoing wait setup phase incoming special owes numbered own their =
     inr (number-takes turn false a b (inr (outgoing, ap (λ w. w.timer) wait)) setup (phase ∙ e) incoming special (ap (λ w. w.poll) wait)
     (ap (λ o. o.busy_told) owes) (ap (λ o. o.answer) owes) (λ x. numbered ∙ x) own their
-    (ap (λ o. o.reply) owes ∙ plain a.owes.reply))
-  where
-    plain : (r : Bool) → r ≡ r || false
-    plain true = refl
-    plain false = refl
+    (ap (λ o. o.reply) owes ∙ sym (or-false a.owes.reply)))
 
 answered-own : (z : Rates) (turn number : ℕ) (b : OwnBreaks) → Breaks z turn turn b
     → own_value turn (after_answer turn number b) ≤ own_value turn b
@@ -319,10 +316,6 @@ module _ (z : Rates) (turn : ℕ) (role : Role) (a : Account) (h : Linked z turn
       unpolled ns nr true info n f w = absurd (omega (arith, w))
       unpolled ns nr false info n f w = taken ns nr n info f
 
-      plain-or : (r : Bool) → r || false ≡ r
-      plain-or true = refl
-      plain-or false = refl
-
       chosen : (nr n : ℕ) → is_outstanding a.outgoing ≡ true → meant a.outgoing.front (a.outgoing.high - 1) nr ≡ Some n
           → TakesSo turn false a (numbered_with a (record a.outgoing { chosen = with_number n a.outgoing.chosen }) a.incoming
           (timer_after turn a.outgoing (record a.outgoing
@@ -332,7 +325,7 @@ module _ (z : Rates) (turn : ℕ) (role : Role) (a : Account) (h : Linked z turn
           let out : a.outgoing.front < a.outgoing.high = grind (arith, nat_tests, f) in
           inr (number-takes turn false a _
           (inl (heard-selected z turn turn a.outgoing a.wait.timer n h.sends range.0 (omega (arith, range.1, out)), refl)) refl e refl
-          refl refl refl refl (λ x. refl) refl refl (sym (plain-or a.owes.reply)))
+          refl refl refl refl (λ x. refl) refl refl (sym (or-false a.owes.reply)))
 
   pub takes : (arrived : Arrived) (mid : Account) → arrived_weight arrived ≤ 2 → arrived_rnrs arrived ≡ 0 → hear turn arrived a ≡ Ok mid
       → TakesSo turn (of_arrived frame_poll arrived) a mid

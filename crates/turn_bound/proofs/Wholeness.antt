@@ -1,6 +1,7 @@
 -- An end that is whole stays so, and the link is released once both ends are.
 use Rattle.std.proofs.Common.{◌≡◌, ℕ, ◌+◌, ◌≤◌, ◌&&◌, ◌⊎◌, nat_eq, Bool, true, false, cond, List, [], ◌∷◌, map, length, inl, inr, arith}
 use Rattle.std.proofs.Common.{refl, sym, ◌∙◌, ap, subst, Ok}
+use Rattle.turn_bound.proofs.Truths.{and-two}
 use Rattle.link_account.proofs.Names.{nat_tests, Role, Originator, Answerer, is_originator, of, Outgoing, Arrived, Account, is_connected}
 use Rattle.link_account.proofs.Names.{trying, Said, speak, speak_in, speak_linked, speak_releasing}
 use Rattle.link_run.proofs.Names.{Phase, Detecting, Negotiating, Establishing, Connected, Releasing, Closed, User, is_busy, is_released}
@@ -122,10 +123,6 @@ pub told-now : (z : Rates) (turn : ℕ) (role : Role) (release : Bool) (b : Acco
     → speak turn release b ≡ Ok said → is_released b.phase ≡ false → is_released said.account.phase ≡ true → release ≡ true
 told-now z turn role release b said y s e open_ told = go (is_connected b.phase) refl
   where
-    first-true : (x o : Bool) → x && o ≡ true → x ≡ true
-    first-true true o h = refl
-    first-true false o h = cc
-
     go : (c : Bool) → is_connected b.phase ≡ c → release ≡ true
     go false h = let wrong : true ≡ false = sym told ∙ (ap is_released (s.keeps h) ∙ open_) in cc
     go true h = by (release && is_originator b.setup.role) refl (subst (λ q. speak_in q turn release b ≡ Ok said) linked e)
@@ -135,27 +132,18 @@ told-now z turn role release b said y s e open_ told = go (is_connected b.phase)
 
         by : (x : Bool) → release && is_originator b.setup.role ≡ x
             → cond x (speak_releasing turn (trying Releasing turn b)) (speak_linked turn b) ≡ Ok said → release ≡ true
-        by true f g = first-true release (is_originator b.setup.role) f
+        by true f g = (and-two release (is_originator b.setup.role) f).0
         by false f g =
             let p = spoke z (length b.outgoing.pieces) 0 turn role b y s.is_of
             (subst (λ q. Stands z (turn + 1) turn role q b) linked s.stands) s.role_is (omega arith) said g in
             let wrong : true ≡ false = sym told ∙ ap is_released (p.stepped.phase ∙ (p.is_timed.phase ∙ linked)) in cc
 
 finished-whole : (user : User) (turn : ℕ) (a : Account) → has_finished user turn a ≡ true → IsWhole a.outgoing
-finished-whole user turn a e = whole-is a.outgoing (by (is_connected a.phase) (first-true (is_done a) _ e))
+finished-whole user turn a e = whole-is a.outgoing (by (is_connected a.phase) (and-two (is_done a) _ e).0)
   where
-    first-true : (x y : Bool) → x && y ≡ true → x ≡ true
-    first-true true y h = refl
-    first-true false y h = cc
-
     by : (c : Bool) → cond c (is_whole a.outgoing) false ≡ true → is_whole a.outgoing ≡ true
     by true h = h
     by false h = cc
-
-and-both : (x y : Bool) → x && y ≡ true → (x ≡ true) × (y ≡ true)
-and-both true true h = (refl, refl)
-and-both true false h = cc
-and-both false y h = cc
 
 -- Once the originator is told to release both ends are whole.
 pub released-whole : (tries period : ℕ) (delay : Role → ℕ) (link : Link) (ts : List Turn) (ends : Accounts)
@@ -193,7 +181,7 @@ released-whole tries period delay link (t ∷ ts) ends k n (before, run, g) c e 
       where
         b : (finished_at link turn (served_ends link turn g.mid) Originator ≡ true) ×
             (finished_at link turn (served_ends link turn g.mid) Answerer ≡ true)
-        b = and-both (finished_at link turn (served_ends link turn g.mid) Originator)
+        b = and-two (finished_at link turn (served_ends link turn g.mid) Originator)
             (finished_at link turn (served_ends link turn g.mid) Answerer) told
 
         of-both : (q : Role) → has_finished (of q link).user turn

@@ -6,7 +6,7 @@ use Rattle.turn_losses.proofs.PeriodLaws.{Answers, reply-matches, awaits-on, Non
 use Rattle.turn_losses.proofs.NumberHear.{frame_nr, nr_heard, ns_heard, nr_sent, ns_sent, NumbersHeard, Room}
 use Rattle.turn_losses.proofs.NumberTurn.{NumberTurn}
 use Rattle.turn_losses.proofs.Names.{of_arrived, is_final, is_linked, EndRun, ArrivesLate, TwoEnds, hears_final}
-use Rattle.turn_losses.proofs.Truths.{clash}
+use Rattle.turn_bound.proofs.Truths.{clash}
 use Rattle.turn_losses.proofs.Kept.{kept-in}
 use Rattle.lapm_frames.specs.declared.sent.Sent.TheVariants as slots
 use Rattle.lapm_frames.specs.declared.arrived.Arrived.TheVariants as arrivals

@@ -10,7 +10,7 @@ use Rattle.link_account.proofs.HearWays.{Plain, IsUa, IsXid, IsTest, IsNoWord, C
 use Rattle.link_account.specs.Speak.{else_says, where_says, answering, polling, timer_expires, breaking, says_segment, after_timers}
 use Rattle.link_account.specs.Speak.{then_tries}
 use Rattle.turn_bound.proofs.StillTurn.{front-next}
-use Rattle.turn_losses.proofs.Truths.{or-true, or-false}
+use Rattle.turn_bound.proofs.Truths.{or-true, or-false}
 use Rattle.turn_losses.proofs.Names.{of_arrived, Rates, Sends, is_final, Served, is_poll, rates}
 use Rattle.lapm_frames.specs.declared.arrived.Arrived.TheVariants as arrivals
 use Rattle.lapm_frames.specs.declared.sent.Sent.TheVariants as slots

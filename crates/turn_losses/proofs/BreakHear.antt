@@ -9,7 +9,7 @@ use Rattle.turn_losses.proofs.Names.{of_arrived, is_final, is_linked}
 use Rattle.turn_losses.proofs.Words.{is_word, of_word, brk_of, ack_of, any_brk, pends_of}
 use Rattle.lapm_frames.specs.declared.arrived.Arrived.TheVariants as arrivals
 use Rattle.link_account.specs.Hear.{first_wait}
-use Rattle.turn_losses.proofs.Truths.{unlinked-connected}
+use Rattle.turn_bound.proofs.Truths.{unlinked-connected}
 use Rattle.link_account.specs.declared.answer.Answer.TheVariants as answers
 use Rattle.link_account.proofs.HearWays as HearWays
 

@@ -12,7 +12,7 @@ use Rattle.break_signals.specs.declared.fault.BreakFault.TheVariants.{Number}
 use Rattle.link_account.specs.Speak.{says_word}
 use Rattle.turn_bound.proofs.Value.{IsAck}
 use Rattle.link_account.proofs.SpeakWays.{NoWord, Steps, steps-so, polling_at, by-linked}
-use Rattle.turn_losses.proofs.Truths.{or-late, or-first, clash, and-true, and-second, and-drop}
+use Rattle.turn_bound.proofs.Truths.{or-late, or-first, clash, and-true, and-second, and-drop}
 use Rattle.turn_losses.proofs.Names.{of_frame, is_poll, is_final, of_arrived, Served}
 use Rattle.turn_losses.proofs.Words.{ack_of, any_brk, brk_of, is_word, of_word, pends_of, pends}
 use Rattle.lapm_frames.specs.declared.sent.Sent.TheVariants as slots

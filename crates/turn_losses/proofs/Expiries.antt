@@ -8,7 +8,7 @@ use Rattle.turn_losses.proofs.PeriodLaws.{NoneLost, StayConnected}
 use Rattle.turn_losses.proofs.NumberHear.{ns_sent}
 use Rattle.turn_losses.proofs.Acknowledged.{Counts, acknowledged}
 use Rattle.turn_losses.proofs.Names.{past, Happens, EndRun, TwoEnds, hears_final, TimedRun, end_of, is_linked, PollTurn, hears_poll}
-use Rattle.turn_losses.proofs.Truths.{and-not}
+use Rattle.turn_bound.proofs.Truths.{and-not}
 use Rattle.turn_losses.proofs.Clocks.{Ticked, chain}
 use Rattle.turn_losses.proofs.Clocks.Ticked.{Begins, Expires, Stays}
 

@@ -1,6 +1,7 @@
 -- A starved run has many lost slots: each lies in two spans at most.
 use Rattle.std.proofs.Common.{inl, inr, ◌≡◌, ◌≢◌, ℕ, zero, suc, ◌+◌, ◌-◌, ◌*◌, ◌<◌, ◌≤◌, ◌&&◌, ◌||◌, Bool, true, false, max, nat_lt, nat_le}
 use Rattle.std.proofs.Common.{List, [], ◌∷◌, length, arith, refl, ◌∙◌, ap, subst, Some}
+use Rattle.turn_bound.proofs.Truths.{or-late, and-true, and-two}
 use Rattle.link_account.proofs.Names.{slice_get, cases_lt, nat_tests, Originator, Answerer, Heard, Lost}
 use Rattle.link_run.proofs.Names.{Turn, LosesSome}
 use Rattle.link_run.specs.Counts.{lost_in, lost_slots}
@@ -8,7 +9,6 @@ use Rattle.link_run.specs.Starved.{SpanLoses, IsLost, turn_at}
 use Rattle.turn_bound.proofs.Value.{one_if}
 use Rattle.turn_bound.proofs.Tied.{is_lost}
 use Rattle.turn_losses.proofs.Windows.{one-most}
-use Rattle.turn_losses.proofs.Truths.{and-two}
 use Rattle.turn_losses.specs.Losses.{StarvedLosesMany, LosslessIsFed}
 use Rattle.turn_losses.proofs.Periods.{later-turn}
 
@@ -167,12 +167,8 @@ covers-loss period delay last span (t ∷ ts) turn l h e = elim (cases_lt turn (
   | inr more ↦ here (omega (arith, l, more))
 ]
   where
-    or-second : (x y : Bool) → y ≡ true → x || y ≡ true
-    or-second true y q = refl
-    or-second false y q = q
-
     later : covers period delay last ts span ≡ true → covers period delay last (t ∷ ts) span ≡ true
-    later q = or-second (loses t && in_span period delay last (length ts) span) (covers period delay last ts span) q
+    later q = or-late (loses t && in_span period delay last (length ts) span) (covers period delay last ts span) q
 
     here : turn ≡ length ts → covers period delay last (t ∷ ts) span ≡ true
     here q =
@@ -201,17 +197,13 @@ starved-loses-many tries period delay link ts kt h =
 
     covered : (n : ℕ) → SpanLoses period d ts n → covers period d last ts n ≡ true
     covered n s = covers-loss period d last n ts s.turn s.within s.lost
-        (both (nat_lt last (s.turn + (n + 1) * period + d)) (nat_le (s.turn + n * period) last) behind before)
+        (and-true (nat_lt last (s.turn + (n + 1) * period + d)) (nat_le (s.turn + n * period) last) behind before)
       where
         behind : nat_lt last (s.turn + (n + 1) * period + d) ≡ true
         behind = let b = s.in_span.behind in grind (arith, nat_tests, b)
 
         before : nat_le (s.turn + n * period) last ≡ true
         before = let b = s.in_span.before in grind (arith, nat_tests, b)
-
-        both : (x y : Bool) → x ≡ true → y ≡ true → x && y ≡ true
-        both true y e f = f
-        both false y e f = cc
 
 pub lossless-is-fed : LosslessIsFed
 lossless-is-fed tries period delay link ts kt none h = let many = starved-loses-many tries period delay link ts kt h in let some =

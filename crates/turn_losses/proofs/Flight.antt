@@ -16,7 +16,7 @@ use Rattle.turn_losses.proofs.Tracing.{EndTurn, TurnAt, end-turn, starts-fresh, 
 use Rattle.turn_losses.proofs.Moving.{TryBegins, TryGoesOn, try-heard}
 use Rattle.turn_losses.proofs.Phasing.{established-next, is_established}
 use Rattle.turn_losses.proofs.PeriodLaws.{linked-on, two-ends, was-sent}
-use Rattle.turn_losses.proofs.Truths.{not-true, clash}
+use Rattle.turn_bound.proofs.Truths.{not-true, clash}
 use Rattle.turn_losses.proofs.Trying.{since-try, tries-so}
 use Rattle.turn_bound.proofs.Meeting.{speaks-so}
 use Rattle.turn_losses.proofs.Kept.{kept-in, kept-on}

@@ -3,7 +3,7 @@ use Rattle.std.proofs.Common.{◌⊎◌, inl, inr, ◌≡◌, ℕ, zero, suc, �
 use Rattle.std.proofs.Common.{Ok, refl}
 use Rattle.link_account.proofs.Names.{Role, other, of, Frame, Account, Said, speak}
 use Rattle.link_account.specs.Account.{fresh}
-use Rattle.turn_losses.proofs.Truths.{clash}
+use Rattle.turn_bound.proofs.Truths.{clash}
 use Rattle.turn_losses.proofs.PeriodLaws.{was-sent, two-ends}
 use Rattle.turn_losses.proofs.Tracing.{starts-fresh, release_of, end-turn}
 use Rattle.turn_losses.proofs.Names.{of_frame, of_arrived, TimedRun, EndRun, end_of, is_linked}

@@ -2,6 +2,7 @@
 -- clock, of replies, of what is urgent and of a pause.
 use Rattle.std.proofs.Common.{◌⊎◌, inl, inr, ◌≡◌, ℕ, ◌-◌, ◌<◌, ◌&&◌, ◌||◌, not, Bool, true, false, cond, nat_lt, arith, refl, sym, ◌∙◌, ap}
 use Rattle.std.proofs.Common.{Option, Some, None, Ok}
+use Rattle.turn_bound.proofs.Truths.{or-false}
 use Rattle.link_account.proofs.Names.{nat_tests, Frame, I, Rr, Rnr, Rej, Srej, Arrived, Outgoing, advanced, resumed, Incoming, BreakWord}
 use Rattle.link_account.proofs.Names.{Account, is_connected, hear}
 use Rattle.lapm_sender.specs.Numbers.{with_number}
@@ -41,10 +42,6 @@ plain-frame frame (IsXid command pf info e) = record { poll = ap is_poll e; fina
 plain-frame frame (IsTest command pf info e) = record { poll = ap is_poll e; final = ap is_final e; words = λ f. ap (of_word f) e }
 plain-frame frame (IsNoWord command pf info fault w e) =
     record { poll = ap is_poll e; final = ap is_final e; words = λ f. ap (of_word f) e ∙ ap (is_word f) w }
-
-or-false : (b : Bool) → b ≡ b || false
-or-false true = refl
-or-false false = refl
 
 never : {A : Type 0} {b : Bool} → b ≡ false → b ≡ true → A
 never e f = let wrong : true ≡ false = sym f ∙ e in cc
@@ -163,7 +160,7 @@ module _ (turn : ℕ) (a : Account) where
     srej = λ command pf nr n f e. h (Srej command nr pf) _ _ _ _ _ (facts (Srej command nr pf)
         (record o { chosen = with_number n o.chosen }) _ _ refl
         (λ z s. let r = meant-range o.front (o.high - 1) nr n e in let l : o.front < o.high = grind (arith, nat_tests, f) in
-        heard-selected z turn turn o a.wait.timer n s r.0 (omega (arith, r.1, l))) (or-false a.owes.reply) (λ u. inl u) (λ g. refl) (λ u. u)
+        heard-selected z turn turn o a.wait.timer n s r.0 (omega (arith, r.1, l))) (sym (or-false a.owes.reply)) (λ u. inl u) (λ g. refl) (λ u. u)
         (λ u. cc));
   }
 

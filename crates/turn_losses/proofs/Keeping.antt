@@ -10,7 +10,7 @@ use Rattle.turn_losses.proofs.PeriodLaws.{polls-apart, reply-from, reply-at-once
 use Rattle.turn_losses.proofs.Tracing.{OneMore, traced-turn, past-all, past-before, timed-run, timed-of}
 use Rattle.turn_losses.proofs.Names.{of_frame, of_arrived, is_poll, is_final, Deed, past, sent_or, EndRun, TwoEnds, sends_poll, hears_poll}
 use Rattle.turn_losses.proofs.Names.{sends_final, hears_final, TimedRun, end_of}
-use Rattle.turn_losses.proofs.Truths.{and-not}
+use Rattle.turn_bound.proofs.Truths.{and-not}
 use Rattle.lapm_frames.specs.declared.sent.Sent.TheVariants as slots
 
 keeps-polls : {period turns : ℕ} {e o : EndRun} → TwoEnds period turns e o → KeepsPolls period turns e o

@@ -1,7 +1,6 @@
 mod Kept
 pub mod Trace
 pub mod Names
-mod Truths
 pub mod NumberHear
 pub mod Words
 pub mod HeardNumber

@@ -4,7 +4,7 @@ use Rattle.std.proofs.Common.{◌%◌, List, subst}
 use Rattle.link_account.proofs.Names.{cases_lt, nat_tests, Role, other, of, waits, Arrived, Account, is_connected, hear, Originator}
 use Rattle.link_account.proofs.Names.{Answerer}
 use Rattle.link_run.proofs.Names.{User, Turn, arrival, Carries, Link, is_released, Accounts, Hears, served_at}
-use Rattle.turn_losses.proofs.Truths.{clash, not-true}
+use Rattle.turn_bound.proofs.Truths.{clash, not-true}
 use Rattle.turn_losses.proofs.Periods.{once, loses-at, loses-last}
 use Rattle.turn_losses.proofs.PeriodLaws.{is-heard, was-sent, last-heard, two-ends, NoneLost}
 use Rattle.turn_losses.proofs.Expiries.{LostIn, lost-or-none}

@@ -18,7 +18,7 @@ use Rattle.xid_params.specs.Terms.{default_offer, lowered}
 use Rattle.link_account.specs.Account.{window_for}
 use Rattle.link_run.specs.End.{asked_at}
 use Rattle.turn_bound.proofs.Serving.{before_asking, offers-well}
-use Rattle.turn_losses.proofs.Truths.{unlinked-connected}
+use Rattle.turn_bound.proofs.Truths.{unlinked-connected}
 use Rattle.turn_losses.proofs.Names.{served_account, is_linked}
 
 -- the N(R) of a frame that acknowledges, and the N(S) of an I frame

@@ -1,6 +1,7 @@
 -- An answerer that gives up, also while the originator releases.
 use Rattle.std.proofs.Common.{◌⊎◌, inl, inr, ◌≡◌, ◌≢◌, ℕ, zero, suc, ◌+◌, ◌-◌, ◌*◌, ◌<◌, ◌≤◌, ◌&&◌, ◌||◌, not, Bool, true, false, cond}
 use Rattle.std.proofs.Common.{nat_eq, max, List, ◌∷◌, length, arith, refl, sym, ◌∙◌, ap, subst, Some, None, Ok, Err}
+use Rattle.turn_bound.proofs.Truths.{neither-first, and-two, clash, is-true}
 use Rattle.turn_bound.proofs.Value.{linked-of, connected-is}
 use Rattle.turn_bound.proofs.Speaking.{stopped}
 use Rattle.link_account.proofs.Names.{cases_lt, nat_tests, Role, Originator, Answerer, is_originator, Outgoing, ReadsWritten, waits}
@@ -13,7 +14,6 @@ use Rattle.link_account.specs.Speak.{speak_detecting, speak_negotiating}
 use Rattle.link_run.specs.End.{is_ready}
 use Rattle.link_run.specs.Run.{BrokenTurn, finished_at, served_ends}
 use Rattle.link_run.specs.Starved.{SpanLoses, IsStarved}
-use Rattle.turn_losses.proofs.Truths.{and-two, clash, is-true}
 use Rattle.turn_losses.proofs.Periods.{once, later-loses, loses-at, loses-last, loses-of}
 use Rattle.turn_losses.specs.Losses.{AnswererWantsAnswers}
 use Rattle.turn_losses.proofs.PollHear.{linked-connected}
@@ -131,14 +131,10 @@ told-release link t mid e = go (is_connected a.phase) refl
         let x = and-two (is_whole a.outgoing) _ f in
         record {
           done = x.0;
-          breaks = first (waits a.own_breaks) (is_ready t (next_break link.answ.user.breaks a))
+          breaks = neither-first (waits a.own_breaks) (is_ready t (next_break link.answ.user.breaks a))
               (not-either _ x.1);
           connected = q;
         }
-      where
-        first : (x y : Bool) → x || y ≡ false → x ≡ false
-        first true y g = cc
-        first false y g = refl
     go false q f = cc
 
 -- where a Connected originator comes to release, it was told

@@ -12,7 +12,7 @@ use Rattle.turn_losses.proofs.PollsFresh.{WasSent, Polls, Fresh, polls-fresh, se
 use Rattle.turn_losses.proofs.Tracing.{past-all, past-length, starts-fresh}
 use Rattle.lapm_frames.specs.declared.arrived.Arrived.TheVariants as arrivals
 use Rattle.turn_losses.proofs.Kept.{kept-in, kept-on}
-use Rattle.turn_losses.proofs.Truths.{clash, not-true, is-true, or-late}
+use Rattle.turn_bound.proofs.Truths.{clash, not-true, is-true, or-late}
 use Rattle.turn_losses.proofs.Clocks.{last}
 
 -- What a response with F = 1 answers: a poll sent a round trip before, which became due in that turn or the one before it; none became due

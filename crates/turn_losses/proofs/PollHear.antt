@@ -4,7 +4,7 @@ use Rattle.link_account.proofs.Names.{without_adp}
 use Rattle.link_run.proofs.Names.{Phase, Connected}
 use Rattle.link_account.specs.Hear.{first_wait}
 use Rattle.link_account.proofs.HearWays.{ConnectedWays, EarlyWays, by-ways}
-use Rattle.turn_losses.proofs.Truths.{or-false}
+use Rattle.turn_bound.proofs.Truths.{or-false}
 use Rattle.turn_losses.proofs.HeardNumber.{number-rows, plain-frame}
 use Rattle.turn_losses.proofs.Names.{is_poll, of_arrived, SetFrom, is_linked}
 

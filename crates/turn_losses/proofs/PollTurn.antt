@@ -1,5 +1,6 @@
 use Rattle.std.proofs.Common.{◌⊎◌, inl, inr, ◌≡◌, ℕ, ◌+◌, ◌&&◌, ◌||◌, not, Bool, true, false, arith, refl, sym, ◌∙◌, ap, Option, Some, None}
 use Rattle.std.proofs.Common.{Ok, ◌≤◌, cond}
+use Rattle.turn_bound.proofs.Truths.{or-late, and-two, unlinked-connected, and-second, and-true, clash, and-drop}
 use Rattle.link_account.proofs.Names.{Frame, OwnBreaks, Account, is_connected, trying, Said, frame_for, nr_of, ready_frame, speak, Role}
 use Rattle.link_account.proofs.Names.{Originator, Answerer}
 use Rattle.link_run.proofs.Names.{Connected, Releasing, Answer, Phase, Closed, is_closed, is_released}
@@ -10,7 +11,6 @@ use Rattle.turn_losses.proofs.PollHear.{set-same, PollHeard, linked-connected}
 use Rattle.turn_losses.proofs.Names.{is_poll, is_final, of_frame, SetFrom, is_linked, NoneDue, poll_due, PollTurn}
 use Rattle.link_account.specs.declared.answer.Answer.TheVariants as answers
 use Rattle.turn_bound.proofs.AtMostOne.{OneDue}
-use Rattle.turn_losses.proofs.Truths.{and-two, unlinked-connected, and-second, and-true, clash, or-late, and-drop}
 use Rattle.turn_losses.proofs.Trace.{Early}
 use Rattle.turn_bound.proofs.Tied.{keeps}
 
@@ -349,16 +349,12 @@ poll-turn period turn role polled final a b said some h k one none early untimed
     answered : polled ≡ true → is_connected a.phase ≡ true → is_connected c.phase ≡ true → of_frame is_final said.sent ≡ true
     answered p x e = by (k.connected e)
       where
-        or-last : (m n : Bool) → n ≡ true → m || n ≡ true
-        or-last true n g = refl
-        or-last false n g = g
-
         by : (is_connected b.phase ≡ true) × SaidPoll turn b said → of_frame is_final said.sent ≡ true
-        by (f, l) = l.replies (on one.one) (h.asked x f ∙ or-last a.owes.reply polled p)
+        by (f, l) = l.replies (on one.one) (h.asked x f ∙ or-late a.owes.reply polled p)
           where
             on : (b.owes.answer ≡ None) ⊎ (is_released b.phase ≡ false → b.owes.reply ≡ false) → b.owes.answer ≡ None
             on (inl n) = n
-            on (inr g) = clash b.owes.reply (h.asked x f ∙ or-last a.owes.reply polled p) (g (connected-released b.phase f))
+            on (inr g) = clash b.owes.reply (h.asked x f ∙ or-late a.owes.reply polled p) (g (connected-released b.phase f))
 
     keeps-count : is_connected a.phase ≡ true → (count ≡ 0) ⊎ (count ≡ a.outgoing.count)
     keeps-count x = elim (keeps x) [ inl y ↦ inl y | inr x ↦ inr x.0 ]

@@ -7,7 +7,7 @@ use Rattle.link_run.proofs.Names.{Phase, Releasing, Closed, User, is_released, i
 use Rattle.link_run.proofs.Names.{Accounts, Turn, Hears, arrival, Carries, LosesSome}
 use Rattle.turn_bound.proofs.MeetHear.{o-hears}
 use Rattle.turn_bound.proofs.Serving.{serves-first, before_asking}
-use Rattle.turn_losses.proofs.Truths.{clash, is-true, not-true}
+use Rattle.turn_bound.proofs.Truths.{clash, is-true, not-true}
 use Rattle.turn_losses.proofs.PollHear.{linked-connected}
 use Rattle.turn_bound.proofs.Value.{connected-is}
 use Rattle.turn_losses.proofs.PeriodLaws.{two-ends, connected-since, is-heard, last-heard, linked-on}

@@ -5,7 +5,7 @@ use Rattle.link_account.proofs.Names.{is_some, cases_lt, Originator, Answerer, o
 use Rattle.link_account.proofs.Names.{MayPlay, Said, speak, Frame, Sabme, Disc, Xid, Spent, NotDetected, is_connected, says, speak_in}
 use Rattle.link_run.proofs.Names.{Phase, Detecting, Negotiating, Establishing, Connected, Releasing, Closed, is_released, is_closed}
 use Rattle.link_run.proofs.Names.{arrival, Link, Accounts, served_at, releases}
-use Rattle.turn_losses.proofs.Truths.{not-true, clash}
+use Rattle.turn_bound.proofs.Truths.{not-true, clash}
 use Rattle.turn_losses.proofs.Numbering.{allowed}
 use Rattle.turn_losses.proofs.Follows.{numbered-linked}
 use Rattle.turn_losses.proofs.Tracing.{release_of, EndTurn, end-turn, timed-run, last-turn, starts-fresh}

@@ -4,7 +4,7 @@ use Rattle.link_account.proofs.Names.{is_some, cases_lt, Role, of, waits, Arrive
 use Rattle.turn_bound.proofs.Value.{linked-of, unlinked-of, Linked, IsAck, connected-is}
 use Rattle.turn_bound.proofs.Speaking.{linked-says}
 use Rattle.link_run.proofs.Names.{arrival, served_at}
-use Rattle.turn_losses.proofs.Truths.{clash}
+use Rattle.turn_bound.proofs.Truths.{clash}
 use Rattle.turn_losses.proofs.Tracing.{release_of, TurnAt, EndTurn, end-turn}
 use Rattle.turn_losses.proofs.BreakHear.{quiet-heard, break-heard, old-heard}
 use Rattle.turn_losses.proofs.BreakTurn.{SaidBreaks, breaks-said, Deeds, BreakTurn, break-turn}

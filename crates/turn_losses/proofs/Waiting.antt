@@ -1,7 +1,7 @@
 -- A break that waits by the turn: when its BRK became due, and what is lost before it becomes due again.
 use Rattle.std.proofs.Common.{inl, inr, ◌≡◌, ℕ, ◌+◌, ◌-◌, ◌*◌, ◌%◌, ◌<◌, ◌≤◌, true, false, arith, refl, sym, ◌∙◌, ap}
 use Rattle.link_account.proofs.Names.{cases_lt, waits, Account, is_connected}
-use Rattle.turn_losses.proofs.Truths.{clash}
+use Rattle.turn_bound.proofs.Truths.{clash}
 use Rattle.turn_losses.proofs.PeriodLaws.{was-sent, is-heard, turned, NoneLost}
 use Rattle.turn_losses.proofs.Clocks.{Ticked, chain}
 use Rattle.turn_losses.proofs.BreakTurn.{Deeds, OwnTurn, wait-ends, BreakTurn, number_of, brk_due}

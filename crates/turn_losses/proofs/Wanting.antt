@@ -24,7 +24,7 @@ use Rattle.turn_losses.specs.Losses.{OriginatorWantsAnswers, OriginatorIsStarved
 use Rattle.turn_losses.proofs.Clocks.{last}
 use Rattle.turn_losses.proofs.PollHear.{PollHeard, linked-connected}
 use Rattle.turn_losses.proofs.Follows.{numbered-linked}
-use Rattle.turn_losses.proofs.Truths.{clash, is-true}
+use Rattle.turn_bound.proofs.Truths.{clash, is-true}
 
 -- the segments' clock expires with the last try
 pub record SpendsTries (turn : ℕ) (b : Account) : Type 0 where

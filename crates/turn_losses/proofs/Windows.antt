@@ -4,7 +4,7 @@ use Rattle.std.proofs.Common.{sym, ◌∙◌, ◌*◌, subst, Option, Some, None
 use Rattle.std.proofs.lemmas.Bool.{cases_lt}
 use Rattle.turn_losses.proofs.BreakTurn.{holds, Deeds, OwnTurn, made-set, BreakTurn, brk_due, number_of, ack_due}
 use Rattle.link_account.proofs.Names.{nat_tests, OwnBreaks, waits, is_connected, BreakWord}
-use Rattle.turn_losses.proofs.Truths.{not-true, and-two, and-drop, clash}
+use Rattle.turn_bound.proofs.Truths.{not-true, and-two, and-drop, clash}
 use Rattle.turn_losses.proofs.PollHear.{linked-connected}
 use Rattle.turn_losses.proofs.PeriodLaws.{was-sent, turned, polls-apart, reply-from, reply-matches, connected-since}
 use Rattle.turn_losses.proofs.BreakTurn.OwnTurn.{Stays, Ends, Takes, Expires}

@@ -2,7 +2,7 @@
 use Rattle.std.proofs.Common.{◌≡◌, ◌&&◌, ◌||◌, Bool, true, false, refl, sym, ◌∙◌}
 use Rattle.link_account.proofs.Names.{is_connected}
 use Rattle.link_run.proofs.Names.{Phase, Connected}
-use Rattle.turn_losses.proofs.Names.{is_linked}
+use Rattle.link_account.specs.Laws.{has_begun as is_linked}
 
 pub clash : {A : Type 0} (b : Bool) → b ≡ true → b ≡ false → A
 clash b e f = let wrong : true ≡ false = sym e ∙ f in cc
@@ -29,6 +29,16 @@ and-second b c e = (and-two b c e).1
 pub and-not : (b c : Bool) → b ≡ true → b && c ≡ false → c ≡ false
 and-not true c e f = f
 and-not false c e f = cc
+
+pub or-false-both : (b c : Bool) → b || c ≡ false → (b ≡ false) × (c ≡ false)
+or-false-both true c e = cc
+or-false-both false c e = (refl, e)
+
+pub neither-first : (b c : Bool) → b || c ≡ false → b ≡ false
+neither-first b c e = (or-false-both b c e).0
+
+pub neither-second : (b c : Bool) → b || c ≡ false → c ≡ false
+neither-second b c e = (or-false-both b c e).1
 
 pub and-drop : (b c : Bool) → c ≡ false → b && c ≡ false
 and-drop true c e = e
