@@ -75,9 +75,9 @@ pieces-same : (o new : Outgoing) → Heard o new → length new.pieces ≡ lengt
 pieces-same o new h = ap (λ l. length l) h.pieces
 
 heard-sends : (z : Rates) (turn : ℕ) (o new : Outgoing) (timer timer' : Option ℕ) → Sends z turn turn o timer → Heard o new
-    → is_some timer' ≡ is_waiting new → Ticks z (turn + 1) turn new.count timer'
-    → Sends z (turn + 1) turn new timer'
-heard-sends z turn o new timer timer' s h cause ticks = record {
+    → (paused : Bool) (count : ℕ) → is_some timer' ≡ (is_outstanding new || (new.awaited || paused)) → Ticks z (turn + 1) turn count timer'
+    → Sends z (turn + 1) turn (record new { paused = paused; count = count }) timer'
+heard-sends z turn o new timer timer' s h paused count cause ticks = record {
   front_from = h.front_from;
   from_high = h.from_high;
   high_pieces = omega (arith, pieces-same o new h, s.high_pieces, h.high);
@@ -140,11 +140,11 @@ heard-well z total turn o new timer y s h all =
         → timer' ≡ cond waiting (cond advances (Some turn) timer) None → new.count ≡ cond waiting (cond advances 0 o.count) 0
         → HeardWell z total turn o timer new timer' 0
     go true e true w timer' t c = record {
-      sends = heard-sends z turn o new timer timer' s h (rw (t, w) refl) (rw (t, c) (ticks-now z turn));
+      sends = heard-sends z turn o new timer timer' s h new.paused new.count (rw (t, w) refl) (rw (t, c) (ticks-now z turn));
       falls = advanced-on true w e timer' (ap (λ r. left z turn new.count r) t ∙ ap (λ n. left z turn n (Some turn)) c ∙ now);
     }
     go true e false w timer' t c = record {
-      sends = heard-sends z turn o new timer timer' s h (rw (t, w) refl) (rw (t, c) refl);
+      sends = heard-sends z turn o new timer timer' s h new.paused new.count (rw (t, w) refl) (rw (t, c) refl);
       falls = advanced-on false w e timer' (ap (λ r. left z turn new.count r) t);
     }
     go false e true w timer' t c =
@@ -152,7 +152,7 @@ heard-well z total turn o new timer y s h all =
         let waits : is_waiting o ≡ true =
         waiting-less (is_outstanding o) o.awaited o.paused new.awaited new.paused h.awaited h.paused
         (ap (λ b. b || (new.awaited || new.paused)) same.0 ∙ w) in record {
-          sends = heard-sends z turn o new timer timer' s h (rw (t, w) (s.cause ∙ waits))
+          sends = heard-sends z turn o new timer timer' s h new.paused new.count (rw (t, w) (s.cause ∙ waits))
               (rw (t, c) (ticks-later z turn turn o.count timer s.ticks));
           falls = stays waits (ap (λ r. left z turn new.count r) t ∙ ap (λ n. left z turn n timer) c) same.1;
         }
@@ -162,7 +162,7 @@ heard-well z total turn o new timer y s h all =
         stays e' l front = omega (arith, worth-same z total o new h e, l, ends-is z.room (is_waiting o) (is_waiting new) true true e' w)
     go false e false w timer' t c =
         let same = outstanding-same o new h e in record {
-          sends = heard-sends z turn o new timer timer' s h (rw (t, w) refl) (rw (t, c) refl);
+          sends = heard-sends z turn o new timer timer' s h new.paused new.count (rw (t, w) refl) (rw (t, c) refl);
           falls = stops (is_waiting o) refl (ap (λ r. left z turn new.count r) t) same.1;
         }
       where
@@ -184,17 +184,7 @@ pub heard-busy : (z : Rates) (total turn : ℕ) (o new : Outgoing) (timer : Opti
     → length o.pieces ≤ total
     → HeardWell z total turn o timer (paused_at new) (Some turn) z.quota
 heard-busy z total turn o new timer y s h all = record {
-  sends = record {
-    front_from = h.front_from;
-    from_high = h.from_high;
-    high_pieces = omega (arith, pieces-same o new h, s.high_pieces, h.high);
-    high_window = omega (arith, h.front_low, h.high, h.window, s.high_window);
-    window = omega (arith, h.window, s.window);
-    chosen = h.chosen;
-    tries_are = h.tries ∙ s.tries_are;
-    cause = busy-waits (is_outstanding new) new.awaited;
-    ticks = ticks-now z turn;
-  };
+  sends = heard-sends z turn o new timer (Some turn) s h true 0 (busy-waits (is_outstanding new) new.awaited) (ticks-now z turn);
   falls = go (nat_lt o.front new.front) refl (is_waiting o) refl;
 }
   where

@@ -14,22 +14,28 @@ pub record WaitedWell (z : Rates) (total turn : ℕ) (o : Outgoing) (timer : Opt
   pub waits : is_waiting new ≡ is_waiting o
   pub falls : sender_value z total (turn + 1) new timer' + one_if (is_waiting o) ≤ sender_value z total turn o timer
 
+-- by another clock
+with-clock : {z : Rates} {before turn before' turn' : ℕ} {o : Outgoing} {timer timer' : Option ℕ} → Sends z before turn o timer
+    → (count : ℕ) (awaited : Bool) → is_some timer' ≡ (is_outstanding o || (awaited || o.paused)) → Ticks z before' turn' count timer'
+    → Sends z before' turn' (record o { count = count; awaited = awaited }) timer'
+with-clock s count awaited cause ticks = record {
+  front_from = s.front_from;
+  from_high = s.from_high;
+  high_pieces = s.high_pieces;
+  high_window = s.high_window;
+  window = s.window;
+  chosen = s.chosen;
+  tries_are = s.tries_are;
+  cause = cause;
+  ticks = ticks;
+}
+
 -- without an expiry
 pub waited-quiet : (z : Rates) (total turn : ℕ) (o : Outgoing) (timer : Option ℕ) → AreRates z → Sends z (turn + 1) turn o timer
     → ((set : ℕ) → timer ≡ Some set → nat_eq turn (set + z.period) ≡ false)
     → WaitedWell z total turn o timer o timer
 waited-quiet z total turn o timer y s quiet = record {
-  sends = record {
-    front_from = s.front_from;
-    from_high = s.from_high;
-    high_pieces = s.high_pieces;
-    high_window = s.high_window;
-    window = s.window;
-    chosen = s.chosen;
-    tries_are = s.tries_are;
-    cause = s.cause;
-    ticks = on timer refl s.ticks;
-  };
+  sends = with-clock s o.count o.awaited s.cause (on timer refl s.ticks);
   waits = refl;
   falls = falling timer refl s.ticks s.cause;
 }
@@ -57,22 +63,12 @@ waited-expired z total turn o set y s due more =
     let now : turn ≡ set + z.period = grind (arith, nat_tests) in
     let fewer : o.count < z.tries = grind (arith, nat_tests, s.ticks.tried, s.tries_are) in
     record {
-      sends = record {
-        front_from = s.front_from;
-        from_high = s.from_high;
-        high_pieces = s.high_pieces;
-        high_window = s.high_window;
-        window = s.window;
-        chosen = s.chosen;
-        tries_are = s.tries_are;
-        cause = polls (is_outstanding o) o.paused;
-        ticks = record {
-          tied = omega (arith, s.ticks.tied, now);
-          started = omega arith;
-          within = omega (arith, y.period);
-          tried = omega (arith, fewer);
-        };
-      };
+      sends = with-clock s (o.count + 1) true (polls (is_outstanding o) o.paused) (record {
+        tied = omega (arith, s.ticks.tied, now);
+        started = omega arith;
+        within = omega (arith, y.period);
+        tried = omega (arith, fewer);
+      });
       waits = sym (polls (is_outstanding o) o.paused) ∙ s.cause;
       falls = rw (sym s.cause) (omega (arith, tries_fit z (o.count + 1) y (omega (arith, fewer)), now));
     }
@@ -202,17 +198,7 @@ offered-sends z before turn o timer pieces ended s more = record {
 }
 
 pub later-sends : (z : Rates) (turn : ℕ) (o : Outgoing) (timer : Option ℕ) → Sends z turn turn o timer → Sends z (turn + 1) turn o timer
-later-sends z turn o timer s = record {
-  front_from = s.front_from;
-  from_high = s.from_high;
-  high_pieces = s.high_pieces;
-  high_window = s.high_window;
-  window = s.window;
-  chosen = s.chosen;
-  tries_are = s.tries_are;
-  cause = s.cause;
-  ticks = ticks-later z turn turn o.count timer s.ticks;
-}
+later-sends z turn o timer s = with-clock s o.count o.awaited s.cause (ticks-later z turn turn o.count timer s.ticks)
 
 pub later-breaks : (z : Rates) (turn : ℕ) (b : OwnBreaks) → Breaks z turn turn b → Breaks z (turn + 1) turn b
 later-breaks z turn b s = record {

@@ -1,14 +1,14 @@
 -- What a Connected end makes of the numbers that it hears.
 use Rattle.std.proofs.Common.{◌⊎◌, inl, inr, ◌≡◌, ℕ, ◌%◌, ◌<◌, ◌≤◌, ◌||◌, Bool, true, false, cond, nat_lt, List, length, length-append}
 use Rattle.std.proofs.Common.{arith, refl, sym, ◌∙◌, ap, subst, Option, Some, None, Ok, zero, suc, ◌+◌, ◌&&◌, not, min, nat_le, [], ◌∷◌}
-use Rattle.link_account.proofs.Names.{nat_tests, cases_lt, Frame, I, Rr, Rnr, Rej, meant, Outgoing, is_outstanding, advanced, resumed}
-use Rattle.link_account.proofs.Names.{Incoming, after_take, after_kind, kind_of, offset, Took, InOrder, Kept, Gap, Sent, Arrived, Account}
-use Rattle.link_account.proofs.Names.{is_connected, hear, Role, Originator, Answerer, Offer, Terms, IsAllowed, agree, with_piece, after_ask}
-use Rattle.link_account.proofs.Names.{wants, piece_size, after_given, on_nothing}
-use Rattle.lapm_sender.specs.Outgoing.{gone_back, wait_ended, paused_at}
+use Rattle.turn_losses.proofs.Names.{Rates, Sends, served_account, is_linked}
+use Rattle.turn_bound.proofs.Sender.{Heard, ended, heard-advanced, heard-resumed, acked-heard, meant-range}
+use Rattle.link_account.proofs.Names.{nat_tests, Frame, I, Rr, Rnr, Rej, meant, Outgoing, is_outstanding, resumed, Incoming, after_take}
+use Rattle.link_account.proofs.Names.{after_kind, kind_of, offset, Took, InOrder, Kept, Gap, Sent, Arrived, Account, is_connected, hear}
+use Rattle.link_account.proofs.Names.{Role, Originator, Answerer, Offer, Terms, IsAllowed, agree, with_piece, after_ask, wants, piece_size}
+use Rattle.link_account.proofs.Names.{after_given, on_nothing}
 use Rattle.lapm_receiver.specs.Incoming.{kind_at}
 use Rattle.link_account.proofs.HearWays.{by-linked, acked, acked_back, Plain, IsUa, IsXid, IsTest, IsNoWord, by-early}
-use Rattle.turn_bound.proofs.Sender.{meant-range}
 use Rattle.turn_bound.proofs.Value.{connected-is}
 use Rattle.lapm_frames.specs.declared.sent.Sent.TheVariants as slots
 use Rattle.lapm_frames.specs.declared.arrived.Arrived.TheVariants as arrivals
@@ -19,7 +19,6 @@ use Rattle.link_account.specs.Account.{window_for}
 use Rattle.link_run.specs.End.{asked_at}
 use Rattle.turn_bound.proofs.Serving.{before_asking, offers-well}
 use Rattle.turn_bound.proofs.Truths.{unlinked-connected}
-use Rattle.turn_losses.proofs.Names.{served_account, is_linked}
 
 -- the N(R) of a frame that acknowledges, and the N(S) of an I frame
 abbrev pub frame_nr : Frame → Option ℕ
@@ -105,44 +104,23 @@ record Fronted (n : ℕ) (o new : Outgoing) : Type 0 where
   pub front : new.front ≡ n
   pub advance : (n ≡ o.front) ⊎ (new.count ≡ 0)
 
-fronted-advanced : (o : Outgoing) (n : ℕ) → o.front ≤ n → Fronted n o (advanced o n)
-fronted-advanced o n low = record { window = refl; pieces = refl; front = refl; advance = go (cases_lt o.front n) }
+fronted : (n : ℕ) (o new : Outgoing) → Heard o new → new.front ≡ n → Fronted n o new
+fronted n o new h e = record { window = h.window; pieces = h.pieces; front = e; advance = go (nat_lt o.front new.front) refl }
   where
-    go : (o.front < n) ⊎ (n ≤ o.front) → (n ≡ o.front) ⊎ ((advanced o n).count ≡ 0)
-    go (inl l) = let e : nat_lt o.front n ≡ true = grind (arith, nat_tests, l) in inr (ap (λ b. cond b 0 o.count) e)
-    go (inr g) = inl (omega (arith, low, g))
+    go : (b : Bool) → nat_lt o.front new.front ≡ b → (n ≡ o.front) ⊎ (new.count ≡ 0)
+    go true f = inr (h.count ∙ ap (λ b. cond b 0 (cond (ended o new) 0 o.count)) f)
+    go false f = inl (let same : o.front ≡ new.front = grind (arith, nat_tests, h.front_low, f) in omega (arith, same, e))
 
-fronted-gone : (n : ℕ) (o new : Outgoing) → Fronted n o new → Fronted n o (gone_back new)
-fronted-gone n o new h = record { window = h.window; pieces = h.pieces; front = h.front; advance = h.advance }
+acked-front : (final : Bool) (o : Outgoing) (n : ℕ) → ((acked final o n).front ≡ n) × ((acked_back final o n).front ≡ n)
+acked-front true o n = (refl, refl)
+acked-front false o n = (refl, refl)
 
-zero-kept : (b : Bool) (c : ℕ) → c ≡ 0 → cond b c 0 ≡ 0
-zero-kept true c e = e
-zero-kept false c e = refl
-
-fronted-ended : (n : ℕ) (o new : Outgoing) → Fronted n o new → Fronted n o (wait_ended new)
-fronted-ended n o new h = record { window = h.window; pieces = h.pieces; front = h.front; advance = by h.advance }
+resumed-front : (o : Outgoing) → (resumed o).front ≡ o.front
+resumed-front o = go o.paused
   where
-    by : (n ≡ o.front) ⊎ (new.count ≡ 0) → (n ≡ o.front) ⊎ ((wait_ended new).count ≡ 0)
-    by (inl e) = inl e
-    by (inr e) = inr (zero-kept (is_outstanding new || new.paused) new.count e)
-
-fronted-resumed : (n : ℕ) (o new : Outgoing) → Fronted n o new → Fronted n o (resumed new)
-fronted-resumed n o new h = go new.paused
-  where
-    by : (n ≡ o.front) ⊎ (new.count ≡ 0) → (n ≡ o.front) ⊎ (cond (is_outstanding new || new.awaited) new.count 0 ≡ 0)
-    by (inl e) = inl e
-    by (inr e) = inr (zero-kept (is_outstanding new || new.awaited) new.count e)
-
-    go : (p : Bool) → Fronted n o (cond p (record new { paused = false; count = cond (is_outstanding new || new.awaited) new.count 0 }) new)
-    go true = record { window = h.window; pieces = h.pieces; front = h.front; advance = by h.advance }
-    go false = h
-
-fronted-paused : (n : ℕ) (o new : Outgoing) → Fronted n o new → Fronted n o (paused_at new)
-fronted-paused n o new h = record { window = h.window; pieces = h.pieces; front = h.front; advance = inr refl }
-
-fronted-acked : (final : Bool) (o : Outgoing) (n : ℕ) → o.front ≤ n → Fronted n o (acked final o n) × Fronted n o (acked_back final o n)
-fronted-acked true o n l = let k = fronted-ended n o _ (fronted-advanced o n l) in (k, k)
-fronted-acked false o n l = let k = fronted-advanced o n l in (k, fronted-gone n o _ k)
+    go : (b : Bool) → (cond b (record o { paused = false; count = cond (is_outstanding o || o.awaited) o.count 0 }) o).front ≡ o.front
+    go true = refl
+    go false = refl
 
 -- nothing of it changes
 heard-same : (arrived : Arrived) (a b : Account) → nr_heard arrived ≡ None → ns_heard arrived ≡ None → b.outgoing ≡ a.outgoing
@@ -160,10 +138,10 @@ heard-same arrived a b x y o i s = record {
 
 -- a number is heard
 heard-number : (frame : Frame) (nr n : ℕ) (a b : Account) → frame_nr frame ≡ Some nr → meant a.outgoing.front a.outgoing.high nr ≡ Some n
-    → (a.outgoing.front ≤ n → Fronted n a.outgoing b.outgoing) → TakenOf (frame_ns frame) a.incoming b.incoming → b.numbered ≡ true
+    → Fronted n a.outgoing b.outgoing → TakenOf (frame_ns frame) a.incoming b.incoming → b.numbered ≡ true
     → b.special ≡ a.special → NumbersHeard (arrivals.Frame frame) a b
-heard-number frame nr n a b e m k taken numbered special =
-    let range = meant-range a.outgoing.front a.outgoing.high nr n m in let w = k range.0 in
+heard-number frame nr n a b e m w taken numbered special =
+    let range = meant-range a.outgoing.front a.outgoing.high nr n m in
     record {
       window = w.window;
       pieces = w.pieces;
@@ -182,20 +160,26 @@ plain-none frame (IsXid command pf info e) = (ap frame_nr e, ap frame_ns e)
 plain-none frame (IsTest command pf info e) = (ap frame_nr e, ap frame_ns e)
 plain-none frame (IsNoWord command pf info fault w e) = (ap frame_nr e, ap frame_ns e)
 
-pub numbers-heard : (arrived : Arrived) (turn : ℕ) (a mid : Account) → is_connected a.phase ≡ true → hear turn arrived a ≡ Ok mid
-    → NumbersHeard arrived a mid
-numbers-heard arrived turn a mid c e = by-linked (λ x b. NumbersHeard x a b) turn a (record {
+pub numbers-heard : (z : Rates) (arrived : Arrived) (turn : ℕ) (a mid : Account) → is_connected a.phase ≡ true
+    → Sends z turn turn a.outgoing a.wait.timer → hear turn arrived a ≡ Ok mid → NumbersHeard arrived a mid
+numbers-heard z arrived turn a mid c s e = by-linked (λ x b. NumbersHeard x a b) turn a (record {
   pattern = λ seen. heard-same _ a a refl refl refl refl refl;
   plain = λ frame p. let k = plain-none frame p in heard-same _ a a k.0 k.1 refl refl refl;
   numbers = record {
-    i = λ ns nr pf info n m. heard-number (I ns nr pf info) nr n a _ refl m (fronted-advanced a.outgoing n)
-        (takes-of ns info a.incoming) refl refl;
-    rr = λ command pf nr n final f m. heard-number (Rr command nr pf) nr n a _ refl m
-        (λ l. fronted-resumed n a.outgoing _ (fronted-acked final a.outgoing n l).0) (same-taken a.incoming) refl refl;
-    rej = λ command pf nr n final f m. heard-number (Rej command nr pf) nr n a _ refl m
-        (λ l. fronted-resumed n a.outgoing _ (fronted-acked final a.outgoing n l).1) (same-taken a.incoming) refl refl;
-    rnr = λ command pf nr n final f m. heard-number (Rnr command nr pf) nr n a _ refl m
-        (λ l. fronted-paused n a.outgoing _ (fronted-acked final a.outgoing n l).0) (same-taken a.incoming) refl refl;
+    i = λ ns nr pf info n m. let r = meant-range a.outgoing.front a.outgoing.high nr n m in
+        heard-number (I ns nr pf info) nr n a _ refl m (fronted n a.outgoing _
+        (heard-advanced z turn turn a.outgoing a.wait.timer n s r.0 r.1) refl) (takes-of ns info a.incoming) refl refl;
+    rr = λ command pf nr n final f m. heard-number (Rr command nr pf) nr n a _ refl m (fronted n a.outgoing _
+        (heard-resumed a.outgoing _ (acked-heard z turn turn a final command pf nr n s f m).0)
+        (resumed-front _ ∙ (acked-front final a.outgoing n).0)) (same-taken a.incoming) refl refl;
+    rej = λ command pf nr n final f m. heard-number (Rej command nr pf) nr n a _ refl m (fronted n a.outgoing _
+        (heard-resumed a.outgoing _ (acked-heard z turn turn a final command pf nr n s f m).1)
+        (resumed-front _ ∙ (acked-front final a.outgoing n).1)) (same-taken a.incoming) refl refl;
+    rnr = λ command pf nr n final f m.
+        let k = (acked-heard z turn turn a final command pf nr n s f m).0 in
+        heard-number (Rnr command nr pf) nr n a _ refl m
+        (record { window = k.window; pieces = k.pieces; front = (acked-front final a.outgoing n).0; advance = inr refl })
+        (same-taken a.incoming) refl refl;
     srej = λ command pf nr n f m. record {
       window = refl;
       pieces = refl;

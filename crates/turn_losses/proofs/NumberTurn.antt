@@ -1,6 +1,8 @@
 -- What a Connected end tells as it speaks.
 use Rattle.std.proofs.Common.{◌⊎◌, inl, inr, ◌≡◌, ℕ, ◌++◌, ◌%◌, ◌||◌, Bool, true, false, cond, [], ◌∷◌, length, refl, sym, ◌∙◌, ap, Option}
 use Rattle.std.proofs.Common.{Some, None, Ok, zero, suc, ◌+◌, ◌≤◌, List, arith}
+use Rattle.turn_losses.proofs.Names.{rates, is_linked}
+use Rattle.turn_bound.proofs.Value.{linked-of, connected-is}
 use Rattle.link_account.proofs.Names.{is_some, is_originator, Outgoing, Incoming, OwnBreaks, Account, Said, nr_of, frame_for, ready_frame}
 use Rattle.link_account.proofs.Names.{speak_linked, Role, Sent, Arrived, is_connected, speak, IsAllowed}
 use Rattle.link_run.proofs.Names.{Answer, Link}
@@ -14,10 +16,8 @@ use Rattle.link_account.specs.declared.answer.Answer.TheVariants as answers
 use Rattle.turn_bound.proofs.Speaking.{linked-says}
 use Rattle.turn_losses.proofs.InTurn.{InTurn}
 use Rattle.turn_losses.proofs.PollTurn.{SaidPoll, poll-speaks}
-use Rattle.turn_bound.proofs.Value.{connected-is}
 use Rattle.turn_losses.proofs.HeardNumber.{PausedHeard, paused-hears}
 use Rattle.turn_bound.proofs.Ending.{fits}
-use Rattle.turn_losses.proofs.Names.{is_linked}
 
 -- the sender's part but for what waits and goes next
 pub record SameFront (o new : Outgoing) : Type 0 where
@@ -231,7 +231,8 @@ module _ {tries period : ℕ} {link : Link} {role : Role} {turn : ℕ} {a : Acco
   }
     where
       heard : NumbersHeard arrived a mid
-      heard = numbers-heard arrived turn a mid ca i.hears
+      heard = numbers-heard (rates tries period) arrived turn a mid ca
+          (linked-of (rates tries period) turn turn role a.phase a i.stands ca).sends i.hears
 
       special : b.special ≡ a.special
       special = i.served.special ∙ heard.special
