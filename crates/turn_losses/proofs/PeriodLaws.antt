@@ -31,19 +31,6 @@ pub record StillAwaited (a : Account) : Type 0 where
   pub awaited : a.outgoing.awaited ≡ true
   pub none_due : poll_due a ≡ false
 
--- one end's polls, and the answers to them
-pub record KeepsPolls (period turns : ℕ) (e o : EndRun) : Type 0 where
-  -- they become due a period apart, and go then or in the next turn: an answer to the other end's goes at once
-  pub due_apart : (s t : ℕ) → s < t → t < turns → e.made s ≡ true → e.made t ≡ true → s + period ≤ t
-  pub fresh : (t : ℕ) → t < turns → poll_due (e.account (t + 1)) ≡ true → (e.made t ≡ true) × (hears_poll e t ≡ true)
-  pub sent_apart : (s t : ℕ) → s < t → t < turns → sends_poll e s ≡ true → sends_poll e t ≡ true → s + period ≤ t + 1
-  pub reply_from : (t : ℕ) → t < turns → sends_final e t ≡ true → hears_poll e t ≡ true
-  pub reply_at_once : (t : ℕ) → t < turns → hears_poll e t ≡ true → is_connected (e.account t).phase ≡ true
-      → is_connected (e.account (t + 1)).phase ≡ true → sends_final e t ≡ true
-  -- each answer is that of the last poll, which is still awaited
-  pub matches : (t : ℕ) → t < turns → hears_final e t ≡ true → Answers t e o
-  pub still : (t : ℕ) → t < turns → is_connected (e.account t).phase ≡ true → hears_final e t ≡ true → StillAwaited (e.account t)
-
 -- the turn so many turns ago
 pub looked : (w : TimedRun) → (k t : ℕ) → t + k < length w.ts → slice_get (past w.ts (t + k + 1)) k ≡ Some (w.deed t).turn
 looked w zero t l = ap (λ n. slice_get (past w.ts n) 0) (omega arith) ∙ ap (λ us. slice_get us 0) (w.trace.grows t (omega (arith, l)))
@@ -197,35 +184,18 @@ own-polls {period} {turns} {e} {o} k = record {
       let due = w.3 in omega (arith, far, due);
 }
 
-heard-sent : {period turns : ℕ} {e o : EndRun} → TwoEnds period turns e o → WasSent o.delay turns (hears_poll e) (sends_poll o)
-heard-sent {period} {turns} {e} {o} k = was-sent is_poll k.hears
-
 -- Polls due at one end became due at least a period apart.
 pub due-apart : {period turns : ℕ} {e o : EndRun} → TwoEnds period turns e o → (s t : ℕ) → s < t → t < turns → e.made s ≡ true
     → e.made t ≡ true → s + period ≤ t
 due-apart {period} {turns} {e} {o} k = (own-polls k).apart
 
--- A response with F = 1 is sent only where a poll is heard, and where one is heard at an end that is Connected and stays so, in that very
--- turn.
-pub reply-from : {period turns : ℕ} {e o : EndRun} → TwoEnds period turns e o → (t : ℕ) → t < turns → sends_final e t ≡ true
-    → hears_poll e t ≡ true
-reply-from {period} {turns} {e} {o} k t l = (k.own t l).replied
-
-pub reply-at-once : {period turns : ℕ} {e o : EndRun} → TwoEnds period turns e o → (t : ℕ) → t < turns → hears_poll e t ≡ true
-    → is_connected (e.account t).phase ≡ true → is_connected (e.account (t + 1)).phase ≡ true → sends_final e t ≡ true
-reply-at-once {period} {turns} {e} {o} k t l = (k.own t l).replies
-
--- A poll that is still due between turns became due in the last one, and a poll of the other end was heard in it.
+-- A poll that is still due between turns became due in the last one.
 pub poll-fresh : {period turns : ℕ} {e o : EndRun} → TwoEnds period turns e o → Fresh turns (λ t. poll_due (e.account t)) e.made
 poll-fresh {period} {turns} {e} {o} k =
     let p = k.period_is in
     (polls-fresh period e.delay o.delay turns (λ t. poll_due (e.account t)) e.made (sends_poll e) (hears_poll e)
     (λ t. poll_due (o.account t)) o.made (sends_poll o) (hears_poll o) (omega (arith, p)) k.own_delay k.other_delay
-    (own-polls k) (own-polls (turned k)) (heard-sent k) (heard-sent (turned k))).0
-
-pub poll-held-up : {period turns : ℕ} {e o : EndRun} → TwoEnds period turns e o → (t : ℕ) → t < turns → poll_due (e.account (t + 1)) ≡ true
-    → hears_poll e t ≡ true
-poll-held-up {period} {turns} {e} {o} k t l = (k.own t l).held_up
+    (own-polls k) (own-polls (turned k)) (was-sent is_poll k.hears) (was-sent is_poll k.is_heard)).0
 
 -- Polls are sent at least a period less one turn apart.
 pub polls-apart : {period turns : ℕ} {e o : EndRun} → TwoEnds period turns e o → (s t : ℕ) → s < t → t < turns → sends_poll e s ≡ true
@@ -252,8 +222,8 @@ reply-matches {period} {turns} {e} {o} k t within h = elim (poll-soon k sent (om
     replied = was-sent is_final k.hears t within h
 
     asked : (e.delay ≤ t - o.delay) × (sends_poll e (t - o.delay - e.delay) ≡ true)
-    asked = heard-sent (turned k) (t - o.delay) (omega (arith, within))
-        (reply-from (turned k) (t - o.delay) (omega (arith, within)) replied.1)
+    asked = was-sent is_poll k.is_heard (t - o.delay) (omega (arith, within))
+        ((k.other (t - o.delay) (omega (arith, within))).replied replied.1)
 
     sent : ℕ
     sent = t - o.delay - e.delay
@@ -401,7 +371,7 @@ answer-comes {period} {turns} {e} {o} k s within m ce co lost =
         is-heard is_poll k.is_heard q (omega (arith, high, within))
         (lost (q + e.delay) (omega (arith, low, k.own_delay)) (omega (arith, high))).1 ∙ sent in
         let replied : sends_final o (q + e.delay) ≡ true =
-        reply-at-once (turned k) (q + e.delay) (omega (arith, high, within)) polled
+        (k.other (q + e.delay) (omega (arith, high, within))).replies polled
         (co (q + e.delay) (omega (arith, low)) (omega (arith, high)))
         (co (q + e.delay + 1) (omega (arith, low)) (omega (arith, high, k.other_delay))) in
         let answered : hears_final e (q + e.delay + o.delay) ≡ true =

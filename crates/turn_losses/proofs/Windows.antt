@@ -6,7 +6,7 @@ use Rattle.turn_losses.proofs.BreakTurn.{holds, Deeds, OwnTurn, made-set, BreakT
 use Rattle.link_account.proofs.Names.{nat_tests, OwnBreaks, waits, is_connected, BreakWord}
 use Rattle.turn_bound.proofs.Truths.{not-true, and-two, and-drop, clash}
 use Rattle.turn_losses.proofs.PollHear.{linked-connected}
-use Rattle.turn_losses.proofs.PeriodLaws.{was-sent, turned, polls-apart, reply-from, reply-matches, connected-since}
+use Rattle.turn_losses.proofs.PeriodLaws.{was-sent, turned, polls-apart, reply-matches, connected-since}
 use Rattle.turn_losses.proofs.BreakTurn.OwnTurn.{Stays, Ends, Takes, Expires}
 use Rattle.turn_losses.proofs.Names.{of_frame, of_arrived, is_poll, EndRun, TwoEnds, sends_poll, sends_final, hears_final}
 use Rattle.turn_losses.proofs.Words.{any_brk, of_word, ack_of, brk_of, pends_of, pends}
@@ -205,8 +205,8 @@ pub replies-apart : {period turns : ℕ} {e o : EndRun} → TwoEnds period turns
 replies-apart {period} {turns} {e} {o} k s t less within a b =
     let p = k.period_is in
     let x = was-sent is_poll k.hears s (omega (arith, less, within))
-    (reply-from k s (omega (arith, less, within)) a) in
-    let y = was-sent is_poll k.hears t within (reply-from k t within b) in
+    ((k.own s (omega (arith, less, within))).replied a) in
+    let y = was-sent is_poll k.hears t within ((k.own t within).replied b) in
     let x0 = x.0 in let y0 = y.0 in
     let far = polls-apart (turned k) (s - o.delay) (t - o.delay) (omega (arith, less, x0, y0))
     (omega (arith, within)) x.1 y.1 in
@@ -256,98 +256,93 @@ hurries-twice {period} {turns} {e} {o} {d} k h s n l w c =
 abbrev pub shifted : ℕ → (ℕ → Bool) → ℕ → Bool
 shifted delay f t = nat_le delay t && f (t - delay)
 
-pub brks-heard : {period turns : ℕ} {e o : EndRun} {d : ℕ → Deeds} → TwoEnds period turns e o → Breaking period turns o d
-    → brk_due (o.account 0) ≡ false → (s n : ℕ) → n ≤ 16 → s + n ≤ turns → hits (λ t. of_arrived (of_word any_brk) (e.heard t)) s n ≤ 3
-brks-heard {period} {turns} {e} {o} {d} k h first s n l w =
-    let made = at-most-made (λ t. of_arrived (of_word any_brk) (e.heard t)) (shifted o.delay (λ t. brk_due (o.account t)))
-    (shifted o.delay (λ t. is_connected (o.account (t + 1)).phase && (d t).made)) s n (λ t a b. each t (omega (arith, b, w))) in
-    let two = twice (shifted o.delay (λ t. is_connected (o.account (t + 1)).phase && (d t).made)) 8 turns apart s n (omega (arith, l)) w in
-    omega (arith, made, two)
-  where
-    below : (a b : ℕ) → nat_le a b ≡ true → a ≤ b
-    below a b e = grind (arith, nat_tests, e)
+module _ {period turns : ℕ} {e o : EndRun} {d : ℕ → Deeds} (k : TwoEnds period turns e o) (h : Breaking period turns o d)
+    (first : brk_due (o.account 0) ≡ false) where
+  abbrev was_due : ℕ → Bool
+  was_due = shifted o.delay (λ t. brk_due (o.account t))
 
-    is-below : (a b : ℕ) → a ≤ b → nat_le a b ≡ true
-    is-below a b e = grind (arith, nat_tests, e)
+  abbrev was_made : ℕ → Bool
+  was_made = shifted o.delay (λ t. is_connected (o.account (t + 1)).phase && (d t).made)
 
-    apart : (x y : ℕ) → x < y → y < turns → shifted o.delay (λ t. is_connected (o.account (t + 1)).phase && (d t).made) x ≡ true
-        → shifted o.delay (λ t. is_connected (o.account (t + 1)).phase && (d t).made) y ≡ true → x + 8 ≤ y
-    apart x y less within p q =
-        let a = and-two (nat_le o.delay x) (is_connected (o.account (x - o.delay + 1)).phase && (d (x - o.delay)).made) p in
-        let b = and-two (nat_le o.delay y) (is_connected (o.account (y - o.delay + 1)).phase && (d (y - o.delay)).made) q in
-        let a' = and-two (is_connected (o.account (x - o.delay + 1)).phase) (d (x - o.delay)).made a.1 in
-        let b' = and-two (is_connected (o.account (y - o.delay + 1)).phase) (d (y - o.delay)).made b.1 in
-        let lx = below o.delay x a.0 in let ly = below o.delay y b.0 in
-        let far = made-apart (turned k) h (x - o.delay) (y - o.delay) (omega (arith, less, lx, ly))
-        (omega (arith, within)) a'.1 b'.1 a'.0 b'.0 in
-        omega (arith, far, lx, ly)
+  abbrev heard_brk : ℕ → Bool
+  heard_brk t = of_arrived (of_word any_brk) (e.heard t)
 
-    each : (t : ℕ) → t < turns → one_if (shifted o.delay (λ t. brk_due (o.account t)) (t + 1)) + one_if
-        (of_arrived (of_word any_brk) (e.heard t))
-        ≤ one_if (shifted o.delay (λ t. brk_due (o.account t)) t) + one_if
-        (shifted o.delay (λ t. is_connected (o.account (t + 1)).phase && (d t).made) t)
-    each t within = go (cases_lt t o.delay)
-      where
-        heard-so : of_arrived (of_word any_brk) (e.heard t) ≡ true
-            → (o.delay ≤ t) × (of_frame (of_word any_brk) (o.slot (t - o.delay)) ≡ true)
-        heard-so q = was-sent (of_word any_brk) k.hears t within q
+  below : (a b : ℕ) → nat_le a b ≡ true → a ≤ b
+  below a b e = grind (arith, nat_tests, e)
 
-        go : (t < o.delay) ⊎ (o.delay ≤ t) → one_if (shifted o.delay (λ t. brk_due (o.account t)) (t + 1)) + one_if
-            (of_arrived (of_word any_brk) (e.heard t))
-            ≤ one_if (shifted o.delay (λ t. brk_due (o.account t)) t) + one_if
-            (shifted o.delay (λ t. is_connected (o.account (t + 1)).phase && (d t).made) t)
-        go (inl early) =
-            let none = ap one_if (not-true (shifted o.delay (λ t. brk_due (o.account t)) (t + 1))
-            (λ q. let x = and-two (nat_le o.delay (t + 1)) (brk_due (o.account (t + 1 - o.delay))) q in
-            let lx = below o.delay (t + 1) x.0 in clash (brk_due (o.account 0)) (ap (λ n. brk_due (o.account n)) (omega (arith, lx, early))
-            ∙ x.1) first)) in
-            let quiet = ap one_if
-            (not-true (of_arrived (of_word any_brk) (e.heard t))
-            (λ q. let x = (heard-so q).0 in let wrong : ⊥ = omega (arith, x, early) in wrong)) in
-            omega (arith, none, quiet)
-        go (inr late) = sum-at-most (shifted o.delay (λ t. brk_due (o.account t)) (t + 1)) (of_arrived (of_word any_brk) (e.heard t))
-            (shifted o.delay (λ t. brk_due (o.account t)) t)
-            (shifted o.delay (λ t. is_connected (o.account (t + 1)).phase && (d t).made) t) due heard
-          where
-            u : ℕ
-            u = t - o.delay
+  is-below : (a b : ℕ) → a ≤ b → nat_le a b ≡ true
+  is-below a b e = grind (arith, nat_tests, e)
 
-            next : t + 1 - o.delay ≡ u + 1
-            next = omega (arith, late)
+  apart : (x y : ℕ) → x < y → y < turns → was_made x ≡ true → was_made y ≡ true → x + 8 ≤ y
+  apart x y less within p q =
+      let a = and-two (nat_le o.delay x) (is_connected (o.account (x - o.delay + 1)).phase && (d (x - o.delay)).made) p in
+      let b = and-two (nat_le o.delay y) (is_connected (o.account (y - o.delay + 1)).phase && (d (y - o.delay)).made) q in
+      let a' = and-two (is_connected (o.account (x - o.delay + 1)).phase) (d (x - o.delay)).made a.1 in
+      let b' = and-two (is_connected (o.account (y - o.delay + 1)).phase) (d (y - o.delay)).made b.1 in
+      let lx = below o.delay x a.0 in let ly = below o.delay y b.0 in
+      let far = made-apart (turned k) h (x - o.delay) (y - o.delay) (omega (arith, less, lx, ly))
+      (omega (arith, within)) a'.1 b'.1 a'.0 b'.0 in
+      omega (arith, far, lx, ly)
 
-            both : (f : ℕ → Bool) → f u ≡ true → shifted o.delay f t ≡ true
-            both f q = ap (λ b. b && f u) (is-below o.delay t late) ∙ q
+  each : (t : ℕ) → t < turns → one_if (was_due (t + 1)) + one_if (heard_brk t) ≤ one_if (was_due t) + one_if (was_made t)
+  each t within = go (cases_lt t o.delay)
+    where
+      heard-so : heard_brk t ≡ true
+          → (o.delay ≤ t) × (of_frame (of_word any_brk) (o.slot (t - o.delay)) ≡ true)
+      heard-so q = was-sent (of_word any_brk) k.hears t within q
 
-            turn : is_connected (o.account (u + 1)).phase ≡ true
-                → BreakTurn period u (o.heard u) (o.slot u) (d u) (o.account u) (o.account (u + 1))
-            turn c = h.turn u (omega (arith, within)) c
+      go : (t < o.delay) ⊎ (o.delay ≤ t) → one_if (was_due (t + 1)) + one_if (heard_brk t) ≤ one_if (was_due t) + one_if (was_made t)
+      go (inl early) =
+          let none = ap one_if (not-true (was_due (t + 1))
+          (λ q. let x = and-two (nat_le o.delay (t + 1)) (brk_due (o.account (t + 1 - o.delay))) q in
+          let lx = below o.delay (t + 1) x.0 in clash (brk_due (o.account 0)) (ap (λ n. brk_due (o.account n)) (omega (arith, lx, early))
+          ∙ x.1) first)) in
+          let quiet = ap one_if
+          (not-true (heard_brk t)
+          (λ q. let x = (heard-so q).0 in let wrong : ⊥ = omega (arith, x, early) in wrong)) in
+          omega (arith, none, quiet)
+      go (inr late) = sum-at-most (was_due (t + 1)) (heard_brk t) (was_due t) (was_made t) due heard
+        where
+          u : ℕ
+          u = t - o.delay
 
-            from : is_connected (o.account (u + 1)).phase ≡ true → (brk_due (o.account u) ≡ true) ⊎ ((d u).made ≡ true)
-                → (shifted o.delay (λ t. brk_due (o.account t)) t ≡ true)
-                ⊎ (shifted o.delay (λ t. is_connected (o.account (t + 1)).phase && (d t).made) t ≡ true)
-            from c (inl x) = inl (both (λ t. brk_due (o.account t)) x)
-            from c (inr x) = inr (both (λ t. is_connected (o.account (t + 1)).phase && (d t).made) (ap (λ b. b && (d u).made) c ∙ x))
+          next : t + 1 - o.delay ≡ u + 1
+          next = omega (arith, late)
 
-            due : shifted o.delay (λ t. brk_due (o.account t)) (t + 1) ≡ true → (shifted o.delay (λ t. brk_due (o.account t)) t ≡ true)
-                ⊎ (shifted o.delay (λ t. is_connected (o.account (t + 1)).phase && (d t).made) t ≡ true)
-            due q =
-                let x = (and-two (nat_le o.delay (t + 1)) (brk_due (o.account (t + 1 - o.delay))) q).1 in
-                let y = ap (λ n. brk_due (o.account n)) (sym next) ∙ x in
-                let c = (and-two (is_connected (o.account (u + 1)).phase) (o.account (u + 1)).own_breaks.brk y).0 in
-                from c ((turn c).brk_from y)
+          both : (f : ℕ → Bool) → f u ≡ true → shifted o.delay f t ≡ true
+          both f q = ap (λ b. b && f u) (is-below o.delay t late) ∙ q
 
-            heard : of_arrived (of_word any_brk) (e.heard t) ≡ true
-                → ((shifted o.delay (λ t. brk_due (o.account t)) t ≡ true)
-                ⊎ (shifted o.delay (λ t. is_connected (o.account (t + 1)).phase && (d t).made) t ≡ true))
-                × (shifted o.delay (λ t. brk_due (o.account t)) (t + 1) ≡ false)
-            heard q =
-                let sent = (heard-so q).1 in
-                let c = h.says u (omega (arith, within)) sent in
-                let x = (turn c).brk_sent sent in (
-                  from c x.0,
-                  ap (λ n. nat_le o.delay (t + 1) && brk_due (o.account n)) next
-                      ∙ and-drop (nat_le o.delay (t + 1)) (brk_due (o.account (u + 1))) x.1,
-                )
+          turn : is_connected (o.account (u + 1)).phase ≡ true
+              → BreakTurn period u (o.heard u) (o.slot u) (d u) (o.account u) (o.account (u + 1))
+          turn c = h.turn u (omega (arith, within)) c
+
+          from : is_connected (o.account (u + 1)).phase ≡ true → (brk_due (o.account u) ≡ true) ⊎ ((d u).made ≡ true)
+              → (was_due t ≡ true) ⊎ (was_made t ≡ true)
+          from c (inl x) = inl (both (λ t. brk_due (o.account t)) x)
+          from c (inr x) = inr (both (λ t. is_connected (o.account (t + 1)).phase && (d t).made) (ap (λ b. b && (d u).made) c ∙ x))
+
+          due : was_due (t + 1) ≡ true → (was_due t ≡ true) ⊎ (was_made t ≡ true)
+          due q =
+              let x = (and-two (nat_le o.delay (t + 1)) (brk_due (o.account (t + 1 - o.delay))) q).1 in
+              let y = ap (λ n. brk_due (o.account n)) (sym next) ∙ x in
+              let c = (and-two (is_connected (o.account (u + 1)).phase) (o.account (u + 1)).own_breaks.brk y).0 in
+              from c ((turn c).brk_from y)
+
+          heard : heard_brk t ≡ true → ((was_due t ≡ true) ⊎ (was_made t ≡ true)) × (was_due (t + 1) ≡ false)
+          heard q =
+              let sent = (heard-so q).1 in
+              let c = h.says u (omega (arith, within)) sent in
+              let x = (turn c).brk_sent sent in (
+                from c x.0,
+                ap (λ n. nat_le o.delay (t + 1) && brk_due (o.account n)) next
+                    ∙ and-drop (nat_le o.delay (t + 1)) (brk_due (o.account (u + 1))) x.1,
+              )
+
+  pub brks-heard : (s n : ℕ) → n ≤ 16 → s + n ≤ turns → hits (λ t. of_arrived (of_word any_brk) (e.heard t)) s n ≤ 3
+  brks-heard s n l w =
+      let made = at-most-made heard_brk was_due was_made s n (λ t a b. each t (omega (arith, b, w))) in
+      let two = twice was_made 8 turns apart s n (omega (arith, l)) w in
+      omega (arith, made, two)
 
 -- A BRK goes within fourteen turns, and the BRKACK that answers it within six.
 abbrev pub AllConnected : EndRun → ℕ → ℕ → Type 0
