@@ -24,7 +24,7 @@ use Rattle.link_account.proofs.SpeakWays.{AllSaid, Steps}
 use Rattle.link_account.specs.Account.{is_done, break_waits}
 use Rattle.turn_bound.proofs.Run.{served_account}
 use Rattle.link_run.specs.End.{asked_at, is_ready}
-use Rattle.turn_bound.proofs.Serving.{Served, serves-first, serves-own, before_asking}
+use Rattle.turn_bound.proofs.Serving.{Served, serves-phase, serves-own, before_asking}
 use Rattle.turn_bound.proofs.Speaking.{Spoke, spoke, untimed, linked-says, stopped}
 use Rattle.turn_bound.proofs.OneTurn.{Hearing, spoken-as}
 
@@ -540,7 +540,7 @@ unready user turn mid e low w r after = go (next_break user.breaks m) refl after
       where
         by : (x : Bool) → nat_le br.turn turn ≡ x → waits (cond x (after_break_asked turn br.length_octet m) m).own_breaks ≡ false
             → is_ready turn (next_break user.breaks (cond x (after_break_asked turn br.length_octet m) m)) ≡ false
-        by true h k = absurd (asks br.length_octet (is_connected m.phase) (ap is_connected ((serves-first user turn 0 mid).phase ∙ e)) k)
+        by true h k = absurd (asks br.length_octet (is_connected m.phase) (ap is_connected (serves-phase user turn mid ∙ e)) k)
         by false h k = ap (is_ready turn) f ∙ h
 
 -- An end with nothing outstanding and nothing free has finished, unless a break is ready: that would be asked for.

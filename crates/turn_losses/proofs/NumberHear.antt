@@ -1,23 +1,20 @@
 -- What a Connected end makes of the numbers that it hears.
 use Rattle.std.proofs.Common.{◌⊎◌, inl, inr, ◌≡◌, ℕ, ◌%◌, ◌<◌, ◌≤◌, ◌||◌, Bool, true, false, cond, nat_lt, List, length, length-append}
-use Rattle.std.proofs.Common.{arith, refl, sym, ◌∙◌, ap, subst, Option, Some, None, Ok, zero, suc, ◌+◌, ◌&&◌, not, min, nat_le, [], ◌∷◌}
+use Rattle.std.proofs.Common.{arith, refl, sym, ◌∙◌, ap, subst, Option, Some, None, Ok, zero, suc, ◌+◌, ◌&&◌, not, min, [], ◌∷◌}
 use Rattle.turn_losses.proofs.Names.{Rates, Sends, served_account, is_linked}
 use Rattle.turn_bound.proofs.Sender.{Heard, ended, heard-advanced, heard-resumed, acked-heard, meant-range}
 use Rattle.link_account.proofs.Names.{nat_tests, Frame, I, Rr, Rnr, Rej, meant, Outgoing, is_outstanding, resumed, Incoming, after_take}
 use Rattle.link_account.proofs.Names.{after_kind, kind_of, offset, Took, InOrder, Kept, Gap, Sent, Arrived, Account, is_connected, hear}
-use Rattle.link_account.proofs.Names.{Role, Originator, Answerer, Offer, Terms, IsAllowed, agree, with_piece, after_ask, wants, piece_size}
-use Rattle.link_account.proofs.Names.{after_given, on_nothing}
+use Rattle.link_account.proofs.Names.{Role, Originator, Answerer, Offer, Terms, IsAllowed, agree, with_piece, wants, piece_size, on_nothing}
 use Rattle.lapm_receiver.specs.Incoming.{kind_at}
 use Rattle.link_account.proofs.HearWays.{by-linked, acked, acked_back, Plain, IsUa, IsXid, IsTest, IsNoWord, by-early}
 use Rattle.turn_bound.proofs.Value.{connected-is}
 use Rattle.lapm_frames.specs.declared.sent.Sent.TheVariants as slots
 use Rattle.lapm_frames.specs.declared.arrived.Arrived.TheVariants as arrivals
-use Rattle.link_run.proofs.Names.{Phase, Negotiating, Establishing, Closed, User, BreakLine, delivered, offered_at, offered_times, offered}
-use Rattle.link_run.proofs.Names.{room_for, piece_at, is_busy, next_break}
+use Rattle.link_run.proofs.Names.{Phase, Negotiating, Establishing, Closed, User, offered_at, offered_times, room_for, piece_at}
 use Rattle.xid_params.specs.Terms.{default_offer, lowered}
 use Rattle.link_account.specs.Account.{window_for}
-use Rattle.link_run.specs.End.{asked_at}
-use Rattle.turn_bound.proofs.Serving.{before_asking, offers-well}
+use Rattle.turn_bound.proofs.Serving.{served-by}
 use Rattle.turn_bound.proofs.Truths.{unlinked-connected}
 
 -- the N(R) of a frame that acknowledges, and the N(S) of an I frame
@@ -280,50 +277,9 @@ pub record ServedLeft (a b : Account) : Type 0 where
   pub owed : b.incoming.owed ≡ a.incoming.owed
   pub room : HasRoom a.outgoing → HasRoom b.outgoing
 
-given-left : (a : Account) (c : Bool)
-    → ServedLeft a (after_given (cond c (record a { incoming = record a.incoming { given = length a.incoming.taken } }) a))
-given-left a true = record { taken = refl; owed = refl; room = λ h. h }
-given-left a false = record { taken = refl; owed = refl; room = λ h. h }
-
-both-left : (a b c : Account) → ServedLeft a b → ServedLeft b c → ServedLeft a c
-both-left a b c h k = record { taken = k.taken ∙ h.taken; owed = k.owed ∙ h.owed; room = λ r. k.room (h.room r) }
-
-offered-left : (file : List ℕ) (a : Account) → ServedLeft a (offered file a)
-offered-left file a = let k = (offers-well file a).0.only in record {
-  taken = ap (λ b. b.incoming.taken) k;
-  owed = ap (λ b. b.incoming.owed) k;
-  room = λ h. offers-room (room_for a) file a h;
-}
-
-busy-left : (b : Account) (busy c : Bool) → ServedLeft b (cond c (record b { owes = record b.owes { busy = busy } }) b)
-busy-left b busy true = record { taken = refl; owed = refl; room = λ h. h }
-busy-left b busy false = record { taken = refl; owed = refl; room = λ h. h }
-
-asked-left : (turn : ℕ) (n : Option BreakLine) (b : Account) → ServedLeft b (asked_at turn n b)
-asked-left turn None b = record { taken = refl; owed = refl; room = λ h. h }
-asked-left turn (Some line) b = go (nat_le line.turn turn) (is_connected b.phase)
-  where
-    go : (x c : Bool) → ServedLeft b (cond x (cond c (record b { own_breaks = after_ask turn line.length_octet b.own_breaks }) b) b)
-    go false c = record { taken = refl; owed = refl; room = λ h. h }
-    go true true = record { taken = refl; owed = refl; room = λ h. h }
-    go true false = record { taken = refl; owed = refl; room = λ h. h }
-
 pub served-left : (user : User) (turn : ℕ) (released : Bool) (a : Account) → ServedLeft a (served_account user turn released a)
-served-left user turn released a = go released
-  where
-    g : Account
-    g = after_given (delivered a)
-
-    o : Account
-    o = offered user.file g
-
-    m : Account
-    m = before_asking user turn a
-
-    first : ServedLeft a m
-    first = both-left a g m (given-left a (is_connected a.phase))
-        (both-left g o m (offered-left user.file g) (busy-left o (is_busy turn user.busy) (is_connected o.phase)))
-
-    go : (r : Bool) → ServedLeft a (cond r m (asked_at turn (next_break user.breaks m) m))
-    go true = first
-    go false = both-left a m _ first (asked-left turn (next_break user.breaks m) m)
+served-left user turn released a = let s = served-by user turn released a in subst (ServedLeft a) (sym s.is) (record {
+  taken = refl;
+  owed = refl;
+  room = λ h. offers-room (room_for s.from) user.file s.from (subst HasRoom (sym s.from_is) h);
+})

@@ -1,12 +1,12 @@
 -- While an answerer's break waits, the originator isn't told to release.
 use Rattle.std.proofs.Common.{◌⊎◌, inl, inr, ◌≡◌, ℕ, ◌+◌, ◌<◌, ◌≤◌, Bool, true, false, length, arith, refl, sym, ◌∙◌, ap, Ok, ◌≢◌, ◌-◌, ◌*◌}
 use Rattle.std.proofs.Common.{max, List, ◌∷◌, subst, cond, nat_lt}
-use Rattle.link_account.proofs.Names.{Originator, Answerer, ReadsWritten, waits, after_ask, Arrived, Account, is_connected, MayPlay, hear}
-use Rattle.link_account.proofs.Names.{cases_lt, Role, of, other, nat_tests, LinkFault}
+use Rattle.link_account.proofs.Names.{Originator, Answerer, ReadsWritten, waits, Arrived, Account, is_connected, MayPlay, hear, cases_lt}
+use Rattle.link_account.proofs.Names.{Role, of, other, nat_tests, LinkFault}
 use Rattle.link_run.proofs.Names.{Phase, Releasing, Closed, User, is_released, is_closed, served_at, Detecting, Establishing, Connected}
 use Rattle.link_run.proofs.Names.{Accounts, Turn, Hears, arrival, Carries, LosesSome}
 use Rattle.turn_bound.proofs.MeetHear.{o-hears}
-use Rattle.turn_bound.proofs.Serving.{serves-first, before_asking}
+use Rattle.turn_bound.proofs.Serving.{serves-own}
 use Rattle.turn_bound.proofs.Truths.{clash, is-true, not-true}
 use Rattle.turn_losses.proofs.PollHear.{linked-connected}
 use Rattle.turn_bound.proofs.Value.{connected-is}
@@ -41,16 +41,7 @@ use Rattle.turn_losses.proofs.InTurn.{InTurn}
 no-take : (user : User) (turn : ℕ) (released : Bool) (mid : Account) → released ≡ true
     → (served_account user turn released mid).own_breaks ≡ mid.own_breaks
 no-take user turn false mid e = cc
-no-take user turn true mid e = go (serves-first user turn 0 mid).own
-  where
-    b : Account
-    b = before_asking user turn mid
-
-    go : (b.own_breaks ≡ mid.own_breaks)
-        ⊎ ((l : ℕ) × (b.own_breaks ≡ after_ask turn l mid.own_breaks) × (length mid.own_breaks.lengths < 0)
-        × (is_connected mid.phase ≡ true)) → b.own_breaks ≡ mid.own_breaks
-    go (inl q) = q
-    go (inr (l, q, less, c)) = absurd (omega (arith, less))
+no-take user turn true mid e = serves-own user turn mid
 
 -- so none waits from then on
 unasked : (w : TimedRun) → (v : ℕ) → v < length w.ts → waits (served_at w.link v (w.deed v).mid Answerer).account.own_breaks ≡ false
