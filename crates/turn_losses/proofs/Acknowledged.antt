@@ -151,12 +151,6 @@ acknowledged {period} {turns} {e} {o} k c u within final sends ce co lost = go-t
     m : Answers u e o
     m = reply-matches k u (omega (arith, within)) final
 
-    trip : m.sent + (e.delay + o.delay) ≡ u
-    trip = m.round_trip
-
-    due-before : m.due ≤ m.sent
-    due-before = m.due_before
-
     w : ℕ
     w = u - o.delay
 
@@ -193,12 +187,12 @@ acknowledged {period} {turns} {e} {o} k c u within final sends ce co lost = go-t
                 (k.is_heard y (omega (arith, hi, g, within, d'))) ns g' in
                 let z : ℕ = y - e.delay in
                 let fr = from.0 in
-                let low : m.due < z + 1 = omega (arith, fr, lo, trip, due-before) in
+                let low : m.due < z + 1 = omega (arith, fr, lo, m.round_trip, m.due_before) in
                 let high : z + 1 ≤ u = omega (arith, fr, hi, g) in
                 let linked : is_linked (e.account (m.due + 1)).phase ≡ true =
                 (k.own m.due (omega (arith, low, high, within))).made_linked m.made in
                 let cu = ce u (omega arith) (omega arith) in
-                let after-due : m.due + 1 ≤ z = omega (arith, fr, lo, trip, due-before, k.own_delay) in
+                let after-due : m.due + 1 ≤ z = omega (arith, fr, lo, m.round_trip, m.due_before, k.own_delay) in
                 let on = connected-since k (m.due + 1) u (omega (arith, within)) linked cu in
                 let sent = (c.own z (omega (arith, high, within)) (on z after-due (omega (arith, high)))
                 (on (z + 1) (omega (arith, after-due)) high)).segment ns from.1 in

@@ -370,34 +370,31 @@ parted-each laws reads w may t mid cs hearing cm om last n less = at-expiry
         by (inr soon) = disc-lost s q' within un.connected soon
         by (inl late) = on (lost-or-none e o (s + 1) (w.period - 1))
           where
-            before-end : v.turn < turns
-            before-end = v.before
-
             linked-s : is_linked (o.account s).phase ≡ true
             linked-s =
                 let from = (k.own s (omega (arith, within, long))).made_from un.made (linked-connected (e.account s).phase un.connected) in
                 peer-linked w s (omega (arith, within, long)) un.connected from.1 from.2
 
             co : StayConnected o s v.turn
-            co = λ u lo hi. connected-since k' s v.turn (omega (arith, before-end)) linked-s
-                (v.was (linked-on k' s v.turn (omega (arith, lo, hi)) (omega (arith, before-end)) linked-s)) u lo hi
+            co = λ u lo hi. connected-since k' s v.turn (omega (arith, v.before)) linked-s
+                (v.was (linked-on k' s v.turn (omega (arith, lo, hi)) (omega (arith, v.before)) linked-s)) u lo hi
 
             on : LostIn e o (s + 1) (w.period - 1) ⊎ NoneLost e o (s + 1) (w.period - 1) → PeriodLoses w.period turns (t ∷ w.ts) n
             on (inl lost) = later-loses w.period t w.ts n (loses-of w Answerer s n long q' lost)
             on (inr none) = absurd (elim (cases_lt v.turn (s + w.period)) [
               | inl b ↦ parted-stops k c s v.turn within b late un co
                   (await-hears (e.heard v.turn) v.turn (e.account v.turn) (e.mid v.turn) at-v i.hears)
-                  (whole-stops w v.turn before-end v.told) (count-hears z (e.heard v.turn) v.turn (e.account v.turn) (e.mid v.turn) at-v
+                  (whole-stops w v.turn v.before v.told) (count-hears z (e.heard v.turn) v.turn (e.account v.turn) (e.mid v.turn) at-v
                   (linked-of z v.turn v.turn Answerer (e.account v.turn).phase (e.account v.turn) i.stands at-v).sends i.hears) none
               | inr g ↦ (let r = period-cleared k c s within un.made un.on (λ u lo hi. co u lo (omega (arith, hi, g))) none in
                   un.uncleared r.0 r.1 r.2 r.3)
             ])
               where
                 i : TurnAt w Answerer v.turn
-                i = (end-turn w Answerer v.turn before-end).in_turn
+                i = (end-turn w Answerer v.turn v.before).in_turn
 
                 at-v : is_connected (e.account v.turn).phase ≡ true
-                at-v = on-from s un.connected v.turn (omega (arith, late, p)) (omega (arith, before-end))
+                at-v = on-from s un.connected v.turn (omega (arith, late, p)) (omega (arith, v.before))
 
 -- so the run was starved
 pub all-but-last : (tries period : ℕ) (delay : Role → ℕ) (t : Turn) (ts : List Turn) → LosesEach period tries (length ts) (t ∷ ts)

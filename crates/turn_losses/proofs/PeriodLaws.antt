@@ -266,17 +266,8 @@ pub awaits-on : {period turns : ℕ} {e o : EndRun} → TwoEnds period turns e o
     → (m : Answers t e o) → (u : ℕ) → m.due < u → u ≤ t → (e.account u).outgoing.awaited ≡ true
 awaits-on {period} {turns} {e} {o} k t within c m = awaits
   where
-    trip : m.sent + (e.delay + o.delay) ≡ t
-    trip = m.round_trip
-
-    due-before : m.due ≤ m.sent
-    due-before = m.due_before
-
-    due-soon : m.sent ≤ m.due + 1
-    due-soon = m.due_soon
-
     before : m.due < t
-    before = omega (arith, trip, due-before, k.own_delay)
+    before = omega (arith, m.round_trip, m.due_before, k.own_delay)
 
     linked : is_linked (e.account (m.due + 1)).phase ≡ true
     linked = (k.own m.due (omega (arith, before, within))).made_linked m.made
@@ -291,9 +282,9 @@ awaits-on {period} {turns} {e} {o} k t within c m = awaits
         let w = reply-matches k u (omega (arith, g, within)) q in
         let there = w.round_trip in
         let far : w.sent + period ≤ m.sent + 1 =
-        polls-apart k w.sent m.sent (omega (arith, there, trip, g))
-        (omega (arith, trip, within)) w.is_sent m.is_sent in
-        let wrong : ⊥ = omega (arith, far, there, trip, l, due-soon, k.period_is) in absurd wrong
+        polls-apart k w.sent m.sent (omega (arith, there, m.round_trip, g))
+        (omega (arith, m.round_trip, within)) w.is_sent m.is_sent in
+        let wrong : ⊥ = omega (arith, far, there, m.round_trip, l, m.due_soon, k.period_is) in absurd wrong
 
     awaits : (u : ℕ) → m.due < u → u ≤ t → (e.account u).outgoing.awaited ≡ true
     awaits u l g = kept-in (λ v. (e.account v).outgoing.awaited ≡ true) (m.due + 1) u (omega (arith, l)) later
@@ -315,11 +306,8 @@ still-awaited {period} {turns} {e} {o} k t within c h =
     m : Answers t e o
     m = reply-matches k t within h
 
-    due-before : m.due ≤ m.sent
-    due-before = m.due_before
-
     before : m.due < t
-    before = omega (arith, m.round_trip, due-before, k.own_delay)
+    before = omega (arith, m.round_trip, m.due_before, k.own_delay)
 
     none : (b : Bool) → poll_due (e.account t) ≡ b → poll_due (e.account t) ≡ false
     none false q = q
@@ -327,7 +315,7 @@ still-awaited {period} {turns} {e} {o} k t within c h =
       where
         at : (x : ℕ) → t ≡ x → poll_due (e.account t) ≡ false
         at zero g = let wrong : ⊥ = omega (arith, g, before) in absurd wrong
-        at (suc x) g = absurd (m.none_since x (omega (arith, g, m.round_trip, due-before, k.own_delay, k.other_delay)) (omega (arith, g))
+        at (suc x) g = absurd (m.none_since x (omega (arith, g, m.round_trip, m.due_before, k.own_delay, k.other_delay)) (omega (arith, g))
             (poll-fresh k x (omega (arith, g, within)) (subst (λ n. poll_due (e.account n) ≡ true) (omega (arith, g)) q)))
 
 -- A poll that became due at an end that was Connected goes in that turn or the next one.

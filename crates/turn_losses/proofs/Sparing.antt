@@ -179,9 +179,6 @@ unlinked-loses reads w may t cs mid hearing s n q answ un later = sabme (is_lost
     before-x : i.set ≤ x
     before-x = let b = i.before in omega (arith, b)
 
-    after-x : x + 1 ≤ i.set + w.period
-    after-x = i.within
-
     u : ℕ
     u = i.set + o.delay
 
@@ -189,7 +186,7 @@ unlinked-loses reads w may t cs mid hearing s n q answ un later = sabme (is_lost
     u-in = omega (arith, before-x, within, k.period_is, k.other_delay)
 
     u-low : s < u + e.delay
-    u-low = omega (arith, after-x, k.period_is)
+    u-low = omega (arith, i.within, k.period_is)
 
     u-high : u + e.delay ≤ s + w.period
     u-high = omega (arith, before-x, k.period_is)

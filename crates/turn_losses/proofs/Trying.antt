@@ -253,25 +253,19 @@ unanswered-loses reads w m p t s within x = go (lost-or-none e o (s + 1) (w.peri
     k : TwoEnds w.period (length w.ts) e o
     k = two-ends w Originator
 
-    per : w.period ≡ 2 * (e.delay + o.delay) + 16
-    per = k.period_is
-
-    d : 1 ≤ e.delay
-    d = k.own_delay
-
     go : LostIn e o (s + 1) (w.period - 1) ⊎ NoneLost e o (s + 1) (w.period - 1) → LostIn e o (s + 1) (w.period - 1)
     go (inl lost) = lost
     go (inr none) =
         let v : ℕ = s + e.delay in
         let y : ℕ = v + o.delay in
         let reaches : of_arrived (asks p) (o.heard v) ≡ true = is-heard (asks p) k.is_heard s
-        (omega (arith, within, per)) (none v (omega (arith, d)) (omega (arith, per))).1 ∙ x.asked in
+        (omega (arith, within, k.period_is)) (none v (omega (arith, k.own_delay)) (omega (arith, k.period_is))).1 ∙ x.asked in
         let answered : of_frame (moves_on p) (o.slot v) ≡ true = answers-so reads w m p t v
-        (omega (arith, within, per)) (x.ran v (omega (arith, d)) (omega (arith, per))) reaches in
-        let hears : of_arrived (moves_on p) (e.heard y) ≡ true = is-heard (moves_on p) k.hears v (omega (arith, within, per))
-        (none y (omega (arith, d)) (omega (arith, per))).0
+        (omega (arith, within, k.period_is)) (x.ran v (omega (arith, k.own_delay)) (omega (arith, k.period_is))) reaches in
+        let hears : of_arrived (moves_on p) (e.heard y) ≡ true = is-heard (moves_on p) k.hears v (omega (arith, within, k.period_is))
+        (none y (omega (arith, k.own_delay)) (omega (arith, k.period_is))).0
         ∙ answered in
-        let wrong : true ≡ false = sym hears ∙ (x.stayed y (omega (arith, d)) (omega (arith, per))).0 in
+        let wrong : true ≡ false = sym hears ∙ (x.stayed y (omega (arith, k.own_delay)) (omega (arith, k.period_is))).0 in
         cc
 
 -- An originator that gives up while it tries a frame.

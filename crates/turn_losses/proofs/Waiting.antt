@@ -73,33 +73,27 @@ pub break-answered : {period turns : ℕ} (number : ℕ) {e o : EndRun} {d d' : 
     → ((t : ℕ) → s + e.delay ≤ t → t < s + period → (d' t).answers ≡ false) → NoneLost e o (s + 1) (period - 1)
     → (z : ℕ) × (z + o.delay ≡ s + period) × (s < z) × (of_frame (of_word (ack_of number)) (o.slot z) ≡ true)
 break-answered {period} {turns} number {e} {o} {d} {d'} k h h' first small s within bp co na na' lost = go
-    (brk-goes k h h' first s (omega (arith, p, within)) (λ t a b. (bp.stays t a (omega (arith, b, p))).connected)
-    (λ t a b. (bp.stays t a (omega (arith, b, p))).waiting) (λ t a b. na t a (omega (arith, b, p))) (inr bp.made))
+    (brk-goes k h h' first s (omega (arith, k.period_is, within)) (λ t a b. (bp.stays t a (omega (arith, b, k.period_is))).connected)
+    (λ t a b. (bp.stays t a (omega (arith, b, k.period_is))).waiting) (λ t a b. na t a (omega (arith, b, k.period_is))) (inr bp.made))
   where
-    p : period ≡ 2 * (e.delay + o.delay) + 16
-    p = k.period_is
-
     dl : 1 ≤ e.delay
     dl = k.own_delay
 
-    dl' : 1 ≤ o.delay
-    dl' = k.other_delay
-
     go : (y : ℕ) × (s ≤ y) × (y < s + 14) × (of_frame (of_word (brk_of (number_of (e.account (y + 1))))) (e.slot y) ≡ true)
         → (z : ℕ) × (z + o.delay ≡ s + period) × (s < z) × (of_frame (of_word (ack_of number)) (o.slot z) ≡ true)
-    go (y, lo, hi, sent) = answered (ack-goes (turned k) h' x number small (omega (arith, p, within, hi, dl, dl'))
-        (λ t a b. co t (omega (arith, a, lo)) (omega (arith, b, hi, p, dl, dl')))
-        (λ t a b q. numbered t a (omega (arith, b, hi, p, dl, dl')) q)
-        (λ t a b. na' t (omega (arith, a, lo)) (omega (arith, b, hi, p, dl, dl'))) heard)
+    go (y, lo, hi, sent) = answered (ack-goes (turned k) h' x number small (omega (arith, k.period_is, within, hi, dl, k.other_delay))
+        (λ t a b. co t (omega (arith, a, lo)) (omega (arith, b, hi, k.period_is, dl, k.other_delay)))
+        (λ t a b q. numbered t a (omega (arith, b, hi, k.period_is, dl, k.other_delay)) q)
+        (λ t a b. na' t (omega (arith, a, lo)) (omega (arith, b, hi, k.period_is, dl, k.other_delay))) heard)
       where
         x : ℕ
         x = y + e.delay
 
         heard : of_arrived (of_word (brk_of number)) (o.heard x) ≡ true
-        heard = is-heard (of_word (brk_of number)) k.is_heard y (omega (arith, hi, p, within))
-            (lost x (omega (arith, lo, dl)) (omega (arith, hi, p))).1
+        heard = is-heard (of_word (brk_of number)) k.is_heard y (omega (arith, hi, k.period_is, within))
+            (lost x (omega (arith, lo, dl)) (omega (arith, hi, k.period_is))).1
             ∙ (ap (λ n. of_frame (of_word (brk_of n)) (e.slot y))
-            (sym (bp.stays (y + 1) (omega (arith, lo)) (omega (arith, hi, p))).numbered) ∙ sent)
+            (sym (bp.stays (y + 1) (omega (arith, lo)) (omega (arith, hi, k.period_is))).numbered) ∙ sent)
 
         numbered : (t : ℕ) → x ≤ t → t < s + period → of_arrived (of_word any_brk) (o.heard t) ≡ true
             → of_arrived (of_word (brk_of number)) (o.heard t) ≡ true
@@ -125,7 +119,7 @@ break-answered {period} {turns} number {e} {o} {d} {d'} k h h' first small s wit
             v = z + o.delay
 
             soon : v ≤ s + period
-            soon = omega (arith, b, hi, p, dl, dl')
+            soon = omega (arith, b, hi, k.period_is, dl, k.other_delay)
 
             ends : v < s + period → ⊥
             ends less =

@@ -93,15 +93,12 @@ module _ {tries period : ℕ} {link : Link} {role : Role} {turn : ℕ} {a : Acco
       mid-count : mid.outgoing.count ≡ tries
       mid-count = ap (λ o. o.count) (sym i.served.longer.outgoing) ∙ (why.count ∙ sends.tries_are)
 
-      some-tries : 1 ≤ tries
-      some-tries = i.rated.tries
-
       from : (is_connected a.phase ≡ true) ⊎ (is_linked a.phase ≡ false) → LastTry tries period turn a
-      from (inr u) = let c = begins u cm in absurd (omega (arith, c, mid-count, some-tries))
+      from (inr u) = let c = begins u cm in absurd (omega (arith, c, mid-count, i.rated.tries))
       from (inl ca) = by (count-hears z arrived turn a mid ca (linked-of z turn turn role a.phase a i.stands ca).sends i.hears)
         where
           by : CountKept a mid → LastTry tries period turn a
-          by (inl c) = absurd (omega (arith, c, mid-count, some-tries))
+          by (inl c) = absurd (omega (arith, c, mid-count, i.rated.tries))
           by (inr (c, w)) = record {
             connected = ca;
             set = why.set;
