@@ -2,13 +2,13 @@
 use Rattle.std.proofs.Common.{◌⊎◌, inl, inr, ◌≡◌, ℕ, ◌+◌, ◌≤◌, Bool, true, false, cond, nat_eq, arith, refl, sym, ◌∙◌, ap, Option, Some}
 use Rattle.std.proofs.Common.{None, Ok, Err, Result, ◌||◌, not, subst}
 use Rattle.link_account.proofs.Names.{is_some, nat_tests, Role, Originator, Answerer, Frame, Sabme, Disc, Ua, Dm, Ui, Xid, Offer, offer_in}
-use Rattle.link_account.proofs.Names.{written, agree, Arrived, LinkFault, Account, hear, on_frame, on_nothing, trying, Said, spent, speak}
+use Rattle.link_account.proofs.Names.{written, agree, Arrived, LinkFault, Account, hear, on_frame, on_nothing, trying, Said, speak}
 use Rattle.link_account.proofs.Names.{speak_linked, false≢true, is_originator, Sent, owing, says, frame_for, speak_in}
 use Rattle.link_run.proofs.Names.{Phase, Detecting, Negotiating, Establishing, Connected, Releasing, Closed, Answer}
 use Rattle.lapm_frames.specs.declared.seen.Seen.TheVariants.{Adp}
 use Rattle.link_account.specs.Hear.{on_seen, on_negotiating, on_establishing, on_releasing, on_xid_response, connected, on_detecting}
 use Rattle.link_account.specs.Hear.{on_disc, on_xid_command, peer_reset}
-use Rattle.link_account.specs.Speak.{trying_again, tries_frame, u_try, else_says, answering, speak_answer, speak_negotiating}
+use Rattle.link_account.specs.Speak.{else_says, answering, speak_answer, speak_negotiating}
 use Rattle.turn_bound.proofs.MeetHear.{of_frame, of_arrived}
 use Rattle.link_account.proofs.HearWays.{by-ways, numbered_with, numbers-alike}
 use Rattle.link_account.proofs.SpeakWays.{Tries, answers_alone, by-linked, linked-so, linked-alike, retimed}
@@ -203,18 +203,6 @@ try-says turn release b said r long offers h = SpeakWays.by-ways (TrySaid turn b
 
         not-due : nat_eq turn (b.wait.try_set + b.setup.period) ≡ false → turn ≡ b.wait.try_set + b.setup.period → ⊥
         not-due x y = grind (arith, nat_tests, x, y)
-
--- what ends a try: its timer expires with the last one
-pub try-spent : (turn : ℕ) (frame : Frame) (b : Account) (fault : LinkFault) → u_try turn frame b ≡ Err fault
-    → (turn ≡ b.wait.try_set + b.setup.period) × (b.wait.try_count ≡ b.setup.tries)
-try-spent turn frame b fault h = go (nat_eq turn (b.wait.try_set + b.setup.period)) refl (nat_eq b.wait.try_count b.setup.tries) refl h
-  where
-    go : (due : Bool) → nat_eq turn (b.wait.try_set + b.setup.period) ≡ due → (s : Bool) → nat_eq b.wait.try_count b.setup.tries ≡ s
-        → cond due (cond s (Err (spent turn b)) (Ok (tries_frame frame (trying_again turn b)))) (Ok (tries_frame frame b)) ≡ Err fault
-        → (turn ≡ b.wait.try_set + b.setup.period) × (b.wait.try_count ≡ b.setup.tries)
-    go false q s k u = cc
-    go true q false k u = cc
-    go true q true k u = (grind (arith, nat_tests, q), grind (arith, nat_tests, k))
 
 -- an end that releases is not Connected again
 pub releasing-stays : (arrived : Arrived) (turn : ℕ) (a mid : Account) → a.phase ≡ Releasing → hear turn arrived a ≡ Ok mid

@@ -1,29 +1,30 @@
 -- The tries of an originator by the turn: when each went, and what is lost where none is answered.
 use Rattle.std.proofs.Common.{◌⊎◌, inl, inr, ◌≡◌, ℕ, ◌+◌, ◌-◌, ◌*◌, ◌<◌, ◌≤◌, not, Bool, true, false, length, arith, refl, sym, ◌∙◌, ap}
-use Rattle.std.proofs.Common.{subst, Ok, cond, nat_le, Err}
-use Rattle.link_account.proofs.Names.{is_some, cases_lt, Originator, Answerer, offer_in, written, ReadsWritten, Sent, Arrived, Account}
-use Rattle.link_account.proofs.Names.{MayPlay, Said, speak, Frame, Sabme, Disc, Xid, Spent, NotDetected, is_connected, says, speak_in}
+use Rattle.std.proofs.Common.{subst, Ok, Err}
+use Rattle.turn_bound.proofs.Truths.{clash, not-true}
+use Rattle.link_account.proofs.Names.{nat_tests, is_some, cases_lt, Originator, Answerer, offer_in, written, ReadsWritten, Sent, Arrived}
+use Rattle.link_account.proofs.Names.{Account, MayPlay, Said, speak, Spent, is_connected, says}
+use Rattle.link_account.proofs.SpeakWays.Ended.{TryEnds, ReleaseEnds, TimerEnds, BreakEnds}
+use Rattle.link_account.proofs.SpeakWays.Breaks.{Undetected, Spends}
+use Rattle.link_account.proofs.SpeakWays.{Breaks, why-broken}
 use Rattle.link_run.proofs.Names.{Phase, Detecting, Negotiating, Establishing, Connected, Releasing, Closed, is_released, is_closed}
 use Rattle.link_run.proofs.Names.{arrival, Link, Accounts, served_at, releases}
-use Rattle.turn_bound.proofs.Truths.{not-true, clash}
 use Rattle.turn_losses.proofs.Numbering.{allowed}
 use Rattle.turn_losses.proofs.Follows.{numbered-linked}
 use Rattle.turn_losses.proofs.Tracing.{release_of, EndTurn, end-turn, timed-run, last-turn, starts-fresh}
 use Rattle.turn_losses.proofs.PeriodLaws.{is-heard, two-ends, NoneLost}
 use Rattle.turn_losses.proofs.Expiries.{LostIn, lost-or-none}
 use Rattle.turn_losses.proofs.Moving.{is_trying, asks, moves_on, TryGoesOn, TryBegins, try-heard, TriesAgain, TryStands, TryIsNew, try-says}
-use Rattle.turn_losses.proofs.Moving.{releasing-stays, can_answer, AnswerDue, answer-due, says-due, try-spent}
+use Rattle.turn_losses.proofs.Moving.{releasing-stays, can_answer, AnswerDue, answer-due, says-due}
 use Rattle.turn_losses.proofs.Phasing.{Met, met, is_established, begun-established}
 use Rattle.turn_losses.proofs.Clocks.{Ticked, Unanswered, last, chain}
 use Rattle.turn_losses.proofs.Names.{rates, Stands, is_begun, of_frame, of_arrived, is_linked, sent_or, EndRun, TwoEnds, TimedRun, end_of}
 use Rattle.turn_losses.proofs.Names.{LosesEach}
 use Rattle.turn_losses.proofs.Clocks.Ticked.{Begins, Expires, Stays}
 use Rattle.turn_losses.proofs.InTurn.{InTurn}
-use Rattle.link_account.specs.Speak.{speak_detecting, speak_negotiating, u_try}
 use Rattle.turn_losses.proofs.Periods.{once, loses-of}
 use Rattle.turn_losses.proofs.Wanting.{all-but-one}
 use Rattle.turn_losses.specs.Tries.{OriginatorWantsFrame}
-use Rattle.lapm_frames.specs.declared.sent.Sent.TheVariants as slots
 
 -- A turn after which an end tries: the try begins in it, or goes on unanswered, and goes again or not.
 abbrev pub GoesUnanswered : Phase → Arrived → Account → Type 0
@@ -271,28 +272,24 @@ unanswered-loses reads w m p t s within x = go (lost-or-none e o (s + 1) (w.peri
 -- An originator that gives up while it tries a frame.
 
 -- which try is spent
-pub which-try : (turn : ℕ) (release : Bool) (b : Account) (segment since : ℕ) → b.setup.role ≡ Originator → is_connected b.phase ≡ false
-    → is_closed b.phase ≡ false → speak turn release b ≡ Err (Spent segment since)
+pub which-try : (turn : ℕ) (release : Bool) (b : Account) (segment since : ℕ) → is_connected b.phase ≡ false
+    → speak turn release b ≡ Err (Spent segment since)
     → (is_trying b.phase ≡ true) × (turn ≡ b.wait.try_set + b.setup.period) × (b.wait.try_count ≡ b.setup.tries)
-which-try turn release b segment since r c k h = go b.phase refl c k h
+which-try turn release b segment since c h = go (why-broken turn release b (Spent segment since) h)
   where
-    by : (x : Bool) → cond x (Err NotDetected) (Ok (says slots.Odp b)) ≡ Err (Spent segment since) → ⊥
-    by true q = cc
-    by false q = cc
+    trying : ((b.phase ≡ Negotiating) × (b.setup.role ≡ Originator)) ⊎ ((b.phase ≡ Establishing) ⊎ (b.phase ≡ Releasing))
+        → is_trying b.phase ≡ true
+    trying (inl p) = ap is_trying p.0
+    trying (inr (inl p)) = ap is_trying p
+    trying (inr (inr p)) = ap is_trying p
 
-    tried : (p : Phase) (frame : Frame) → b.phase ≡ p → is_trying p ≡ true → u_try turn frame b ≡ Err (Spent segment since)
+    go : Breaks turn release b (Spent segment since)
         → (is_trying b.phase ≡ true) × (turn ≡ b.wait.try_set + b.setup.period) × (b.wait.try_count ≡ b.setup.tries)
-    tried p frame e t q = let x = try-spent turn frame b (Spent segment since) q in (ap is_trying e ∙ t, x.0, x.1)
-
-    go : (p : Phase) → b.phase ≡ p → is_connected p ≡ false → is_closed p ≡ false → speak_in p turn release b ≡ Err (Spent segment since)
-        → (is_trying b.phase ≡ true) × (turn ≡ b.wait.try_set + b.setup.period) × (b.wait.try_count ≡ b.setup.tries)
-    go Detecting e c k q = absurd (by (nat_le ((b.setup.tries + 1) * b.setup.period) turn) (sym (ap (λ x. speak_detecting x turn b) r) ∙ q))
-    go Negotiating e c k q = tried Negotiating (Xid true false (written b.setup.offer)) e refl
-        (sym (ap (λ x. speak_negotiating x turn b) r) ∙ q)
-    go Establishing e c k q = tried Establishing (Sabme true) e refl q
-    go Connected e c k q = cc
-    go Releasing e c k q = tried Releasing (Disc true) e refl q
-    go Closed e c k q = cc
+    go (Undetected p r l f) = cc
+    go (Spends (TryEnds q x n) f) = (trying q, grind (arith, nat_tests, x), grind (arith, nat_tests, n))
+    go (Spends (ReleaseEnds p x) f) = clash (is_connected b.phase) (ap is_connected p) c
+    go (Spends (TimerEnds p set r x n) f) = clash (is_connected b.phase) (ap is_connected p) c
+    go (Spends (BreakEnds p w x n) f) = clash (is_connected b.phase) (ap is_connected p) c
 
 pub originator-wants-frame : ReadsWritten → OriginatorWantsFrame
 originator-wants-frame reads tries period delay link ts before t mid segment since kt run cs broken
@@ -314,8 +311,7 @@ originator-wants-frame reads tries period delay link ts before t mid segment sin
     i = last-turn w t mid broken.hearing Originator
 
     why : (is_trying b.phase ≡ true) × (turns ≡ b.wait.try_set + b.setup.period) × (b.wait.try_count ≡ b.setup.tries)
-    why = which-try turns (releases link turns mid) b segment since i.b_role (ap is_connected i.served.phase ∙ unlinked)
-        (ap is_closed i.served.phase ∙ broken.going) broken.broken
+    why = which-try turns (releases link turns mid) b segment since (ap is_connected i.served.phase ∙ unlinked) broken.broken
 
     p : Phase
     p = mid.orig.phase
