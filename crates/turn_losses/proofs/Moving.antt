@@ -6,8 +6,8 @@ use Rattle.link_account.proofs.Names.{written, agree, Arrived, LinkFault, Accoun
 use Rattle.link_account.proofs.Names.{speak_linked, false≢true, is_originator, Sent, owing, says, frame_for, speak_in}
 use Rattle.link_run.proofs.Names.{Phase, Detecting, Negotiating, Establishing, Connected, Releasing, Closed, Answer}
 use Rattle.lapm_frames.specs.declared.seen.Seen.TheVariants.{Adp}
-use Rattle.link_account.specs.Hear.{on_seen, on_negotiating, on_establishing, on_releasing, on_xid_response, connected, on_detecting}
-use Rattle.link_account.specs.Hear.{on_disc, on_xid_command, peer_reset}
+use Rattle.link_account.specs.Hear.{on_negotiating, on_establishing, on_releasing, on_xid_response, connected, on_detecting, on_disc}
+use Rattle.link_account.specs.Hear.{on_xid_command, peer_reset}
 use Rattle.link_account.specs.Speak.{else_says, answering, speak_answer, speak_negotiating}
 use Rattle.turn_bound.proofs.MeetHear.{of_frame, of_arrived}
 use Rattle.link_account.proofs.HearWays.{by-ways, numbered_with, numbers-alike}
@@ -203,27 +203,6 @@ try-says turn release b said r long offers h = SpeakWays.by-ways (TrySaid turn b
 
         not-due : nat_eq turn (b.wait.try_set + b.setup.period) ≡ false → turn ≡ b.wait.try_set + b.setup.period → ⊥
         not-due x y = grind (arith, nat_tests, x, y)
-
--- an end that releases is not Connected again
-pub releasing-stays : (arrived : Arrived) (turn : ℕ) (a mid : Account) → a.phase ≡ Releasing → hear turn arrived a ≡ Ok mid
-    → mid.phase ≡ Connected → ⊥
-releasing-stays arrivals.Nothing turn a mid e h c = let same : on_nothing a ≡ mid = cc in let wrong : Releasing ≡ Connected = sym e
-    ∙ (ap (λ x. x.phase) same ∙ c) in cc
-releasing-stays (arrivals.Pattern seen) turn a mid e h c =
-    let there : Ok (on_seen Releasing seen turn a) ≡ Ok mid = ap (λ p. Ok (on_seen p seen turn a)) (sym e) ∙ h in
-    let same : a ≡ mid = cc in let wrong : Releasing ≡ Connected = sym e ∙ (ap (λ x. x.phase) same ∙ c) in cc
-releasing-stays (arrivals.Frame frame) turn a mid e h c = go frame (ap (λ p. on_frame p frame turn a) (sym e) ∙ h)
-  where
-    stays : a ≡ mid → ⊥
-    stays same = let wrong : Releasing ≡ Connected = sym e ∙ (ap (λ x. x.phase) same ∙ c) in cc
-
-    closed : record a { phase = Closed } ≡ mid → ⊥
-    closed same = let wrong : Closed ≡ Connected = ap (λ x. x.phase) same ∙ c in cc
-
-    go : (f : Frame) → on_releasing f a ≡ Ok mid → ⊥
-    go (Ua true) q = closed cc
-    go (Dm true) q = closed cc
-    go p q = stays cc
 
 -- An answerer answers what an originator tries in the turn in which it hears it.
 

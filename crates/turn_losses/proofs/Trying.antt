@@ -1,6 +1,7 @@
 -- The tries of an originator by the turn: when each went, and what is lost where none is answered.
 use Rattle.std.proofs.Common.{◌⊎◌, inl, inr, ◌≡◌, ℕ, ◌+◌, ◌-◌, ◌*◌, ◌<◌, ◌≤◌, not, Bool, true, false, length, arith, refl, sym, ◌∙◌, ap}
 use Rattle.std.proofs.Common.{subst, Ok, Err}
+use Rattle.turn_bound.proofs.MeetHear.{o-hears}
 use Rattle.turn_bound.proofs.Truths.{clash, not-true}
 use Rattle.link_account.proofs.Names.{nat_tests, is_some, cases_lt, Originator, Answerer, offer_in, written, ReadsWritten, Sent, Arrived}
 use Rattle.link_account.proofs.Names.{Account, MayPlay, Said, speak, Spent, is_connected, says}
@@ -15,7 +16,7 @@ use Rattle.turn_losses.proofs.Tracing.{release_of, EndTurn, end-turn, timed-run,
 use Rattle.turn_losses.proofs.PeriodLaws.{is-heard, two-ends, NoneLost}
 use Rattle.turn_losses.proofs.Expiries.{LostIn, lost-or-none}
 use Rattle.turn_losses.proofs.Moving.{is_trying, asks, moves_on, TryGoesOn, TryBegins, try-heard, TriesAgain, TryStands, TryIsNew, try-says}
-use Rattle.turn_losses.proofs.Moving.{releasing-stays, can_answer, AnswerDue, answer-due, says-due}
+use Rattle.turn_losses.proofs.Moving.{can_answer, AnswerDue, answer-due, says-due}
 use Rattle.turn_losses.proofs.Phasing.{Met, met, is_established, begun-established}
 use Rattle.turn_losses.proofs.Clocks.{Ticked, Unanswered, last, chain}
 use Rattle.turn_losses.proofs.Names.{rates, Stands, is_begun, of_frame, of_arrived, is_linked, sent_or, EndRun, TwoEnds, TimedRun, end_of}
@@ -76,7 +77,8 @@ module _ {tries period : ℕ} {link : Link} {turn : ℕ} {a : Account} {arrived 
       go (inl (f, inl x)) = again (heard (sym i.served.phase ∙ f)) x
       go (inl (f, inr x)) = stands (heard (sym i.served.phase ∙ f)) x
       go (inr (f, q, set, count, sends)) = inl (
-        (λ x. releasing-stays arrived turn a mid (x ∙ q) i.hears (sym i.served.phase ∙ f)),
+        (λ x. clash (is_released mid.phase) ((o-hears arrived turn a mid i.role_is i.hears).released (ap is_released (x ∙ q)))
+            (ap is_released (sym i.served.phase ∙ f))),
         set,
         count,
         sends,
