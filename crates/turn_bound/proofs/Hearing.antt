@@ -12,7 +12,7 @@ use Rattle.link_account.proofs.HearWays.{Numbers, numbered_with, acked-keeps, ac
 use Rattle.link_account.proofs.HearWays.{by-ways}
 use Rattle.turn_bound.proofs.Value.{frame_rnrs, value, lives, IsAck, IsSilent, Linked, Stands, Rates, AreRates, is_waiting, Sends, ends}
 use Rattle.turn_bound.proofs.Value.{Breaks, is_breaking, Ticks, left, worth, break_left, time_left, linked_left, linked_lives, IsOf}
-use Rattle.turn_bound.proofs.Value.{Unlinked, Tries, arrived_rnrs, tries_fit, left-some, ticks-now}
+use Rattle.turn_bound.proofs.Value.{Unlinked, Tries, phases_left, arrived_rnrs, tries_fit, left-some, ticks-now}
 use Rattle.turn_bound.proofs.Sender.{acked-heard, Heard, HeardWell, heard-well, heard-busy, meant-range, heard-advanced, heard-resumed}
 use Rattle.turn_bound.proofs.Sender.{heard-selected, ends-is}
 use Rattle.turn_bound.proofs.Sending.{later-sends, later-breaks, ChangedWell, answered-well, ends-same, or-false}
@@ -272,11 +272,11 @@ begins-a z total breaks turn p a y k u dead none = record {
 }
 
 -- what changes nothing of what counts
-pub idle-well : (z : Rates) (total breaks turn : ℕ) (role : Role) (p : Phase) (a b : Account) → Stands z (turn + 1) turn role p b
-    → b.phase ≡ p → b.setup ≡ a.setup → b.outgoing ≡ a.outgoing → b.own_breaks ≡ a.own_breaks
-    → lives turn role p b ≡ lives turn role p a → time_left z turn role p b ≡ time_left z turn role p a
-    → HeardAs z total breaks turn 0 role p a p b
-idle-well z total breaks turn role p a b s phase setup outgoing own live time = record {
+pub idle-well : (z : Rates) (total breaks turn : ℕ) (role : Role) (p q : Phase) (a b : Account) → Stands z (turn + 1) turn role q b
+    → b.phase ≡ q → b.setup ≡ a.setup → b.outgoing ≡ a.outgoing → b.own_breaks ≡ a.own_breaks
+    → lives turn role q b ≡ lives turn role p a → time_left z turn role q b ≡ time_left z turn role p a
+    → phases_left role q ≡ phases_left role p → HeardAs z total breaks turn 0 role p a q b
+idle-well z total breaks turn role p q a b s phase setup outgoing own live time phases = record {
   phase = phase;
   stands = s;
   setup = setup;
@@ -288,6 +288,7 @@ idle-well z total breaks turn role p a b s phase setup outgoing own live time = 
     ap (worth z total) outgoing,
     ap (λ o. z.quota * (breaks - length o.lengths)) own,
     time,
+    ap (λ n. z.quota * n) phases,
     ap (λ l. ends z.room (lives turn role p a) l) live,
     ends-same z.room (lives turn role p a),
   );
@@ -361,50 +362,13 @@ o-negotiating z total breaks turn a offer info y k u f =
     )
 
 -- an answerer before it is Connected
-abbrev pub IsEarly : Phase → Type 0
-IsEarly Detecting = Unit {0}
-IsEarly Negotiating = Unit {0}
-IsEarly Establishing = ⊥
-IsEarly Connected = ⊥
-IsEarly Releasing = ⊥
-IsEarly Closed = ⊥
-
-pub early : (z : Rates) (before turn : ℕ) (p : Phase) (a : Account) → IsEarly p
-    → (time_left z turn Answerer p a ≡ 0) × (lives turn Answerer p a ≡ false) × (Unlinked a → Stands z before turn Answerer p a)
-early z before turn Detecting a i = (refl, refl, λ u. u)
-early z before turn Negotiating a i = (refl, refl, λ u. u)
-early z before turn p a i = absurd i
-
-pub early-idle : (z : Rates) (total breaks turn : ℕ) (p q : Phase) (a b : Account) → IsEarly p → IsEarly q → Unlinked b → b.phase ≡ q
-    → b.setup ≡ a.setup → b.outgoing ≡ a.outgoing → b.own_breaks ≡ a.own_breaks
-    → HeardAs z total breaks turn 0 Answerer p a q b
-early-idle z total breaks turn p q a b i j u phase setup outgoing own =
-    let f = early z (turn + 1) turn p a i in
-    let g = early z (turn + 1) turn q b j in
-    record {
-      phase = phase;
-      stands = g.2 u;
-      setup = setup;
-      pieces = ap (λ o. o.pieces) outgoing;
-      ended = ap (λ o. o.ended) outgoing;
-      lengths = ap (λ o. o.lengths) own;
-      falls = omega (
-        arith,
-        ap (worth z total) outgoing,
-        ap (λ o. z.quota * (breaks - length o.lengths)) own,
-        f.0,
-        g.0,
-        ends-is z.room (lives turn Answerer p a) (lives turn Answerer q b) false false f.1 g.1,
-      );
-    }
-
-a-xid : (z : Rates) (total breaks turn : ℕ) (p : Phase) (a : Account) (offer : Offer) (info : List ℕ) → IsEarly p
-    → IsOf z a.setup → Unlinked a → offer_in info ≡ Some offer
+a-xid : (z : Rates) (total breaks turn : ℕ) (p : Phase) (a : Account) (offer : Offer) (info : List ℕ) → lives turn Answerer p a ≡ false
+    → time_left z turn Answerer p a ≡ 0 → IsOf z a.setup → Unlinked a → offer_in info ≡ Some offer
     → (q : Phase) × HeardAs z total breaks turn 0 Answerer p a q (on_xid_command (Some offer) a)
-a-xid z total breaks turn p a offer info i k u f = (
+a-xid z total breaks turn p a offer info dead none k u f = (
   Negotiating,
-  early-idle z total breaks turn p Negotiating a _ i tt (on-terms a (agree offer a.setup.offer) u
-      (agreed-windows offer a.setup.offer (read-windows info offer f) (k.tx_window, k.rx_window))) refl refl refl refl,
+  idle-well z total breaks turn Answerer p Negotiating a _ (on-terms a (agree offer a.setup.offer) u
+      (agreed-windows offer a.setup.offer (read-windows info offer f) (k.tx_window, k.rx_window))) refl refl refl refl (sym dead) (sym none) refl,
 )
 
 default-windows : (a : Account) (z : Rates) → IsOf z a.setup
@@ -412,15 +376,12 @@ default-windows : (a : Account) (z : Rates) → IsOf z a.setup
 default-windows a z k = agreed-windows default_offer a.setup.offer (omega arith, omega arith) (k.tx_window, k.rx_window)
 
 -- SABME: the answerer becomes Connected, on these terms
-a-sabme : (z : Rates) (total breaks turn : ℕ) (p : Phase) (a : Account) (pf : Bool) → IsEarly p → AreRates z → IsOf z a.setup → Unlinked a
-    → a.setup.role ≡ Answerer
+a-sabme : (z : Rates) (total breaks turn : ℕ) (p : Phase) (a : Account) (pf : Bool) → lives turn Answerer p a ≡ false
+    → time_left z turn Answerer p a ≡ 0 → AreRates z → IsOf z a.setup → Unlinked a → a.setup.role ≡ Answerer
     → HeardAs z total breaks turn 0 Answerer p a Connected (owing (answers.Ua pf) (connected turn a))
-a-sabme z total breaks turn p a pf i y k u er =
-    subst (λ r. HeardAs z total breaks turn 0 Answerer p a Connected (owing (answers.Ua pf) (connected_as r turn a))) (sym er) (on p i)
-  where
-    owed : (q : Phase) (b : Account) → HeardAs z total breaks turn 0 Answerer q a Connected b
-        → HeardAs z total breaks turn 0 Answerer q a Connected (owing (answers.Ua pf) b)
-    owed q b h = record {
+a-sabme z total breaks turn p a pf dead none y k u er =
+    let h = begins-a z total breaks turn p a y k u dead none in
+    subst (λ r. HeardAs z total breaks turn 0 Answerer p a Connected (owing (answers.Ua pf) (connected_as r turn a))) (sym er) (record {
       phase = h.phase;
       stands = h.stands;
       setup = h.setup;
@@ -428,13 +389,7 @@ a-sabme z total breaks turn p a pf i y k u er =
       ended = h.ended;
       lengths = h.lengths;
       falls = h.falls;
-    }
-
-    on : (q : Phase) → IsEarly q
-        → HeardAs z total breaks turn 0 Answerer q a Connected (owing (answers.Ua pf) (connected_as Answerer turn a))
-    on Detecting j = owed Detecting (connected_as Answerer turn a) (begins-a z total breaks turn Detecting a y k u refl refl)
-    on Negotiating j = owed Negotiating (connected_as Answerer turn a) (begins-a z total breaks turn Negotiating a y k u refl refl)
-    on p j = absurd j
+    })
 
 -- of default terms
 a-sabme-default : (z : Rates) (total breaks turn : ℕ) (a : Account) (pf : Bool) → AreRates z → IsOf z a.setup → Unlinked a
@@ -443,7 +398,7 @@ a-sabme-default : (z : Rates) (total breaks turn : ℕ) (a : Account) (pf : Bool
     (owing (answers.Ua pf) (connected turn (record a { terms = agree default_offer a.setup.offer })))
 a-sabme-default z total breaks turn a pf y k u er =
     let b : Account = record a { terms = agree default_offer a.setup.offer } in
-    let h = a-sabme z total breaks turn Detecting b pf tt y k (on-terms a b.terms u (default-windows a z k)) er in
+    let h = a-sabme z total breaks turn Detecting b pf refl refl y k (on-terms a b.terms u (default-windows a z k)) er in
     record { phase = h.phase; stands = h.stands; setup = h.setup; pieces = h.pieces; ended = h.ended; lengths = h.lengths; falls = h.falls }
 
 closes : (z : Rates) (total breaks turn : ℕ) (a b : Account) → AreRates z → Linked z turn turn Answerer a → b.phase ≡ Closed
@@ -480,18 +435,19 @@ closes z total breaks turn a b y h phase setup outgoing own = record {
 still-well : (z : Rates) (total breaks turn : ℕ) (role : Role) (p : Phase) (a : Account) (o : Owes) → Stands z turn turn role p a
     → a.phase ≡ p → HeardAs z total breaks turn 0 role p a p (record a { owes = o })
 still-well z total breaks turn role Connected a o h e = quiet-well z total breaks turn role a h e o _ h.ack
-still-well z total breaks turn role Closed a o h e = idle-well z total breaks turn role Closed a _ tt e refl refl refl refl refl
+still-well z total breaks turn role Closed a o h e = idle-well z total breaks turn role Closed Closed a _ tt e refl refl refl refl refl refl
 still-well z total breaks turn Originator Detecting a o h e =
-    idle-well z total breaks turn Originator Detecting a _ h e refl refl refl refl refl
+    idle-well z total breaks turn Originator Detecting Detecting a _ h e refl refl refl refl refl refl
 still-well z total breaks turn Originator Negotiating a o h e =
-    idle-well z total breaks turn Originator Negotiating a _ (h.0, later-tries z turn a h.1) e refl refl refl refl refl
+    idle-well z total breaks turn Originator Negotiating Negotiating a _ (h.0, later-tries z turn a h.1) e refl refl refl refl refl refl
 still-well z total breaks turn Originator Establishing a o h e =
-    idle-well z total breaks turn Originator Establishing a _ (h.0, later-tries z turn a h.1) e refl refl refl refl refl
+    idle-well z total breaks turn Originator Establishing Establishing a _ (h.0, later-tries z turn a h.1) e refl refl refl refl refl refl
 still-well z total breaks turn Originator Releasing a o h e =
-    idle-well z total breaks turn Originator Releasing a _ (later-tries z turn a h) e refl refl refl refl refl
-still-well z total breaks turn Answerer Detecting a o h e = early-idle z total breaks turn Detecting Detecting a _ tt tt h e refl refl refl
+    idle-well z total breaks turn Originator Releasing Releasing a _ (later-tries z turn a h) e refl refl refl refl refl refl
+still-well z total breaks turn Answerer Detecting a o h e =
+    idle-well z total breaks turn Answerer Detecting Detecting a _ h e refl refl refl refl refl refl
 still-well z total breaks turn Answerer Negotiating a o h e =
-    early-idle z total breaks turn Negotiating Negotiating a _ tt tt h e refl refl refl
+    idle-well z total breaks turn Answerer Negotiating Negotiating a _ h e refl refl refl refl refl refl
 still-well z total breaks turn Answerer p a o h e = absurd h
 
 -- Hearing: whatever the role, the phase and what arrives.
@@ -598,15 +554,15 @@ module _ (z : Rates) (total breaks turn : ℕ) (a : Account) (y : AreRates z) (k
     detected = λ p r. still z total breaks turn Answerer a y k s er all (arrivals.Pattern Odp) _;
     xid = λ p r pf info offer f. elim p [
       | inl q ↦ a-now (arrivals.Frame (Xid true pf info)) _ Detecting q
-          (a-xid z total breaks turn Detecting a offer info tt k (a-stands Detecting q) f)
+          (a-xid z total breaks turn Detecting a offer info refl refl k (a-stands Detecting q) f)
       | inr q ↦ a-now (arrivals.Frame (Xid true pf info)) _ Negotiating q
-          (a-xid z total breaks turn Negotiating a offer info tt k (a-stands Negotiating q) f)
+          (a-xid z total breaks turn Negotiating a offer info refl refl k (a-stands Negotiating q) f)
     ];
     agrees = λ p r pf info offer f. wrong r;
     sabme_first = λ p r pf. a-now (arrivals.Frame (Sabme pf)) _ Detecting p
         (Connected, a-sabme-default z total breaks turn a pf y k (a-stands Detecting p) er);
     sabme = λ p r pf. a-now (arrivals.Frame (Sabme pf)) _ Negotiating p
-        (Connected, a-sabme z total breaks turn Negotiating a pf tt y k (a-stands Negotiating p) er);
+        (Connected, a-sabme z total breaks turn Negotiating a pf refl refl y k (a-stands Negotiating p) er);
     ua = λ p. absurd (a-stands Establishing p);
     disc = λ p pf. still z total breaks turn Answerer a y k s er all (arrivals.Frame (Disc pf)) _;
     closes = λ p frame f. absurd (a-stands Releasing p);
