@@ -279,31 +279,6 @@ module _ (z : Rates) (turn : ℕ) (frame : Frame) (a : Account) (y : AreRates z)
     flags = λ x e. try-stood x a.wait.try;
   }
 
--- what changes nothing of what counts
-same-speaks : (z : Rates) (total breaks turn : ℕ) (role : Role) (p : Phase) (a b : Account) → Stands z (turn + 1) (turn + 1) role p b
-    → lives turn role p a ≡ false → lives (turn + 1) role p b ≡ false → time_left z (turn + 1) role p b ≡ 0
-    → b.phase ≡ p → b.setup ≡ a.setup → b.outgoing ≡ a.outgoing → b.own_breaks ≡ a.own_breaks → SpeaksAs z total breaks turn role p a p b
-same-speaks z total breaks turn role p a b s dead dead' none phase setup outgoing own = record {
-  phase = phase;
-  keeps = λ x. refl;
-  opens = λ x. x;
-  stands = s;
-  setup = setup;
-  pieces = ap (λ o. o.pieces) outgoing;
-  ended = ap (λ o. o.ended) outgoing;
-  lengths = ap (λ o. o.lengths) own;
-  falls = omega (
-    arith,
-    none,
-    ap (worth z total) outgoing,
-    ap (λ o. z.quota * (breaks - length o.lengths)) own,
-    lasts-dead (lives turn role p a) (lives (turn + 1) role p b) dead dead',
-  );
-}
-  where
-    lasts-dead : (l m : Bool) → l ≡ false → m ≡ false → lasts z.room l m ≡ 0
-    lasts-dead l m e f = rw (e, f) refl
-
 -- Speaking: whatever the role and the phase.
 module _ (z : Rates) (total breaks turn : ℕ) (release : Bool) (role : Role) (a : Account) (y : AreRates z) (k : IsOf z a.setup)
     (st : (p : Phase) → a.phase ≡ p → Stands z (turn + 1) turn role p a) (er : a.setup.role ≡ role)
@@ -316,27 +291,28 @@ module _ (z : Rates) (total breaks turn : ℕ) (release : Bool) (role : Role) (a
   now p e q b w = (q, subst (λ p. SpeaksAs z total breaks turn role p a q b) (sym e) w)
 
   alone : (o : Owes) → answers_alone a.phase a.setup.role ≡ true → P (record a { owes = o })
-  alone o t = go role a.phase refl (ap (answers_alone a.phase) (sym er) ∙ t) st
+  alone o t = let r = rests role a.phase (ap (answers_alone a.phase) (sym er) ∙ t) (st a.phase refl) in (
+    a.phase,
+    record {
+      phase = refl;
+      keeps = λ x. refl;
+      opens = λ x. x;
+      stands = r.0;
+      setup = refl;
+      pieces = refl;
+      ended = refl;
+      lengths = refl;
+      falls = omega (arith, r.1, r.2);
+    },
+  )
     where
-      go : (r : Role) (p : Phase) → a.phase ≡ p → answers_alone p r ≡ true
-          → ((q : Phase) → a.phase ≡ q → Stands z (turn + 1) turn r q a)
-          → (q : Phase) × SpeaksAs z total breaks turn r a.phase a q (record a { owes = o })
-      go r Closed e t s = (
-        Closed,
-        subst (λ p. SpeaksAs z total breaks turn r p a Closed (record a { owes = o })) (sym e)
-            (same-speaks z total breaks turn r Closed a _ tt refl refl refl e refl refl refl),
-      )
-      go Answerer Detecting e t s = (
-        Detecting,
-        subst (λ p. SpeaksAs z total breaks turn Answerer p a Detecting (record a { owes = o })) (sym e)
-            (same-speaks z total breaks turn Answerer Detecting a _ (s Detecting e) refl refl refl e refl refl refl),
-      )
-      go Answerer Negotiating e t s = (
-        Negotiating,
-        subst (λ p. SpeaksAs z total breaks turn Answerer p a Negotiating (record a { owes = o })) (sym e)
-            (same-speaks z total breaks turn Answerer Negotiating a _ (s Negotiating e) refl refl refl e refl refl refl),
-      )
-      go r p e t s = cc
+      rests : (r : Role) (p : Phase) → answers_alone p r ≡ true → Stands z (turn + 1) turn r p a
+          → Stands z (turn + 1) (turn + 1) r p (record a { owes = o }) × (time_left z (turn + 1) r p (record a { owes = o }) ≡ 0)
+          × (lasts z.room (lives turn r p a) (lives (turn + 1) r p (record a { owes = o })) ≡ 0)
+      rests r Closed e s = (tt, refl, refl)
+      rests Answerer Detecting e s = (s, refl, refl)
+      rests Answerer Negotiating e s = (s, refl, refl)
+      rests r p e s = cc
 
   linked : a.phase ≡ Connected → ConnectedWays (λ s. P s.account) turn a
   linked e = linked-so _ _ turn a (λ s x. now Connected e Connected s.account (spoken-linked z total breaks turn role a s e x))
