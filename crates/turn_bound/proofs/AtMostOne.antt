@@ -1,17 +1,17 @@
 use Rattle.std.proofs.Common.{◌⊎◌, inl, inr, ◌≡◌, ℕ, ◌+◌, ◌&&◌, Bool, true, false, List, [], ◌∷◌, length, refl, sym, ◌∙◌, ap, subst, Some}
 use Rattle.std.proofs.Common.{None, Ok}
 use Rattle.link_account.proofs.Names.{Role, Originator, Answerer, Frame, is_originator, Arrived, Account, is_connected, hear, without_adp}
-use Rattle.link_account.proofs.Names.{trying, Said, speak}
-use Rattle.link_run.proofs.Names.{Phase, Connected, Releasing, Closed, Answer, User, is_busy, is_closed, is_released}
+use Rattle.link_account.proofs.Names.{trying, Said, speak, of}
+use Rattle.link_run.proofs.Names.{Phase, Connected, Releasing, Closed, Answer, User, is_busy, is_closed, is_released, Link, Accounts, Turn, RunOf, IsCarried}
 use Rattle.turn_bound.proofs.Value.{Rates, Stands}
 use Rattle.turn_bound.proofs.OneTurn.{Hearing}
-use Rattle.turn_bound.proofs.Falls.{hears-o, hears-a, Fits, after-is}
-use Rattle.turn_bound.proofs.Run.{Link, State, Turn, RunOf}
+use Rattle.turn_bound.proofs.CalmRuns.{said-speaks, hears-in}
+use Rattle.link_run.specs.Run.{start}
+use Rattle.turn_bound.specs.Time.{KeepsTime}
 use Rattle.turn_bound.specs.Due.{NoneDue}
 use Rattle.turn_bound.proofs.Serving.{Served}
 use Rattle.link_account.proofs.HearWays.{numbers-alike}
 use Rattle.link_account.proofs.SpeakWays.{Steps, Tries, answers-unconnected, linked-alike, tries-alike, retimed}
-use Rattle.turn_bound.proofs.Ending.{sound-run}
 use Rattle.link_account.proofs.HearWays as HearWays
 use Rattle.link_account.proofs.SpeakWays as SpeakWays
 
@@ -158,14 +158,15 @@ end-clean {z} {user} {turn} {role} {a} {arrived} {mid} {b} i release said speaks
         → (c.owes.answer ≡ None) ⊎ (is_released c.phase ≡ false → c.owes.reply ≡ false)
     served-one m c s o = elim o.one [ inl n ↦ inl (s.answer ∙ n) | inr f ↦ inr (λ x. s.reply ∙ f (ap is_released (sym s.phase) ∙ x)) ]
 
-pub none-due-run : (z : Rates) (link : Link) (ts : List Turn) (s : State) → Fits z link → RunOf link ts s → NoneDue s.orig × NoneDue s.answ
-none-due-run z link [] s f run =
-    subst (λ x. NoneDue x.orig × NoneDue x.answ) (sym run)
-    (record { answer = refl; reply = λ r. refl }, record { answer = refl; reply = λ r. refl })
-none-due-run z link (t ∷ ts) s f (before, run, g) =
-    let h = sound-run z link ts before f run in
-    let n = none-due-run z link ts before f run in
-    subst (λ x. NoneDue x.orig × NoneDue x.answ) (sym (after-is link (length ts) before t s g)) (
-      end-clean (hears-o f h g) _ g.orig_said g.orig_says (λ r. g.going) n.0,
-      end-clean (hears-a f h g) false g.answ_said g.answ_says (λ r. cc) n.1,
-    )
+pub none-due-run : (tries period : ℕ) (delay : Role → ℕ) (link : Link) (ts : List Turn) (ends : Accounts)
+    → KeepsTime tries period delay link → RunOf link ts ends → IsCarried delay ts → (role : Role) → NoneDue (of role ends)
+none-due-run tries period delay link [] ends k run c role = subst (λ (x : Accounts). NoneDue (of role x)) (sym run) (by role)
+  where
+    by : (r : Role) → NoneDue (of r (start link))
+    by Originator = record { answer = refl; reply = λ r. refl }
+    by Answerer = record { answer = refl; reply = λ r. refl }
+none-due-run tries period delay link (t ∷ ts) ends k (before, run, g) c role =
+    let o = g.speaking role in
+    let sp = said-speaks link (length ts) g.mid role o.said o.says in
+    subst NoneDue (sym o.after_is) (end-clean (hears-in tries period delay link ts before role k run c.1 t g.mid g.hearing) sp.0 o.said
+    sp.1 (λ r. ap (λ q. is_closed (of q g.mid).phase) r ∙ g.going) (none-due-run tries period delay link ts before k run c.1 role))

@@ -144,24 +144,10 @@ stand-together-always tries period delay link ts ends k run c =
     record { answ = h.answ; polls = h.polls }
 
 pub at-once-always : AnswersAtOnce
-at-once-always tries period delay link ts ends k run c role =
-    let t = tied delay link ts ends k.delays run c in
-    by role (none-due-run (rates tries period) (link_of delay link) (map turn_of ts) (state_of ends t.forward t.back)
-    (fits tries period (link_of delay link) (keeps tries period delay link k)) t.run)
-  where
-    by : (r : Role) → NoneDue ends.orig × NoneDue ends.answ → NoneDue (of r ends)
-    by Originator h = h.0
-    by Answerer h = h.1
+at-once-always = none-due-run
 
 pub within-always : OffersWithin
-within-always tries period delay link ts ends k run c role =
-    let t = tied delay link ts ends k.delays run c in
-    by role (within-run (link_of delay link) (map turn_of ts) (state_of ends t.forward t.back) t.run)
-  where
-    by : (r : Role) → IsWithin link.orig.user.file ends.orig.outgoing × IsWithin link.answ.user.file ends.answ.outgoing
-        → IsWithin (of r link).user.file (of r ends).outgoing
-    by Originator h = h.0
-    by Answerer h = h.1
+within-always tries period delay link ts ends k run c role = within-run link ts ends role run
 
 pub spends-always : SpendsOnTime
 spends-always tries period delay link ts before t mid role fault k run c broken =
