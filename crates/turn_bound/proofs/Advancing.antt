@@ -39,8 +39,7 @@ begun-on delay link ts (t ∷ us) before after role n run (ends, goes, g) c e =
     (begun-on delay link ts us before ends role n run goes c.1 e)
 
 unreleased : (b c : Bool) → (b ≡ true → c ≡ true) → c ≡ false → b ≡ false
-unreleased true c h e = let wrong : true ≡ false = sym (h refl) ∙ e in cc
-unreleased false c h e = refl
+unreleased b c h e = grind (arith)
 
 may-of : (a : Account) (role : Role) → a.setup.role ≡ role → MaySend a → may_send_at a ≡ true
 may-of a Originator e m = ap (λ r. is_originator r || a.numbered) e

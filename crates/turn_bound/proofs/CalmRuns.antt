@@ -209,8 +209,7 @@ polls_heard (suc n) role [] = 0
 polls_heard (suc n) role (t ∷ ts) = one_if (of_arrived frame_poll (arrival (of role t).heard)) + polls_heard n role ts
 
 nineteen : (b : Bool) → nineteen_if b ≡ 19 * one_if b
-nineteen true = omega arith
-nineteen false = omega arith
+nineteen b = grind (arith)
 
 pub few-sent : (tries period : ℕ) (delay : Role → ℕ) (link : Link) (n : ℕ) (ts : List Turn) (ends : Accounts) (role : Role)
     → KeepsTime tries period delay link → NeverBusy link → RunOf link ts ends → IsCarried delay ts

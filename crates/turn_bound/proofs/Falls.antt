@@ -1,7 +1,7 @@
 use Rattle.std.proofs.Common.{◌≡◌, ℕ, ◌+◌, ◌*◌, ◌<◌, ◌≤◌, ◌&&◌, ◌||◌, not, Bool, true, false, cond, nat_lt, [], length, length-append}
 use Rattle.std.proofs.Common.{arith, refl, sym, ◌∙◌, ap, subst, Some, None, Result, Ok, Err, List, ◌++◌, ◌∷◌}
 use Rattle.turn_bound.proofs.Truths.{neither-first, neither-second}
-use Rattle.link_account.proofs.Names.{nat_tests, Role, Originator, Answerer, Outgoing, wanted, Arrived, LinkFault, Account, is_connected}
+use Rattle.link_account.proofs.Names.{Role, Originator, Answerer, Outgoing, wanted, Arrived, LinkFault, Account, is_connected}
 use Rattle.link_account.proofs.Names.{is_originator, Said, speak, Slot, other}
 use Rattle.link_run.proofs.Names.{Phase, Connected, User, is_busy, is_closed, is_released, has_finished}
 use Rattle.turn_bound.proofs.Value.{Rates, is_waiting, is_free, lasts, one_if, is_breaking, AreRates, value, linked_lives, lives, IsOf}
@@ -40,9 +40,7 @@ full-or-ended total o none window whole less = go o.ended refl (nat_lt (length o
   where
     go : (e : Bool) → o.ended ≡ e → (l : Bool) → nat_lt (length o.pieces) (o.front + o.window) ≡ l
         → cond (not e && l) (Some (length o.pieces)) None ≡ None → o.front < length o.pieces
-    go true e l f g = omega (arith, whole e, less)
-    go false e true f g = cc
-    go false e false f g = let full : o.front + o.window ≤ length o.pieces = grind (arith, nat_tests) in omega (arith, full, window)
+    go b e l f g = grind (arith)
 
 module _ {z : Rates} {user : User} {turn : ℕ} {role : Role} {a : Account} {arrived : Arrived} {mid b : Account}
     (i : Hearing z user turn role a arrived mid b) where
@@ -223,9 +221,7 @@ sound-after z link totals turn s t u f h g oo oa =
     }
 
 pub calm-free : (fo fa : Bool) → (fo ≡ false → fa ≡ false → ⊥) → 1 ≤ one_if fo + one_if fa
-calm-free true fa f = omega arith
-calm-free false true f = omega arith
-calm-free false false f = absurd (f refl refl)
+calm-free b fa f = grind (arith)
 
 -- Where nothing lives before and after a turn, and no user is busy in it, the standstill gets shorter.
 standstill : (z : Rates) (link : Link) (totals : Totals) (turn : ℕ) (s : State) (t : Turn) (u : State) → Fits z link → Sound z link turn s
@@ -296,9 +292,7 @@ standstill z link totals turn s t u f h g oo oa before after dead dead' calm_o c
         let wrong : true ≡ false = sym e ∙ neither-first a.outgoing.awaited a.outgoing.paused v in cc
 
     spoken-to-a : (o n : Bool) → (n ≡ false → ⊥) → o || n ≡ true
-    spoken-to-a true n f = refl
-    spoken-to-a false true f = refl
-    spoken-to-a false false f = absurd (f refl)
+    spoken-to-a b n f = grind (arith)
 
 lasts-some : (k : ℕ) (l l' m m' : Bool) → l || m ≡ true → 1 ≤ lasts k l l' + lasts k m m'
 lasts-some k l l' m m' e = grind (arith)
@@ -307,9 +301,7 @@ lasts-new : (k : ℕ) (l l' m m' : Bool) → l || m ≡ false → l' || m' ≡ t
 lasts-new k l l' m m' e f = grind (arith)
 
 busy-one : (b c : Bool) → b || c ≡ true → 1 ≤ one_if b + one_if c
-busy-one true c e = omega arith
-busy-one false true e = omega arith
-busy-one false false e = cc
+busy-one b c e = grind (arith)
 
 -- The potential falls in every turn after which the run goes on.
 pub falls : (z : Rates) (link : Link) (totals : Totals) (turn : ℕ) (s : State) (t : Turn) (u : State) → Fits z link → Sound z link turn s

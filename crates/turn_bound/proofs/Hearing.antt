@@ -14,7 +14,7 @@ use Rattle.turn_bound.proofs.Value.{frame_rnrs, value, lives, IsAck, IsSilent, L
 use Rattle.turn_bound.proofs.Value.{Breaks, is_breaking, Ticks, left, worth, break_left, time_left, linked_left, linked_lives, IsOf}
 use Rattle.turn_bound.proofs.Value.{Unlinked, Tries, phases_left, arrived_rnrs, tries_fit, left-some, ticks-now}
 use Rattle.turn_bound.proofs.Sender.{acked-heard, Heard, HeardWell, heard-well, heard-busy, meant-range, heard-advanced, heard-resumed}
-use Rattle.turn_bound.proofs.Sender.{heard-selected, ends-is}
+use Rattle.turn_bound.proofs.Sender.{heard-selected}
 use Rattle.turn_bound.proofs.Sending.{later-sends, later-breaks, ChangedWell, answered-well, ends-same, or-false}
 use Rattle.break_signals.specs.Breaks.{TheirBreaks, no_breaks}
 use Rattle.link_account.specs.declared.owes.Owes.{Owes}
@@ -34,8 +34,7 @@ pub read-windows : (info : List ℕ) (o : Offer) → offer_in info ≡ Some o �
 read-windows info o e = let k = reads_allowed_always info o e in (k.tx_window_low, k.rx_window_low)
 
 lowered-one : (srej : Bool) (w : ℕ) → 1 ≤ w → 1 ≤ lowered srej w
-lowered-one true w h = omega arith
-lowered-one false w h = h
+lowered-one b w h = grind (arith)
 
 pub agreed-windows : (o a : Offer) → HasWindows o → HasWindows a → (1 ≤ (agree o a).window_o) × (1 ≤ (agree o a).window_a)
 agreed-windows o a h k = (

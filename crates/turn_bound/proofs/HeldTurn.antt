@@ -104,13 +104,10 @@ module _ (z : Rates) (turn : ℕ) (special : Bool) (a : Account) (y : AreRates z
   due : (b : Bool) (word : BreakWord)
       → cond b (Some (Brk (a.own_breaks.answered % 2) (slice_index_or a.own_breaks.lengths a.own_breaks.answered 0))) None ≡ Some word
       → cond {A = ℕ} b 8 0 ≡ 8
-  due true word e = refl
-  due false word e = cc
+  due b word e = grind (arith)
 
   none-new : (x y : Bool) → x ≡ false → y ≡ false → differs x y && (is_originator a.setup.role || a.numbered) ≡ true → ⊥
-  none-new true y e f g = cc
-  none-new false true e f g = cc
-  none-new false false e f g = cc
+  none-new b y e f g = grind (arith)
 
   -- where no word is to be said no break is to be answered
   unasked : special ≡ false → NoWord special a → is_some a.their_breaks.ack ≡ false

@@ -74,16 +74,13 @@ weights-most [] h = omega arith
 weights-most (s ∷ line) h = omega (arith, h.0, weights-most line h.1)
 
 two-most : (b : Bool) → two_if b ≤ 2
-two-most true = omega arith
-two-most false = omega arith
+two-most b = grind (arith)
 
 four-most : (b : Bool) → four_if b ≤ 4
-four-most true = omega arith
-four-most false = omega arith
+four-most b = grind (arith)
 
 one-most : (b : Bool) → one_if b ≤ 1
-one-most true = omega arith
-one-most false = omega arith
+one-most b = grind (arith)
 
 pub dues-most : (total : ℕ) (a : Account) → dues total a ≤ 15
 dues-most total a =

@@ -1,5 +1,5 @@
-use Rattle.std.proofs.Common.{◌≡◌, ℕ, ◌&&◌, ◌||◌, not, Bool, true, false, cond, refl, sym, ◌∙◌, ap, Option, Some, Ok, inl, inr}
-use Rattle.turn_bound.proofs.Truths.{or-first, or-true, and-drop}
+use Rattle.std.proofs.Common.{arith, ◌≡◌, ℕ, ◌&&◌, ◌||◌, not, Bool, true, false, cond, refl, sym, ◌∙◌, ap, Option, Some, Ok, inl, inr}
+use Rattle.turn_bound.proofs.Truths.{or-first, or-true}
 use Rattle.link_account.proofs.Names.{Originator, Answerer, Frame, Rr, Rnr, Rej, Outgoing, is_outstanding, resumed, Arrived, Account}
 use Rattle.link_account.proofs.Names.{is_originator, hear, without_adp}
 use Rattle.link_run.proofs.Names.{Phase, Detecting, Negotiating, Establishing, Connected, Closed, Answer, is_closed, is_released}
@@ -49,9 +49,7 @@ resumed-awaited o = by o.paused
 -- a number is heard: the wait goes on unless the answer came
 acked-awaits : (command pf final : Bool) (a : Account) (n : ℕ) → ends_wait command pf a ≡ final → pf && not command ≡ false
     → ((acked final a.outgoing n).awaited ≡ a.outgoing.awaited) × ((acked_back final a.outgoing n).awaited ≡ a.outgoing.awaited)
-acked-awaits command pf true a n e f = let wrong : true ≡ false = sym e ∙
-    (ap (λ x. a.outgoing.awaited && x) f ∙ and-drop a.outgoing.awaited false refl) in cc
-acked-awaits command pf false a n e f = (refl, refl)
+acked-awaits command pf b a n e f = grind (arith)
 
 o-number : (ua final : Bool) (a b : Account) → a.phase ≡ Connected → b.phase ≡ Connected
     → (final ≡ false → b.outgoing.awaited ≡ a.outgoing.awaited) → OHeard ua final a b

@@ -49,8 +49,7 @@ answer-final (answers.Ua pf) a = refl
 answer-final (answers.Dm pf) a = refl
 
 ready-final : (busy command pf : Bool) (nr : ℕ) → frame_final (ready_frame busy command nr pf) ≡ pf && not command
-ready-final true command pf nr = refl
-ready-final false command pf nr = refl
+ready-final b command pf nr = grind (arith)
 
 abbrev Answered : Account → Said → Type 0
 Answered a = Replies a.outgoing.awaited a.owes.reply

@@ -26,10 +26,7 @@ heard-timer : (turn : ℕ) (o new : Outgoing) (timer : Option ℕ) → timer_val
 heard-timer turn o new timer = go _ (nat_lt o.front new.front) _
   where
     go : (x y w : Bool) → timer_value turn (cond x None (cond y (cond w (Some turn) None) timer)) ≤ timer_value turn timer
-    go true y w = omega arith
-    go false true true = omega arith
-    go false true false = omega arith
-    go false false w = omega arith
+    go b y w = grind (arith)
 
 pub heard-polls : (turn : ℕ) (p : Bool) (a b : Account) → Takes turn p a b → poll_value turn Connected b ≤ poll_value turn Connected a
 heard-polls turn p a b t = omega (arith, ap nineteen_if t.poll, by t.number)
@@ -43,15 +40,13 @@ abbrev pub Rated : ℕ → Account → Said → Type 0
 Rated turn a said = poll_value (turn + 1) Connected said.account + polls said.sent ≤ poll_value (turn + 1) Connected a
 
 ready-polls : (busy pf : Bool) (nr : ℕ) → frame_poll (ready_frame busy false nr pf) ≡ false
-ready-polls true pf nr = refl
-ready-polls false pf nr = refl
+ready-polls b pf nr = grind (arith)
 
 ready-most : (busy pf : Bool) (nr : ℕ) → nineteen_if (frame_poll (ready_frame busy true nr pf)) ≤ 19
 ready-most busy pf nr = go (frame_poll (ready_frame busy true nr pf))
   where
     go : (b : Bool) → nineteen_if b ≤ 19
-    go true = omega arith
-    go false = omega arith
+    go b = grind (arith)
 
 answer-rated : (turn : ℕ) (a b : Account) (d : Answer) → polls (frame_for d b) ≡ 0
 answer-rated turn a b answers.Adp = refl

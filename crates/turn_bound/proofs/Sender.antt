@@ -104,8 +104,7 @@ worth-same z total o new h e = by new.front new.high (sym (outstanding-same o ne
 -- an advance pays for all
 falls-more : (q g w first rest rest' free free' old k : ℕ) (waits' : Bool) → rest' + q ≤ rest → free' ≤ g → q ≡ g + w + 1
     → rest' + free' + cond waits' (w + 1) 0 + ends k true waits' ≤ rest + free + old + 0
-falls-more q g w first rest rest' free free' old k true h f e = omega arith
-falls-more q g w first rest rest' free free' old k false h f e = omega arith
+falls-more q g w first rest rest' free free' old k b h f e = grind (arith)
 
 -- what is heard never makes a stopped clock run
 pub heard-well : (z : Rates) (total turn : ℕ) (o new : Outgoing) (timer : Option ℕ) → AreRates z → Sends z turn turn o timer → Heard o new

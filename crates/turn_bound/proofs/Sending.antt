@@ -143,8 +143,7 @@ pub may-be : (b c : Bool) (m : Option ℕ) (n : ℕ) → cond (b || c) None m �
 may-be b c m n e = go (b || c) e
   where
     go : (d : Bool) → cond d None m ≡ Some n → (d ≡ false) × (m ≡ Some n)
-    go true e = cc
-    go false e = (refl, e)
+    go b e = grind (arith)
 
 pub sent-well : (z : Rates) (total turn : ℕ) (o : Outgoing) (timer : Option ℕ) (n : ℕ) → AreRates z → Sends z (turn + 1) (turn + 1) o timer
     → length o.pieces ≤ total → next_number o ≡ Some n
@@ -215,8 +214,7 @@ pub record ChangedWell (z : Rates) (breaks turn : ℕ) (b c : OwnBreaks) : Type 
   pub falls : break_value z breaks turn c + ends z.room (is_breaking turn b) (is_breaking turn c) ≤ break_value z breaks turn b
 
 pub ends-same : (k : ℕ) (b : Bool) → ends k b b ≡ 0
-ends-same k true = refl
-ends-same k false = refl
+ends-same k b = grind (arith)
 
 pub same-breaks : (z : Rates) (breaks turn : ℕ) (b : OwnBreaks) → Breaks z (turn + 1) turn b → ChangedWell z breaks turn b b
 same-breaks z breaks turn b s = record { sound = s; falls = omega (arith, ends-same z.room (is_breaking turn b)) }

@@ -10,8 +10,8 @@ use Rattle.link_account.specs.Speak.{timer_expires, breaking, running, says_segm
 use Rattle.link_account.proofs.SpeakWays.{AllSaid, Steps, steps-so, polling_at, Expired, ConnectedWays, by-linked, next-keeps, OnSaid}
 use Rattle.link_account.proofs.SpeakWays.{Tries as TryWays, tries-alike, by-tries, linked-so, Ways, by-ways, answers_alone}
 use Rattle.turn_bound.proofs.Value.{Rates, AreRates, is_waiting, Sends, lasts, one_if, sender_value, Breaks, is_breaking, break_left, value}
-use Rattle.turn_bound.proofs.Value.{lives, IsOf, IsAck, IsSilent, LinkedIn, Linked, Stands, Runs, left, worth, time_left, try_left}
-use Rattle.turn_bound.proofs.Value.{linked_lives, Tries, tries_fit}
+use Rattle.turn_bound.proofs.Value.{lives, IsOf, IsAck, IsSilent, LinkedIn, Linked, Stands, Runs, left, time_left, try_left, linked_lives}
+use Rattle.turn_bound.proofs.Value.{Tries, tries_fit}
 use Rattle.turn_bound.proofs.Sending.{WaitedWell, waited-quiet, waited-expired, sent-well, TickedWell, ticked-well, brk-sent}
 use Rattle.link_account.specs.declared.owes.Owes.{Owes}
 use Rattle.shared_terms.specs.Timer.{expires}
@@ -49,8 +49,7 @@ Stepped z total breaks turn role a b =
     StepIn z total breaks turn role a b.setup b.phase b.numbered b.outgoing b.wait.timer b.own_breaks b.their_breaks.ack
 
 nothing-falls : (v k : ℕ) (w : Bool) → v + cond w 0 (cond w (k + 1) 0) ≤ v
-nothing-falls v k true = omega arith
-nothing-falls v k false = omega arith
+nothing-falls v k b = grind (arith)
 
 -- The steps of a Connected end.
 module _ (z : Rates) (total breaks turn : ℕ) (role : Role) (a : Account) (y : AreRates z) (h : Linked z (turn + 1) (turn + 1) role a)
@@ -103,8 +102,7 @@ module _ (z : Rates) (total breaks turn : ℕ) (role : Role) (a : Account) (y : 
     where
       allowed : (b : Bool) → is_originator a.setup.role || a.numbered ≡ b → cond b (next_number a.outgoing) None ≡ Some n
           → (next_number a.outgoing ≡ Some n) × (is_originator a.setup.role || a.numbered ≡ true)
-      allowed true f e = (e, f)
-      allowed false f e = cc
+      allowed b f e = grind (arith)
 
       heard-of : (r : Role) → a.setup.role ≡ r → is_originator a.setup.role || a.numbered ≡ true → (high : ℕ) (timer : Option ℕ)
           → IsSilent r a.numbered high timer
@@ -359,8 +357,7 @@ module _ (z : Rates) (total breaks turn : ℕ) (release : Bool) (a : Account) (y
   }
     where
       lasts-most : (l : Bool) → lasts z.room l true ≤ z.room + 1
-      lasts-most true = omega arith
-      lasts-most false = omega arith
+      lasts-most b = grind (arith)
 
       before : nat_le ((a.setup.tries + 1) * a.setup.period) turn ≡ false → turn < z.whole
       before l =
@@ -423,5 +420,4 @@ linked-says turn release a said e c h = go (release && is_originator a.setup.rol
   where
     go : (x : Bool) → cond x (speak_releasing turn (trying Releasing turn a)) (speak_linked turn a) ≡ Ok said
         → (speak_linked turn a ≡ Ok said) × (x ≡ false)
-    go false q = (q, refl)
-    go true q = let wrong : true ≡ false = sym c ∙ released-says turn a said q in cc
+    go b q = grind (arith)

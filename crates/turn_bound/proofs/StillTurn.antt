@@ -40,8 +40,7 @@ free-same z total before turn o new timer s e h =
     by front high e f = rw (e, f) refl
 
 or-two : (a b : Bool) → two_if (a || b) ≤ two_if a + two_if b
-or-two true b = omega arith
-or-two false b = omega arith
+or-two c b = grind (arith)
 
 take-rej : (k : Took) (n : ℕ) (info : List ℕ) (i : Incoming) → two_if (after_kind k n info i).rej ≤ two_if i.rej + 2
 take-rej InOrder n info i = omega arith
@@ -66,8 +65,7 @@ free-one : (f g s : Bool) → f ≡ g → one_if (f && not s) ≡ one_if (g && n
 free-one f g s e = rw e refl
 
 some-two : (b : Bool) → two_if true ≤ two_if b + 2
-some-two true = omega arith
-some-two false = omega arith
+some-two b = grind (arith)
 
 unanswered : (turn number : ℕ) (b : OwnBreaks) → waits b ≡ false → after_answer turn number b ≡ b
 unanswered turn number b e = go (waits b) (nat_eq number (b.answered % 2)) e
@@ -104,9 +102,7 @@ module _ (z : Rates) (total turn : ℕ) (role : Role) (a : Account) (h : Linked 
 
   -- RNR starts the clock
   busy : (out awaited : Bool) → out || (awaited || true) ≡ false → ⊥
-  busy true awaited e = cc
-  busy false true e = cc
-  busy false false e = cc
+  busy b awaited e = grind (arith)
 
   less : (m : Option Answer)
       → dues total (record a { owes = record a.owes { answer = without_adp m } }) ≤ dues total
@@ -183,25 +179,19 @@ Pays total a special said =
     (is_free total a.outgoing && not special)
 
 one-most : (b : Bool) → one_if b ≤ 1
-one-most true = omega arith
-one-most false = omega arith
+one-most b = grind (arith)
 
 one-less : (b c : Bool) → one_if (b && c) ≤ one_if b
-one-less true true = omega arith
-one-less true false = omega arith
-one-less false c = omega arith
+one-less b c = grind (arith)
 
 one-all : (b : Bool) → one_if (b && true) ≡ one_if b
-one-all true = refl
-one-all false = refl
+one-all b = grind (arith)
 
 one-none : (b : Bool) → one_if (b && false) ≡ 0
-one-none true = refl
-one-none false = refl
+one-none b = grind (arith)
 
 ready-weight : (b command pf : Bool) (nr : ℕ) → frame_weight (ready_frame b command nr pf) ≡ two_if (command && pf)
-ready-weight true command pf nr = refl
-ready-weight false command pf nr = refl
+ready-weight b command pf nr = grind (arith)
 
 -- with nothing to wait for and none chosen the next one goes, where there is one and the window has room
 pub front-next : (o : Outgoing) → o.awaited || o.paused ≡ false → o.chosen ≡ [] → o.from < length o.pieces → o.from < o.front + o.window
@@ -217,8 +207,7 @@ idle-next {z} {before} {turn} {o} {timer} s idle more = front-next o parts.1 (no
     (omega (arith, s.front_from, s.from_high, le, more)) (omega (arith, s.front_from, s.from_high, le, s.window))
   where
     split : (out awaited paused : Bool) → out || (awaited || paused) ≡ false → (out ≡ false) × (awaited || paused ≡ false)
-    split true awaited paused e = cc
-    split false awaited paused e = (refl, e)
+    split b awaited paused e = grind (arith)
 
     parts : (is_outstanding o ≡ false) × (o.awaited || o.paused ≡ false)
     parts = split (is_outstanding o) o.awaited o.paused idle
@@ -251,14 +240,11 @@ asks-rej i n e g = by i.srej e i.rej g
     by : (b : Bool) → b ≡ false → (r : Bool)
         → cond b (first_outside i.asked (missing_from (length i.taken) i.held)) (cond r (Some (length i.taken)) None) ≡ Some n
         → r ≡ true
-    by true e r g = cc
-    by false e true g = refl
-    by false e false g = cc
+    by b e r g = grind (arith)
 
 rej-after : (i : Incoming) (n : ℕ) (b : Bool)
     → (cond b (record i { asked = i.asked ++ n ∷ [] }) (record i { rej = false })).rej ≡ cond b i.rej false
-rej-after i n true = refl
-rej-after i n false = refl
+rej-after i n b = grind (arith)
 
 -- Whatever is said pays for itself, and for a segment that is held up.
 module _ (z : Rates) (total turn : ℕ) (role : Role) (a : Account) (special : Bool) (y : AreRates z) (h : Idle z total turn role a) where
@@ -306,13 +292,10 @@ module _ (z : Rates) (total turn : ℕ) (role : Role) (a : Account) (special : B
 
   none-due : (b : Bool) (word : BreakWord) → b ≡ false
       → cond b (Some (Brk (a.own_breaks.answered % 2) (slice_index_or a.own_breaks.lengths a.own_breaks.answered 0))) None ≡ Some word → ⊥
-  none-due true word e f = cc
-  none-due false word e f = cc
+  none-due b word e f = grind (arith)
 
   told : (busy busy_told may' : Bool) → busy ≡ false → differs busy busy_told && may' ≡ true → busy_told ≡ true
-  told true busy_told may' e g = cc
-  told false true may' e g = refl
-  told false false may' e g = cc
+  told b busy_told may' e g = grind (arith)
 
   pub steps-pay : Steps (Pays total a special) turn special a
   steps-pay = record {
@@ -393,8 +376,7 @@ speaks-still z total breaks turn role b said y k h er all e dead busy may more =
     unticked : (own : OwnBreaks) (w : Bool) → w ≡ false → (due spent : Bool) → cond (w && due)
         (cond spent None (Some (record b.own_breaks { brk = true; set = turn; count = b.own_breaks.count + 1 }))) (Some b.own_breaks)
         ≡ Some own → b.own_breaks ≡ own
-    unticked own true f due spent g = cc
-    unticked own false f due spent g = cc
+    unticked own b f due spent g = grind (arith)
 
     rows : is_waiting b.outgoing ≡ false → waits b.own_breaks ≡ false → (own : OwnBreaks)
         → ticked turn b.setup.period b.setup.tries b.own_breaks ≡ Some own
@@ -515,9 +497,7 @@ waits-then turn l b low w r =
   where
     go : (x : Bool) → x ≡ false → (y : Bool) → y ≡ true → nat_lt b.answered (length (b.lengths ++ l ∷ [])) ≡ true
         → waits (cond (not x && y) (record b { lengths = b.lengths ++ l ∷ []; brk = true; set = turn; count = 0 }) b) ≡ true
-    go true e y f t = cc
-    go false e false f t = cc
-    go false e true f t = t
+    go b e y f t = grind (arith)
 
 unready : (user : User) (turn : ℕ) (mid : Account) → mid.phase ≡ Connected → mid.own_breaks.answered ≤ length mid.own_breaks.lengths
     → waits mid.own_breaks ≡ false → nat_lt turn mid.own_breaks.rest ≡ false
@@ -575,9 +555,7 @@ finished {z} {total} {more} {user} {turn} {role} {a} {mid} s t own all dead none
     room = let w = s.linked.sends.window in let f = whole-front in grind (arith, nat_tests)
 
     has-ended : (x y : Bool) → y ≡ true → cond (not x && y) (Some (length o.pieces)) None ≡ None → x ≡ true
-    has-ended true y e f = refl
-    has-ended false true e f = cc
-    has-ended false false e f = cc
+    has-ended b y e f = grind (arith)
 
     done : is_done b ≡ true
     done = let same : nat_eq o.front (length o.pieces) ≡ true = let f = whole-front in grind (arith, nat_tests) in

@@ -34,12 +34,10 @@ held-most turn a = go a.incoming.srej a.incoming.rej a.incoming.gapped (is_some 
     (waits a.own_breaks) a.wait.poll (turn - a.own_breaks.set) (a.own_breaks.rest - turn)
   where
     if-most : (b : Bool) (n : ℕ) → (cond b n 0 ≤ n) × (cond b 0 n ≤ n)
-    if-most true n = (omega arith, omega arith)
-    if-most false n = (omega arith, omega arith)
+    if-most b n = grind (arith)
 
     either-most : (b : Bool) (m n k : ℕ) → m ≤ k → n ≤ k → cond b m n ≤ k
-    either-most true m n k h1 h2 = h1
-    either-most false m n k h1 h2 = h2
+    either-most b m n k h1 h2 = grind (arith)
 
     go : (srej rej gapped ack special brk w poll : Bool) (s r : ℕ)
         → cond srej 0 (cond rej 16 0 + cond gapped 0 8) + cond ack 8 0 + cond special 0 4 +
@@ -133,27 +131,20 @@ take-owes InOrder n info i ack = (refl, go i.srej i.rej i.gapped, λ e. by i.sre
     x = cond (is_some ack) 8 0
 
     go : (s r g : Bool) → cond s 0 (cond r 16 0 + cond false 0 8) + x ≤ cond s 0 (cond r 16 0 + cond g 0 8) + x + 8
-    go true r g = omega arith
-    go false r true = omega arith
-    go false r false = omega arith
+    go b r g = grind (arith)
 
     by : (s r g : Bool) → s ≡ true → cond s 0 (cond r 16 0 + cond false 0 8) + x ≤ cond s 0 (cond r 16 0 + cond g 0 8) + x
-    by true r g e = omega arith
-    by false r g e = cc
+    by b r g e = grind (arith)
 take-owes Gap n info i ack = (refl, go i.srej i.rej i.gapped, λ e. by i.srej i.rej i.gapped e)
   where
     x : ℕ
     x = cond (is_some ack) 8 0
 
     go : (s r g : Bool) → cond s 0 (cond (r || not g) 16 0 + cond true 0 8) + x ≤ cond s 0 (cond r 16 0 + cond g 0 8) + x + 8
-    go true r g = omega arith
-    go false true g = omega arith
-    go false false true = omega arith
-    go false false false = omega arith
+    go b r g = grind (arith)
 
     by : (s r g : Bool) → s ≡ true → cond s 0 (cond (r || not g) 16 0 + cond true 0 8) + x ≤ cond s 0 (cond r 16 0 + cond g 0 8) + x
-    by true r g e = omega arith
-    by false r g e = cc
+    by b r g e = grind (arith)
 
 -- a frame that leaves all but an N(R) and a reply as it is
 number-takes : (turn : ℕ) (polls : Bool) (a b : Account) → TakesNumber turn a b → b.setup ≡ a.setup → b.phase ≡ Connected
@@ -182,8 +173,7 @@ number-takes turn polls a b number setup phase incoming special poll told answer
     same = ap (λ i. owing i b.their_breaks.ack) incoming ∙ ap (λ t. owing a.incoming t.ack) their
 
     polled : (r p : Bool) → r ≡ false → r || p ≡ true → p ≡ true
-    polled true p e f = cc
-    polled false p e f = f
+    polled b p e f = grind (arith)
 
 same-takes : (turn : ℕ) (a : Account) → a.phase ≡ Connected → (b : Account) → b.outgoing ≡ a.outgoing → b.wait ≡ a.wait → b.setup ≡ a.setup
     → b.phase ≡ a.phase → b.incoming ≡ a.incoming → b.special ≡ a.special → b.owes ≡ a.owes → b.numbered ≡ a.numbered
@@ -206,9 +196,7 @@ answered-own z turn number b s = go (waits b) (nat_eq number (b.answered % 2))
     go : (w right : Bool)
         → own_value turn (cond (w && right) (record b { answered = b.answered + 1; brk = false; count = 0; rest = turn + 8 }) b) ≤ own_value
         turn b
-    go false right = omega arith
-    go true false = omega arith
-    go true true = omega (arith, new)
+    go b right = grind (arith)
 
 -- nothing but this changes
 module _ (z : Rates) (turn : ℕ) (role : Role) (a : Account) (h : Linked z turn turn role a) (e : a.phase ≡ Connected) where
@@ -244,8 +232,7 @@ module _ (z : Rates) (turn : ℕ) (role : Role) (a : Account) (h : Linked z turn
   )
 
   one-more : (b : Bool) → 8 ≤ cond b 8 0 + 8
-  one-more true = omega arith
-  one-more false = omega arith
+  one-more b = grind (arith)
 
   taken : (ns nr n : ℕ) (info : List ℕ) → meant a.outgoing.front a.outgoing.high nr ≡ Some n
       → TakesSo turn false a (numbered_with a (advanced a.outgoing n) (after_take ns info a.incoming)
@@ -272,8 +259,7 @@ module _ (z : Rates) (turn : ℕ) (role : Role) (a : Account) (h : Linked z turn
       )
     where
       none : (r : Bool) → r ≡ false → r || false ≡ true → ⊥
-      none true f g = cc
-      none false f g = cc
+      none b f g = grind (arith)
 
   plain : (frame : Frame) → Plain frame → TakesSo turn (frame_poll frame) a a
   plain frame p = subst (λ b. TakesSo turn b a a) (sym (kind p)) same

@@ -137,8 +137,7 @@ pub kept : (q m n : ℕ) → m ≤ n → q * m ≤ q * n
 kept q m n h = mul-le-mul_left {m = m} {n = n} q h
 
 pub cond-le : (b : Bool) (n : ℕ) → cond b n 0 ≤ n
-cond-le true n = omega arith
-cond-le false n = omega arith
+cond-le b n = grind (arith)
 
 pub stopped : (z : Rates) (before turn count : ℕ) (timer : Option ℕ) → Ticks z before turn count timer → timer ≡ None → count ≡ 0
 stopped z before turn count None h e = h

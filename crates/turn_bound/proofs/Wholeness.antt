@@ -31,9 +31,7 @@ pub whole-is : (o : Outgoing) → is_whole o ≡ true → IsWhole o
 whole-is o e = go o.ended refl (nat_eq o.front (length o.pieces)) refl e
   where
     go : (d : Bool) → o.ended ≡ d → (n : Bool) → nat_eq o.front (length o.pieces) ≡ n → d && n ≡ true → IsWhole o
-    go true f true g h = (f, grind (arith, nat_tests))
-    go true f false g h = cc
-    go false f n g h = cc
+    go b f n g h = grind (arith)
 
 pub is-whole : (o : Outgoing) → IsWhole o → is_whole o ≡ true
 is-whole o (e, f) = let same : nat_eq o.front (length o.pieces) ≡ true = grind (arith, nat_tests, f) in rw (e, same) refl
@@ -142,8 +140,7 @@ finished-whole : (user : User) (turn : ℕ) (a : Account) → has_finished user 
 finished-whole user turn a e = whole-is a.outgoing (by (is_connected a.phase) (and-two (is_done a) _ e).0)
   where
     by : (c : Bool) → cond c (is_whole a.outgoing) false ≡ true → is_whole a.outgoing ≡ true
-    by true h = h
-    by false h = cc
+    by b h = grind (arith)
 
 -- Once the originator is told to release both ends are whole.
 pub released-whole : (tries period : ℕ) (delay : Role → ℕ) (link : Link) (ts : List Turn) (ends : Accounts)

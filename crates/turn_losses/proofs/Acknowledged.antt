@@ -62,8 +62,7 @@ told-from g k w delay turn loses f arrived h n e = elim (cases_lt turn delay) [
 ]
   where
     by : (b : Bool) → g (cond b arrivals.Nothing (arrives (f (turn - delay)))) ≡ Some n → k (f (turn - delay)) ≡ Some n
-    by true q = let wrong : None ≡ Some n = sym w.nothing ∙ q in cc
-    by false q = sym (w.same (f (turn - delay))) ∙ q
+    by b q = grind (arith)
 
 told-to : (g : Arrived → Option ℕ) (k : Sent → Option ℕ) → Told g k → (delay turn : ℕ) (loses : Bool) (f : ℕ → Sent) (arrived : Arrived)
     → ArrivesLate delay (turn + delay) loses f arrived → loses ≡ false → g arrived ≡ k (f turn)

@@ -1,5 +1,5 @@
 -- What hearing makes of an end's breaks, of what it owes for the other end's, and of its urgent segment.
-use Rattle.std.proofs.Common.{◌⊎◌, inl, inr, ◌≡◌, ℕ, ◌+◌, ◌%◌, ◌&&◌, List, Bool, true, false, cond, nat_eq, refl, sym, ◌∙◌, ap, Ok}
+use Rattle.std.proofs.Common.{arith, ◌⊎◌, inl, ◌≡◌, ℕ, ◌+◌, ◌%◌, ◌&&◌, List, Bool, true, false, cond, nat_eq, refl, sym, ◌∙◌, ap, Ok}
 use Rattle.link_account.proofs.Names.{Ui, Arrived, BreakWord, Ack, word_in, OwnBreaks, waits, Account, is_connected, hear, Role, Originator}
 use Rattle.link_account.proofs.Names.{Answerer, on_nothing, owing}
 use Rattle.link_run.proofs.Names.{Connected}
@@ -58,9 +58,7 @@ answer-heard turn command pf info number length_octet a e w v x y = record {
         → ((cond (w && x) (answered_own turn a.own_breaks) a.own_breaks ≡ a.own_breaks)
         × Unanswered (arrivals.Frame (Ui command pf info)) a.own_breaks)
         ⊎ ((waits a.own_breaks ≡ true) × (cond (w && x) (answered_own turn a.own_breaks) a.own_breaks ≡ answered_own turn a.own_breaks))
-    own true v true y = inr (v, refl)
-    own true v false y = inl (refl, (λ u. ap (is_word (ack_of (a.own_breaks.answered % 2))) e ∙ y))
-    own false v x y = inl (refl, (λ u. let wrong : true ≡ false = sym u ∙ v in cc))
+    own b v x y = grind (arith)
 
 pub break-heard : (arrived : Arrived) (turn : ℕ) (a mid : Account) → a.phase ≡ Connected → is_connected mid.phase ≡ true
     → hear turn arrived a ≡ Ok mid → BreakHeard turn arrived a mid

@@ -43,8 +43,7 @@ pub record StepBreaks (special : Bool) (o : OwnBreaks) (due : Option BreakWord) 
 
 ready-kinds : (busy command pf : Bool) (nr : ℕ) → (is_poll (ready_frame busy command nr pf) ≡ command && pf)
     × (is_final (ready_frame busy command nr pf) ≡ pf && not command) × (of_word any_brk (ready_frame busy command nr pf) ≡ false)
-ready-kinds true command pf nr = (refl, refl, refl)
-ready-kinds false command pf nr = (refl, refl, refl)
+ready-kinds b command pf nr = grind (arith)
 
 small : (n : ℕ) → nat_lt (n % 2) 2 ≡ true
 small n = grind (arith, nat_tests)
@@ -68,15 +67,13 @@ ack-no-brk : (m l : ℕ) → is_word any_brk (word_in (spelled (Ack m l))) ≡ f
 ack-no-brk m l = by (nat_lt m 2)
   where
     by : (b : Bool) → is_word any_brk (cond b (Ok (Ack m l)) (Err (Number m))) ≡ false
-    by true = refl
-    by false = refl
+    by b = grind (arith)
 
 undue : (o : OwnBreaks) → own_due o ≡ None → o.brk ≡ false
 undue o n = by o.brk n
   where
     by : (b : Bool) → cond b (Some (Brk (o.answered % 2) (slice_index_or o.lengths o.answered 0))) None ≡ None → b ≡ false
-    by true f = cc
-    by false f = refl
+    by b f = grind (arith)
 
 module _ (special : Bool) (a : Account) where
   abbrev P : Said → Type 0
@@ -218,10 +215,7 @@ ticks-own turn period tries o new e = go (waits o) refl (nat_eq turn (o.set + pe
     go : (w : Bool) → waits o ≡ w → (due : Bool) → nat_eq turn (o.set + period) ≡ due → (s : Bool)
         → cond (w && due) (cond s None (Some (record o { brk = true; set = turn; count = o.count + 1 }))) (Some o) ≡ Some new
         → TicksOwn turn period o new
-    go false w due d s f = inl cc
-    go true w false d s f = inl cc
-    go true w true d true f = cc
-    go true w true d false f = inr (w, grind (arith, nat_tests, d), cc)
+    go b w due d s f = grind (arith)
 
 -- What a Connected end that isn't told to release makes of them: the timer first, and then the nine steps.
 pub record SaidBreaks (turn : ℕ) (a : Account) (said : Said) : Type 0 where
@@ -419,8 +413,7 @@ module _ {tries period : ℕ} {link : Link} {r : Role} {turn : ℕ} {a : Account
   ack-heard e = by (of_arrived (of_word any_brk) arrived) refl
     where
       by : (x : Bool) → of_arrived (of_word any_brk) arrived ≡ x → (ack_due a ≡ true) ⊎ (of_arrived (of_word any_brk) arrived ≡ true)
-      by true f = inr f
-      by false f = inl (ap pends (sym (h.kept f)) ∙ (ap (λ t. pends t.ack) (sym i.served.ack) ∙ e))
+      by b f = grind (arith)
 
   pub break-turn : (d : Deeds) × (d.answers ≡ is_some b.owes.answer) × BreakTurn period turn arrived said.sent d a said.account
       × (waits said.account.own_breaks ≡ waits b.own_breaks)

@@ -2,7 +2,7 @@
 use Rattle.std.proofs.Common.{◌⊎◌, inl, inr, ◌≡◌, ℕ, zero, suc, ◌+◌, ◌-◌, ◌*◌, ◌<◌, ◌≤◌, Bool, true, false, cond, nat_le, length, arith}
 use Rattle.std.proofs.Common.{refl, sym, ◌∙◌, ap, Option, Some, None, Result, Ok, Err, List, [], ◌∷◌}
 use Rattle.link_account.proofs.Names.{cases_lt, Originator, Answerer, Arrived, LinkFault, NotDetected, Account, hear, trying, arrives, Said}
-use Rattle.link_account.proofs.Names.{says, spent, speak, speak_in, nat_tests, Role, Heard, Passed}
+use Rattle.link_account.proofs.Names.{says, spent, speak, speak_in, Role, Heard, Passed}
 use Rattle.link_run.proofs.Names.{Phase, Detecting, Negotiating, Connected, Releasing, Answer, User, is_busy, is_released, Accounts}
 use Rattle.link_run.proofs.Names.{arrival, served_at, releases, Link, Turn, RunOf, IsCarried}
 use Rattle.link_account.specs.Hear.{on_seen, on_pattern}
@@ -42,8 +42,7 @@ sends-odp turn release b said e r h =
     (sym (ap (λ x. speak_detecting x turn b) r) ∙ (sym (ap (λ p. speak_in p turn release b) e) ∙ h))
   where
     go : (x : Bool) → cond x (Err NotDetected) (Ok (says slots.Odp b)) ≡ Ok said → said.sent ≡ slots.Odp
-    go true q = cc
-    go false q = let same : says slots.Odp b ≡ said = cc in ap (λ s. s.sent) (sym same)
+    go b q = grind (arith)
 
 -- and hears no pattern of the answerer's
 abbrev hears-ok : Account → Result Account LinkFault
@@ -312,8 +311,7 @@ sends-early turn release b said e r h =
   where
     go : (x : Bool) → nat_le ((b.setup.tries + 1) * b.setup.period) turn ≡ x
         → cond x (Err NotDetected) (Ok (says slots.Odp b)) ≡ Ok said → turn < (b.setup.tries + 1) * b.setup.period
-    go true f q = cc
-    go false f q = grind (arith, nat_tests)
+    go b f q = grind (arith)
 
 -- as long as it is Detecting
 early : (tries period : ℕ) (delay : Role → ℕ) (link : Link) (ts : List Turn) (ends : Accounts) → KeepsTime tries period delay link

@@ -37,8 +37,7 @@ count-last (suc n) test h =
     let k = count-none n test (λ m l. none m l (test m) refl) in let e = one-most (test n) in omega (arith, k, e)
   where
     none : (m : ℕ) → m < n → (b : Bool) → test m ≡ b → test m ≡ false
-    none m l false q = q
-    none m l true q = let w = h m (omega (arith, l)) q in absurd (omega (arith, w, l))
+    none m l b q = grind (arith)
 
 -- where two that meet it follow one another
 count-near : (n : ℕ) (test : ℕ → Bool) → ((m k : ℕ) → m < k → k < n → test m ≡ true → test k ≡ true → k ≤ m + 1) → count_of n test ≤ 2

@@ -1,7 +1,7 @@
 -- Whatever an end gives up for, where no break waits.
 use Rattle.std.proofs.Common.{◌≡◌, ℕ, ◌+◌, Bool, true, false, cond, ◌∷◌, length, arith, refl, sym, ◌∙◌, ap, inl, inr, List, [], subst}
-use Rattle.link_account.proofs.Names.{Role, Originator, Answerer, of, waits, LinkFault, Spent, NotDetected, is_connected, nat_tests}
-use Rattle.link_account.proofs.Names.{OwnBreaks, Account}
+use Rattle.link_account.proofs.Names.{Role, Originator, Answerer, of, waits, LinkFault, Spent, NotDetected, is_connected, OwnBreaks}
+use Rattle.link_account.proofs.Names.{Account}
 use Rattle.link_run.proofs.Names.{is_released, served_at, BreakLine, is_busy, Link, Accounts, Turn, RunOf, SpeaksAt, said_at, IsCarried}
 use Rattle.link_run.proofs.Names.{Hears}
 use Rattle.link_account.specs.Account.{break_waits}
@@ -39,8 +39,7 @@ gives-up laws tries period delay link ts before t mid role fault kt run cs broke
       where
         by : (b : Bool) → b ≡ true → cond b (waits (served_at link (length ts) mid r).account.own_breaks) false ≡ false
             → waits (served_at link (length ts) mid r).account.own_breaks ≡ false
-        by true e f = f
-        by false e f = cc
+        by b e f = grind (arith)
 
     -- fewer of the latest periods
     fewer : LosesEach period (tries + 1) (length ts) (t ∷ ts) → LosesEach period tries (length ts) (t ∷ ts)
@@ -142,5 +141,4 @@ gives-up-unbroken law tries period delay link ts before t mid role fault kt none
     b = (served_at link (length ts) mid role).account
 
     quiet : (c : Bool) → taken b ≡ 0 → cond c (waits b.own_breaks) false ≡ false
-    quiet false e = refl
-    quiet true e = grind (arith, nat_tests, e)
+    quiet b e = grind (arith)

@@ -63,9 +63,7 @@ clock-kept z turn o new timer s h = let k = heard-clock z turn o new timer s h i
   where
     go : (w advances : Bool) → timer_after turn o new timer ≡ cond w (cond advances (Some turn) timer) None
         → new.count ≡ cond w (cond advances 0 o.count) 0 → CountStays o timer new (timer_after turn o new timer)
-    go false advances t c = inl c
-    go true true t c = inl c
-    go true false t c = inr (c, t)
+    go b advances t c = grind (arith)
 
 module _ (turn : ℕ) (a : Account) where
   abbrev o : Outgoing
@@ -115,10 +113,7 @@ module _ (turn : ℕ) (a : Account) where
   hurried command pf final e h = go a.wait.urgent refl final (pf && not command) o.awaited e h
     where
       go : (u : Bool) → a.wait.urgent ≡ u → (b f w : Bool) → w && f ≡ b → u || b ≡ true → (u ≡ true) ⊎ (f ≡ true)
-      go true q b f w r h = inl refl
-      go false q b true w r h = inr refl
-      go false q b false true r h = let wrong : true ≡ false = sym h ∙ sym r in cc
-      go false q b false false r h = let wrong : true ≡ false = sym h ∙ sym r in cc
+      go c q b f w r h = grind (arith)
 
   -- RR or REJ
   ready : (frame : Frame) (command pf final : Bool) (made : Outgoing) → is_poll frame ≡ (command && pf) → is_final frame ≡

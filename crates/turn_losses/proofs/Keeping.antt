@@ -1,4 +1,4 @@
-use Rattle.std.proofs.Common.{◌≡◌, ℕ, ◌+◌, ◌-◌, ◌<◌, ◌&&◌, Bool, true, false, ◌∷◌, length, arith, refl, sym, ◌∙◌, ap, Option, Some, None}
+use Rattle.std.proofs.Common.{◌≡◌, ℕ, ◌+◌, ◌-◌, ◌<◌, ◌&&◌, Bool, true, ◌∷◌, length, arith, refl, sym, ◌∙◌, ap, Option, Some, None}
 use Rattle.turn_losses.proofs.Names.{TwoEnds, of_frame, of_arrived, is_poll, is_final, Deed, past, sent_or, sends_poll, hears_poll}
 use Rattle.turn_losses.proofs.Names.{sends_final, hears_final, TimedRun, end_of}
 use Rattle.turn_losses.proofs.PeriodLaws.{polls-apart, still-awaited, reply-matches, two-ends, Answers, StillAwaited, looked}
@@ -51,9 +51,7 @@ polls-keep-apart tries period delay link ts ends k run c role s t less within ps
     (polls-of w role s (omega (arith, less, within)) ps) (polls-of w role t within pt)
 
 both-ways : (b c : Bool) → (b ≡ true → c ≡ true) → (c ≡ true → b ≡ true) → b ≡ c
-both-ways true c f g = sym (f refl)
-both-ways false true f g = g refl
-both-ways false false f g = refl
+both-ways b c f g = grind (arith)
 
 pub replies-at-once : RepliesAtOnce
 replies-at-once tries period delay link ts before t after k run g c role cb ca =

@@ -105,12 +105,10 @@ fronted : (n : ℕ) (o new : Outgoing) → Heard o new → new.front ≡ n → F
 fronted n o new h e = record { window = h.window; pieces = h.pieces; front = e; advance = go (nat_lt o.front new.front) refl }
   where
     go : (b : Bool) → nat_lt o.front new.front ≡ b → (n ≡ o.front) ⊎ (new.count ≡ 0)
-    go true f = inr (h.count ∙ ap (λ b. cond b 0 (cond (ended o new) 0 o.count)) f)
-    go false f = inl (let same : o.front ≡ new.front = grind (arith, nat_tests, h.front_low, f) in omega (arith, same, e))
+    go b f = grind (arith)
 
 acked-front : (final : Bool) (o : Outgoing) (n : ℕ) → ((acked final o n).front ≡ n) × ((acked_back final o n).front ≡ n)
-acked-front true o n = (refl, refl)
-acked-front false o n = (refl, refl)
+acked-front b o n = grind (arith)
 
 resumed-front : (o : Outgoing) → (resumed o).front ≡ o.front
 resumed-front o = go o.paused
@@ -203,12 +201,10 @@ abbrev pub Fits : Terms → Type 0
 Fits terms = (terms.window_o ≤ 127) × (terms.window_a ≤ 127)
 
 first-less : (srej : Bool) (m n : ℕ) → m ≤ 127 → lowered srej (min m n) ≤ 127
-first-less true m n l = omega arith
-first-less false m n l = omega (arith, l)
+first-less b m n l = grind (arith)
 
 second-less : (srej : Bool) (m n : ℕ) → n ≤ 127 → lowered srej (min m n) ≤ 127
-second-less true m n l = omega arith
-second-less false m n l = omega (arith, l)
+second-less b m n l = grind (arith)
 
 pub fits-second : (o a : Offer) → IsAllowed a → Fits (agree o a)
 fits-second o a h = (

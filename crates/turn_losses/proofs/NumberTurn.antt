@@ -37,8 +37,7 @@ pub record NumbersSaid (special : Bool) (a : Account) (said : Said) : Type 0 whe
 
 ready-nr : (busy command pf : Bool) (nr : ℕ)
     → (frame_nr (ready_frame busy command nr pf) ≡ Some nr) × (frame_ns (ready_frame busy command nr pf) ≡ None)
-ready-nr true command pf nr = (refl, refl)
-ready-nr false command pf nr = (refl, refl)
+ready-nr b command pf nr = grind (arith)
 
 -- a frame with N(R) goes, which is no I frame
 says-nr : (special : Bool) (a : Account) (said : Said) → SameFront a.outgoing said.account.outgoing → said.account.incoming.taken
@@ -97,9 +96,7 @@ answer-none (answers.Ua pf) a = (refl, refl)
 answer-none (answers.Dm pf) a = (refl, refl)
 
 unawaited : (b awaited paused : Bool) (m : Option ℕ) (n : ℕ) → cond b (cond (awaited || paused) None m) None ≡ Some n → awaited ≡ false
-unawaited true false paused m n e = refl
-unawaited true true paused m n e = cc
-unawaited false awaited paused m n e = cc
+unawaited b awaited paused m n e = grind (arith)
 
 pub linked-numbers : (turn : ℕ) (a : Account) (said : Said) → speak_linked turn a ≡ Ok said → NumbersSaid a.special a said
 linked-numbers turn a said e = by-linked (NumbersSaid a.special a) turn a (linked-alike _ turn a ways) said e

@@ -114,8 +114,7 @@ pub record Released (link : Link) (t : ℕ) (mid : Accounts) : Type 0 where
   pub connected : is_connected (served_at link t mid Answerer).account.phase ≡ true
 
 not-either : (x : Bool) → not x ≡ true → x ≡ false
-not-either true e = cc
-not-either false e = refl
+not-either b e = grind (arith)
 
 pub told-release : (link : Link) (t : ℕ) (mid : Accounts) → releases link t mid ≡ true → Released link t mid
 told-release link t mid e = go (is_connected a.phase) refl
@@ -247,8 +246,7 @@ whole-stops w v b told f g = stopped m.wait.timer (sends.cause ∙ still (nat_lt
         let done : m.outgoing.high ≤ m.outgoing.front = omega (arith, all, front, longer, high) in grind (arith, nat_tests, done)
 
     still : (x : Bool) → x ≡ false → x || (m.outgoing.awaited || m.outgoing.paused) ≡ false
-    still true q = cc
-    still false q = ap (λ y. y || m.outgoing.paused) f ∙ g
+    still b q = grind (arith)
 
 disc-heard : (arrived : Arrived) (turn : ℕ) (a mid : Account) → a.setup.role ≡ Answerer → is_connected a.phase ≡ true
     → of_arrived (asks Releasing) arrived ≡ true → hear turn arrived a ≡ Ok mid → is_connected mid.phase ≡ false

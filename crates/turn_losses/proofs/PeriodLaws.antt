@@ -83,8 +83,7 @@ was-sent {delay} {turns} {f} {arrived} {loses} kind h t within is_heard = elim (
 ]
   where
     by : (b : Bool) → of_arrived kind (cond b arrivals.Nothing (arrives (f (t - delay)))) ≡ true → of_frame kind (f (t - delay)) ≡ true
-    by true e = cc
-    by false e = sym (arrives-flag kind (f (t - delay))) ∙ e
+    by b e = grind (arith)
 
 -- what is sent is heard unless it is lost
 pub is-heard : {delay turns : ℕ} {f : ℕ → Sent} {arrived : ℕ → Arrived} {loses : ℕ → Bool} (kind : Frame → Bool)

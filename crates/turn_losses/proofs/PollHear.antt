@@ -1,4 +1,4 @@
-use Rattle.std.proofs.Common.{◌⊎◌, inl, inr, ◌≡◌, ℕ, ◌||◌, Bool, true, false, refl, sym, ◌∙◌, ap, Option, Some, None, Ok}
+use Rattle.std.proofs.Common.{arith, ◌⊎◌, inl, inr, ◌≡◌, ℕ, ◌||◌, Bool, true, false, refl, sym, ◌∙◌, ap, Option, Some, None, Ok}
 use Rattle.link_account.proofs.Names.{Role, Originator, Answerer, Arrived, Account, is_connected, is_originator, hear, on_nothing}
 use Rattle.link_account.proofs.Names.{without_adp}
 use Rattle.link_run.proofs.Names.{Phase, Connected}
@@ -107,8 +107,7 @@ stays-heard : (role : Role) (turn : ℕ) (polled : Bool) (p : Phase) (a b : Acco
 stays-heard role turn polled p a b e f c w n = go (is_linked p) refl
   where
     go : (x : Bool) → is_linked p ≡ x → PollHeard role turn polled a b
-    go true q = ended-heard role turn polled a b (ap is_linked f ∙ q) (ap is_connected f ∙ c) w n
-    go false q = unlinked-heard role turn polled a b (ap is_linked e ∙ q) (ap is_connected f ∙ c) (ap (λ x. x.poll) w) n
+    go b q = grind (arith)
 
 connected-begins : (role : Role) (turn : ℕ) (polled : Bool) (a b : Account) (r : Role) → role ≡ r → is_linked a.phase ≡ false
     → b.phase ≡ Connected → b.owes.reply ≡ a.owes.reply → b.numbered ≡ a.numbered → b.wait ≡ first_wait r turn a.wait

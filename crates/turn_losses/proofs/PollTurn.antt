@@ -31,8 +31,7 @@ pub record StepPoll (turn : ℕ) (a : Account) (said : Said) : Type 0 where
 
 ready-kinds : (busy command pf : Bool) (nr : ℕ)
     → (is_poll (ready_frame busy command nr pf) ≡ command && pf) × (is_final (ready_frame busy command nr pf) ≡ pf && not command)
-ready-kinds true command pf nr = (refl, refl)
-ready-kinds false command pf nr = (refl, refl)
+ready-kinds b command pf nr = grind (arith)
 
 set-running : (turn : ℕ) (m : Option ℕ) → SetFrom turn m (running turn m)
 set-running turn None s k = let same : turn ≡ s = cc in inl (sym same)
@@ -256,8 +255,7 @@ connected-closed Connected e = refl
 connected-closed p e = cc
 
 either-bool : (b : Bool) → (b ≡ true) ⊎ (b ≡ false)
-either-bool true = inl refl
-either-bool false = inr refl
+either-bool b = grind (arith)
 
 -- b is the account once it has heard, c once it has spoken
 pub poll-turn : (period turn : ℕ) (role : Role) (polled final : Bool) (a b : Account) (said : Said) → 1 ≤ period
@@ -298,8 +296,7 @@ poll-turn period turn role polled final a b said some h k one none early untimed
     ]
       where
         or-rest : (x y : Bool) → x ≡ false → x || y ≡ true → y ≡ true
-        or-rest true y f g = cc
-        or-rest false y f g = g
+        or-rest b y f g = grind (arith)
 
     -- an answerer that has heard no I frame and no supervisory frame polls for nothing
     silent-poll : is_connected c.phase ≡ true → role ≡ Answerer → c.numbered ≡ false → c.wait.poll ≡ true → ⊥

@@ -381,8 +381,7 @@ only-releasing Releasing g h = refl
 only-releasing p g h = cc
 
 waiting-is : (c w : Bool) → cond c w false ≡ true → (c ≡ true) × (w ≡ true)
-waiting-is true w e = (refl, e)
-waiting-is false w e = cc
+waiting-is b w e = grind (arith)
 
 pub gives-up-starved : Base → GivesUpStarved
 gives-up-starved laws tries period delay link ts before t mid role fault kt run cs broken = by (break_waits b) refl

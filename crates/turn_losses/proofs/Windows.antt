@@ -21,8 +21,7 @@ hits f from zero = 0
 hits f from (suc n) = hits f from n + one_if (f (from + n))
 
 pub one-most : (b : Bool) → one_if b ≤ 1
-one-most true = omega arith
-one-most false = omega arith
+one-most b = grind (arith)
 
 -- of hits that lie so far apart there is one at most in as many turns
 one-hit : (f : ℕ → Bool) (from n : ℕ) → 1 ≤ hits f from n → (t : ℕ) × (from ≤ t) × (t < from + n) × (f t ≡ true)
@@ -111,13 +110,7 @@ all-held final poll hurries acks special answer from (suc n) h =
     omega (arith, again, one)
   where
     count : (a b c d e f : Bool) → holds a b c d e f ≡ true → 1 ≤ one_if a + one_if b + one_if c + one_if d + one_if e + one_if f
-    count true b c d e f q = omega arith
-    count false true c d e f q = omega arith
-    count false false true d e f q = omega arith
-    count false false false true e f q = omega arith
-    count false false false false true f q = omega arith
-    count false false false false false true q = omega arith
-    count false false false false false false q = cc
+    count s b c d e f q = grind (arith)
 
 pub no-hits : (f : ℕ → Bool) (from n : ℕ) → ((t : ℕ) → from ≤ t → t < from + n → f t ≡ false) → hits f from n ≡ 0
 no-hits f from zero h = refl
@@ -126,8 +119,7 @@ no-hits f from (suc n) h = let again = no-hits f from n (λ t a b. h t a (omega 
 
 -- the special turns are the first one, at most, and those behind a BRKACK
 implied : (x y : Bool) → (x ≡ true → y ≡ true) → one_if x ≤ one_if y
-implied true y e = let q = ap one_if (e refl) in omega (arith, q)
-implied false y e = omega arith
+implied b y e = grind (arith)
 
 behind : (special acks : ℕ → Bool) (from n j : ℕ) → j < n
     → ((t : ℕ) → from ≤ t → t + 1 < from + n → special (t + 1) ≡ true → acks t ≡ true) → hits special from (suc j) ≤ 1 + hits acks from j
