@@ -1,8 +1,8 @@
 -- The front of an end that isn't whole advances within the turns of one segment, or the run ends.
 use Rattle.std.proofs.Common.{◌≡◌, ℕ, suc, ◌+◌, ◌-◌, ◌*◌, ◌<◌, ◌≤◌, ◌||◌, ◌⊎◌, Bool, true, false, cond, nat_lt, List, [], ◌∷◌, ◌++◌, length}
-use Rattle.std.proofs.Common.{inl, inr, arith, refl, sym, ◌∙◌, ap, subst, Option, Some, None}
+use Rattle.std.proofs.Common.{inl, inr, arith, refl, sym, ◌∙◌, ap, subst, Option}
 use Rattle.turn_bound.proofs.Truths.{neither-first}
-use Rattle.link_account.proofs.Names.{nat_tests, Role, Originator, Answerer, is_originator, of, Outgoing, Account}
+use Rattle.link_account.proofs.Names.{nat_tests, Role, of, Outgoing, Account}
 use Rattle.link_run.proofs.Names.{Connected, is_released, Link, Accounts, Turn, GoingTurn, RunOf, arrival, IsCarried}
 use Rattle.lapm_sender.specs.Outgoing.{is_whole}
 use Rattle.turn_bound.specs.Time.{KeepsTime}
@@ -42,8 +42,7 @@ unreleased : (b c : Bool) → (b ≡ true → c ≡ true) → c ≡ false → b 
 unreleased b c h e = grind (arith)
 
 may-of : (a : Account) (role : Role) → a.setup.role ≡ role → MaySend a → may_send_at a ≡ true
-may-of a Originator e m = ap (λ r. is_originator r || a.numbered) e
-may-of a Answerer e m = ap (λ r. is_originator r || a.numbered) e ∙ m.numbered e
+may-of a b e m = grind (arith)
 
 linking-of : (z : Rates) (turn : ℕ) (role : Role) (a : Account) → EndAt z turn role a → a.phase ≡ Connected → NoneDue a → Unpaused a
     → may_send_at a ≡ true → Linking z turn role a
@@ -214,8 +213,7 @@ stages tries period delay link ts (t ∷ us) before after role total k n run m (
 
 -- a clock that runs between turns counts a whole set of tries at most
 left-most : (z : Rates) (turn count : ℕ) (timer : Option ℕ) → Ticks z turn turn count timer → left z turn count timer ≤ z.whole
-left-most z turn count None h = omega arith
-left-most z turn count (Some set) h = omega (arith, h.started)
+left-most z turn count b h = grind (arith)
 
 start-most : (z : Rates) (total turn : ℕ) (o : Outgoing) (timer : Option ℕ) → Sends z turn turn o timer
     → sender_value z total turn o timer ≤ z.quota * (total - o.front) + z.first + z.whole

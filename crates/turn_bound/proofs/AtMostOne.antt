@@ -1,8 +1,9 @@
-use Rattle.std.proofs.Common.{◌⊎◌, inl, inr, ◌≡◌, ℕ, ◌+◌, ◌&&◌, Bool, true, false, List, [], ◌∷◌, length, refl, sym, ◌∙◌, ap, subst, Some}
-use Rattle.std.proofs.Common.{None, Ok}
+use Rattle.std.proofs.Common.{arith, ◌⊎◌, inl, inr, ◌≡◌, ℕ, ◌+◌, ◌&&◌, Bool, true, false, List, [], ◌∷◌, length, refl, sym, ◌∙◌, ap, subst}
+use Rattle.std.proofs.Common.{Some, None, Ok}
 use Rattle.link_account.proofs.Names.{Role, Originator, Answerer, Frame, is_originator, Arrived, Account, is_connected, hear, without_adp}
 use Rattle.link_account.proofs.Names.{trying, Said, speak, of}
-use Rattle.link_run.proofs.Names.{Phase, Connected, Releasing, Closed, Answer, User, is_busy, is_closed, is_released, Link, Accounts, Turn, RunOf, IsCarried}
+use Rattle.link_run.proofs.Names.{Phase, Connected, Releasing, Answer, User, is_busy, is_closed, is_released, Link, Accounts, Turn, RunOf}
+use Rattle.link_run.proofs.Names.{IsCarried}
 use Rattle.turn_bound.proofs.Value.{Rates, Stands}
 use Rattle.turn_bound.proofs.OneTurn.{Hearing}
 use Rattle.turn_bound.proofs.CalmRuns.{said-speaks, hears-in}
@@ -39,8 +40,7 @@ one-closed role b e =
     }
   where
     closed-released : (p : Phase) → is_closed p ≡ true → is_released p ≡ true
-    closed-released Closed e = refl
-    closed-released p e = cc
+    closed-released p e = grind (arith)
 
 pub one-hears : (role : Role) (arrived : Arrived) (turn : ℕ) (a mid : Account) → a.setup.role ≡ role → NoneDue a → hear turn arrived a
     ≡ Ok mid
@@ -133,13 +133,10 @@ said-clean z before turn release role p a said st e er open_ k h = SpeakWays.by-
     alone {q} f unheld = go role st
       where
         go : (r : Role) → Stands z before turn r p a → r ≡ Originator
-        go Originator s = refl
-        go Answerer s = absurd (unheld (subst (λ x. Stands z before turn Answerer x a) (sym e ∙ f) s))
+        go b s = grind (arith)
 
     originates : (r : Role) (b : Bool) → (b && is_originator r) ≡ true → r ≡ Originator
-    originates Originator b x = refl
-    originates Answerer true x = cc
-    originates Answerer false x = cc
+    originates c b x = grind (arith)
 
 -- a turn of one end
 end-clean : {z : Rates} {user : User} {turn : ℕ} {role : Role} {a : Account} {arrived : Arrived} {mid b : Account}

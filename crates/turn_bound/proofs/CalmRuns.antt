@@ -1,7 +1,7 @@
 -- What holds all through a run where no user is busy.
 use Rattle.std.proofs.Common.{◌≡◌, ℕ, zero, suc, ◌+◌, ◌-◌, ◌*◌, ◌≤◌, Bool, true, false, List, [], ◌∷◌, drop, map, length, arith, refl, sym}
-use Rattle.std.proofs.Common.{◌∙◌, ap, subst, Option, Some, None, Result, Ok, Err}
-use Rattle.link_account.proofs.Names.{slice_get, AllByRecursion, Role, Originator, Answerer, other, of, Heard, Passed, LinkFault, Account}
+use Rattle.std.proofs.Common.{◌∙◌, ap, subst, Option, Some, None, Result, Ok}
+use Rattle.link_account.proofs.Names.{slice_get, AllByRecursion, Role, Originator, Answerer, other, of, Heard, LinkFault, Account}
 use Rattle.link_account.proofs.Names.{is_connected, Said, speak}
 use Rattle.link_run.proofs.Names.{User, is_busy, is_released, Link, Accounts, Spoken, Turn, GoingTurn, RunOf, said_at, releases, arrival}
 use Rattle.link_run.proofs.Names.{Crosses, Carries, IsCarried, sent_in, sent_ago, Hears}
@@ -15,9 +15,8 @@ use Rattle.turn_bound.proofs.Falls.{Sound, Fits}
 use Rattle.turn_bound.proofs.Ending.{fits, sound-run}
 use Rattle.turn_bound.proofs.Tied.{Tied, tied, keeps, link_of, turn_of, state_of, turns-length}
 use Rattle.turn_bound.proofs.Light.{Light, LightSaid, speaks-light}
-use Rattle.turn_bound.proofs.Lines.{arrives-weight, arrives-rnrs}
 use Rattle.turn_bound.proofs.MeetHear.{is_begun, of_arrived, of_frame}
-use Rattle.turn_bound.proofs.Meeting.{speaks-so, arrives-flag}
+use Rattle.turn_bound.proofs.Meeting.{speaks-so}
 use Rattle.turn_bound.proofs.Taking.{frame_poll, poll_value, poll-most}
 use Rattle.turn_bound.proofs.Polled.{nineteen_if, poll-turn}
 use Rattle.turn_bound.proofs.Pausing.{goes-on, says-calm}
@@ -101,8 +100,7 @@ said-light : (busy : Bool) (said : Said) (turn : ℕ) (release : Bool) (b : Acco
 said-light busy said turn release b e h = by (speak turn release b) e h
   where
     by : (r : Result Said LinkFault) → r ≡ Ok said → LightSaid busy r → Light busy said
-    by (Err fault) e h = cc
-    by (Ok other) e h = let same : other ≡ said = cc in subst (Light busy) same h
+    by b e h = grind (arith)
 
 light-turn : (link : Link) (ts : List Turn) (before : Accounts) (t : Turn) (after : Accounts) → NeverBusy link
     → GoingTurn link ts before t after
@@ -132,9 +130,7 @@ all-get (t ∷ ts) (suc n) h role = all-get ts n h.1 role
 -- so is what arrives
 pub light-heard : (m : Option Spoken) (heard : Heard) → Crosses m heard → LightSlot m
     → (arrived_weight (arrival heard) ≤ 2) × (arrived_rnrs (arrival heard) ≡ 0)
-light-heard None (Passed s) c l = absurd c
-light-heard (Some slot) (Passed s) c l = (omega (arith, l.0, ap weight c.0, arrives-weight s), arrives-rnrs s ∙ (ap rnrs c.0 ∙ l.1))
-light-heard m p c l = (omega arith, refl)
+light-heard m p c l = grind (arith)
 
 pub light-arrival : (delay : Role → ℕ) (link : Link) (ts : List Turn) (ends : Accounts) (t : Turn) (role : Role) → NeverBusy link
     → RunOf link ts ends → Carries delay ts t
@@ -245,9 +241,7 @@ split (suc k) (t ∷ ts) = go (split k ts)
     go (Within x rest e f g) = Within x rest e f g
 
 crossed-polls : (m : Option Spoken) (heard : Heard) → Crosses m heard → one_if (of_arrived frame_poll (arrival heard)) ≤ poll_in m
-crossed-polls None (Passed s) c = absurd c
-crossed-polls (Some slot) (Passed s) c = omega (arith, ap one_if (arrives-flag frame_poll s ∙ ap (of_frame frame_poll) c.0))
-crossed-polls m p c = omega arith
+crossed-polls m p c = grind (arith)
 
 pub heard-sent : (delay : Role → ℕ) (d n : ℕ) (ts : List Turn) (role : Role) → delay (other role) ≡ d → 1 ≤ d → IsCarried delay ts
     → polls_heard n role ts ≤ polls_sent n (other role) (drop d ts)

@@ -1,8 +1,8 @@
 use Rattle.std.proofs.Common.{◌≡◌, ℕ, ◌+◌, ◌*◌, ◌<◌, ◌≤◌, ◌&&◌, ◌||◌, not, Bool, true, false, cond, nat_lt, [], length, length-append}
-use Rattle.std.proofs.Common.{arith, refl, sym, ◌∙◌, ap, subst, Some, None, Result, Ok, Err, List, ◌++◌, ◌∷◌}
+use Rattle.std.proofs.Common.{arith, refl, sym, ◌∙◌, ap, subst, Some, None, Result, Ok, List, ◌++◌, ◌∷◌}
 use Rattle.turn_bound.proofs.Truths.{neither-first, neither-second}
 use Rattle.link_account.proofs.Names.{Role, Originator, Answerer, Outgoing, wanted, Arrived, LinkFault, Account, is_connected}
-use Rattle.link_account.proofs.Names.{is_originator, Said, speak, Slot, other}
+use Rattle.link_account.proofs.Names.{is_originator, Said, speak, Slot}
 use Rattle.link_run.proofs.Names.{Phase, Connected, User, is_busy, is_closed, is_released, has_finished}
 use Rattle.turn_bound.proofs.Value.{Rates, is_waiting, is_free, lasts, one_if, is_breaking, AreRates, value, linked_lives, lives, IsOf}
 use Rattle.turn_bound.proofs.Value.{Linked, Stands, dues, arrived_rnrs, kept}
@@ -30,8 +30,7 @@ pub record EndTurn (z : Rates) (total : ℕ) (user : User) (turn : ℕ) (role : 
   pub more : is_connected b.phase ≡ true → 1 ≤ b.outgoing.window → b.outgoing.front < total → b.outgoing.front < length b.outgoing.pieces
 
 light-ok : (busy : Bool) (said : Said) (r : Result Said LinkFault) → r ≡ Ok said → LightSaid busy r → Light busy said
-light-ok busy said (Err fault) e h = cc
-light-ok busy said (Ok other) e h = let same : other ≡ said = cc in subst (Light busy) same h
+light-ok busy said b e h = grind (arith)
 
 -- where none is wanted the file has ended, or the window is full
 pub full-or-ended : (total : ℕ) (o : Outgoing) → wanted o ≡ None → 1 ≤ o.window → (o.ended ≡ true → length o.pieces ≡ total)
@@ -114,8 +113,7 @@ stall-small z link totals turn false s h big =
 
 -- an originator that isn't closed, and that doesn't live, is Connected
 dead-connected : (turn : ℕ) (p : Phase) (a : Account) → is_closed p ≡ false → lives turn Originator p a ≡ false → p ≡ Connected
-dead-connected turn Connected a c d = refl
-dead-connected turn p a c d = cc
+dead-connected turn p a c d = grind (arith)
 
 finished-at : {z : Rates} {total more : ℕ} {user : User} {turn : ℕ} {role : Role} {a mid : Account} (released : Bool) {release : Bool}
     {said : Said} → released ≡ false → Stays z turn user role a mid (served_account user turn released mid) release said

@@ -1,6 +1,6 @@
 use Rattle.std.proofs.Common.{◌≡◌, ℕ, ◌≤◌, ap, Bool, true, false, arith, refl, subst, Result, Ok, Err}
-use Rattle.link_account.proofs.Names.{BreakWord, BreakFault, Brk, Ack, word_in, LinkFault, Account, is_connected, trying, Said, frame_for}
-use Rattle.link_account.proofs.Names.{nr_of, ready_frame, speak}
+use Rattle.link_account.proofs.Names.{BreakWord, BreakFault, word_in, LinkFault, Account, is_connected, trying, Said, frame_for, nr_of}
+use Rattle.link_account.proofs.Names.{ready_frame, speak}
 use Rattle.link_run.proofs.Names.{Releasing, Answer}
 use Rattle.break_signals.specs.Words.{spelled}
 use Rattle.turn_bound.proofs.Value.{one_if, two_if, weight, frame_weight, word_weight, rnrs, frame_rnrs}
@@ -32,9 +32,7 @@ ready-light : (busy command pf : Bool) (nr : ℕ)
 ready-light b command pf nr = grind (arith)
 
 word-light : (r : Result BreakWord BreakFault) → word_weight r ≤ 2
-word-light (Ok (Brk number length_octet)) = omega arith
-word-light (Ok (Ack number length_octet)) = omega arith
-word-light (Err fault) = omega arith
+word-light b = grind (arith)
 
 steps-light : (turn : ℕ) (special : Bool) (a : Account) → Steps (Light a.owes.busy) turn special a
 steps-light turn special a = record {

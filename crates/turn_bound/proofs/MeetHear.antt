@@ -1,13 +1,12 @@
-use Rattle.std.proofs.Common.{arith, ◌≡◌, ℕ, ◌&&◌, ◌||◌, not, Bool, true, false, cond, refl, sym, ◌∙◌, ap, Option, Some, Ok, inl, inr}
+use Rattle.std.proofs.Common.{arith, ◌≡◌, ℕ, ◌&&◌, ◌||◌, not, Bool, true, false, cond, refl, sym, ◌∙◌, ap, Option, Ok, inl, inr}
 use Rattle.turn_bound.proofs.Truths.{or-first, or-true}
 use Rattle.link_account.proofs.Names.{Originator, Answerer, Frame, Rr, Rnr, Rej, Outgoing, is_outstanding, resumed, Arrived, Account}
 use Rattle.link_account.proofs.Names.{is_originator, hear, without_adp}
-use Rattle.link_run.proofs.Names.{Phase, Detecting, Negotiating, Establishing, Connected, Closed, Answer, is_closed, is_released}
+use Rattle.link_run.proofs.Names.{Phase, Detecting, Negotiating, Establishing, Connected, Answer, is_closed, is_released}
 use Rattle.link_account.specs.Hear.{ends_wait}
 use Rattle.link_account.proofs.HearWays.{Ways, by-ways, acked, acked_back, numbers-alike}
 pub use Rattle.link_run.proofs.Meeting.{is_ua as frame_ua, is_disc as frame_disc, carries as of_frame, brings as of_arrived}
 pub use Rattle.link_run.proofs.Meeting.{owes_ua as is_ua_due}
-use Rattle.link_account.specs.declared.answer.Answer.TheVariants as answers
 pub use Rattle.link_account.specs.Laws.{has_begun as is_begun}
 
 -- the answer to a poll
@@ -116,8 +115,7 @@ pub record AHeard (disc : Bool) (a b : Account) : Type 0 where
   pub numbered : a.numbered ≡ true → b.numbered ≡ true
 
 closed-released : (p : Phase) (c : Bool) → is_closed p ≡ true → is_released p || c ≡ true
-closed-released Closed c e = refl
-closed-released p c e = cc
+closed-released p c e = grind (arith)
 
 a-same : (disc : Bool) (a b : Account) → b.phase ≡ a.phase → (is_ua_due b.owes.answer ≡ true → is_ua_due a.owes.answer ≡ true)
     → b.owes.reply ≡ a.owes.reply → b.numbered ≡ a.numbered → AHeard disc a b
@@ -179,8 +177,7 @@ a-ways turn a er = record {
 }
   where
     less : (m : Option Answer) → is_ua_due (without_adp m) ≡ true → is_ua_due m ≡ true
-    less (Some (answers.Ua pf)) h = refl
-    less p h = cc
+    less p h = grind (arith)
 
     never : {A : Type 0} → a.setup.role ≡ Originator → A
     never r = let wrong : Answerer ≡ Originator = sym er ∙ r in cc

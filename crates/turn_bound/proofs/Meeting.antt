@@ -3,7 +3,7 @@ use Rattle.std.proofs.Common.{[], ◌∷◌, ◌++◌, length, subst}
 use Rattle.turn_bound.proofs.Truths.{not-true}
 use Rattle.link_account.proofs.Names.{Account, trying, Said, frame_for, ready_frame, nr_of, speak, AllByRecursion, Answerer, Frame, Sent}
 use Rattle.link_account.proofs.Names.{Slot, arrives}
-use Rattle.link_run.proofs.Names.{Phase, Releasing, Closed, Answer, is_closed, is_released, Connected}
+use Rattle.link_run.proofs.Names.{Phase, Releasing, Answer, is_closed, is_released, Connected}
 use Rattle.link_account.proofs.SpeakWays.{Steps, by-ways, steps-so, tries-alike, next-keeps, polling_at}
 use Rattle.link_run.proofs.Keeping.{stage}
 use Rattle.link_run.proofs.Saying.{Part, is-said}
@@ -87,9 +87,7 @@ replies turn release a said e = by-ways (Answered a) turn release a (record {
 }) said e
 
 stage-released : (p : Phase) → 2 ≤ stage p → is_released p ≡ true
-stage-released Releasing l = refl
-stage-released Closed l = refl
-stage-released p l = absurd (omega (arith, l))
+stage-released p l = grind (arith)
 
 pub speaks-so : (turn : ℕ) (release : Bool) (a : Account) (said : Said) → speak turn release a ≡ Ok said → SaysSo a said
 speaks-so turn release a said e =
@@ -160,19 +158,14 @@ pub record Meets (s : State) : Type 0 where
 -- an answerer that is told to release is closed
 pub released-closed : (z : Rates) (before turn : ℕ) (p : Phase) (a : Account) → Stands z before turn Answerer p a → is_released p ≡ true
     → is_closed p ≡ true
-released-closed z before turn Releasing a h e = absurd h
-released-closed z before turn Closed a h e = refl
-released-closed z before turn p a h e = cc
+released-closed z before turn p a h e = grind (arith)
 
 pub only-linked : (p : Phase) → is_begun p ≡ true → is_released p ≡ false → p ≡ Connected
-only-linked Connected e f = refl
-only-linked p e f = cc
+only-linked p e f = grind (arith)
 
 only-answ : (z : Rates) (before turn : ℕ) (p : Phase) (a : Account) → Stands z before turn Answerer p a → is_begun p ≡ true
     → is_closed p ≡ false → p ≡ Connected
-only-answ z before turn Connected a h e f = refl
-only-answ z before turn Releasing a h e f = absurd h
-only-answ z before turn p a h e f = cc
+only-answ z before turn p a h e f = grind (arith)
 
 or-either : (a b : Bool) (P : Type 0) → a || b ≡ true → (a ≡ true → P) → (b ≡ true → P) → P
 or-either true b P e f g = f refl

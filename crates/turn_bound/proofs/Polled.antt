@@ -69,8 +69,7 @@ steps-rated turn special a = record {
 }
   where
     set : (timer : Option ℕ) → timer_value (turn + 1) (running turn timer) ≤ timer_value (turn + 1) timer
-    set None = omega arith
-    set (Some s) = omega arith
+    set b = grind (arith)
 
 -- the timers come first: an expiry makes a poll due
 abbrev pub SaysRated : ℕ → Account → Said → Type 0
@@ -86,24 +85,17 @@ linked-rated z turn role a said y k e = by-linked (SaysRated turn a) turn a (rec
 }) said e
   where
     later : (timer : Option ℕ) → timer_value (turn + 1) timer ≤ timer_value turn timer + 1
-    later None = omega arith
-    later (Some set) = omega arith
+    later b = grind (arith)
 
 -- How many polls an end sends: in a turn, and in the last turns of a run where no user is busy.
 late-none : (turn : ℕ) (p : Phase) (a : Account) → is_released p ≡ true → poll_value turn p a ≡ 0
-late-none turn Releasing a e = refl
-late-none turn Closed a e = refl
-late-none turn p a e = cc
+late-none turn p a e = grind (arith)
 
 begun-most : (turn : ℕ) (p : Phase) (a : Account) → is_begun p ≡ true → poll_value turn p a ≤ poll_value turn Connected a
-begun-most turn Connected a e = omega arith
-begun-most turn Releasing a e = omega arith
-begun-most turn Closed a e = omega arith
-begun-most turn p a e = cc
+begun-most turn p a e = grind (arith)
 
 same-polls : (turn : ℕ) (p : Phase) (b m : Account) → b.wait ≡ m.wait → poll_value turn p b ≡ poll_value turn p m
-same-polls turn Connected b m w = omega (arith, ap (λ x. nineteen_if x.poll) w, ap (λ x. timer_value turn x.timer) w)
-same-polls turn p b m w = refl
+same-polls turn p b m w = grind (arith)
 
 try-phase : (turn : ℕ) (frame : Frame) (a : Account) (said : Said) → u_try turn frame a ≡ Ok said → said.account.phase ≡ a.phase
 try-phase turn frame a said e = subst (OnSaid (λ s. s.account.phase ≡ a.phase)) e

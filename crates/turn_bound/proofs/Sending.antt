@@ -52,8 +52,7 @@ waited-quiet z total turn o timer y s quiet = record {
 
     falling : (timer' : Option ℕ) → timer ≡ timer' → Ticks z (turn + 1) turn o.count timer' → is_some timer' ≡ is_waiting o
         → sender_value z total (turn + 1) o timer' + one_if (is_waiting o) ≤ sender_value z total turn o timer'
-    falling None e h c = rw (sym c) (omega arith)
-    falling (Some set) e h c = rw (sym c) (omega (arith, tries_fit z o.count y h.tried, h.within))
+    falling b e h c = grind (arith)
 
 -- and with one
 pub waited-expired : (z : Rates) (total turn : ℕ) (o : Outgoing) (set : ℕ) → AreRates z → Sends z (turn + 1) turn o (Some set)

@@ -3,7 +3,7 @@ use Rattle.std.proofs.Common.{Option, Some, None, Ok, ◌<◌, ◌&&◌, nat_le}
 use Rattle.link_account.proofs.Names.{nat_tests, Role, Originator, Answerer, Outgoing, next_number, BreakWord, OwnBreaks, ticked, Account}
 use Rattle.link_account.proofs.Names.{is_connected, is_originator, Said, may_send, speak_linked, Frame, Disc, trying, speak, speak_in}
 use Rattle.link_account.proofs.Names.{speak_releasing, is_some}
-use Rattle.link_run.proofs.Names.{Setup, Phase, Connected, is_closed, Detecting, Negotiating, Establishing, Releasing, Closed}
+use Rattle.link_run.proofs.Names.{Setup, Phase, Connected, is_closed, Detecting, Negotiating, Establishing, Releasing}
 use Rattle.lapm_sender.specs.Outgoing.{after_next}
 use Rattle.break_signals.specs.Breaks.{after_brk}
 use Rattle.link_account.specs.Speak.{timer_expires, breaking, running, says_segment}
@@ -307,10 +307,7 @@ module _ (z : Rates) (total breaks turn : ℕ) (release : Bool) (role : Role) (a
       rests : (r : Role) (p : Phase) → answers_alone p r ≡ true → Stands z (turn + 1) turn r p a
           → Stands z (turn + 1) (turn + 1) r p (record a { owes = o }) × (time_left z (turn + 1) r p (record a { owes = o }) ≡ 0)
           × (lasts z.room (lives turn r p a) (lives (turn + 1) r p (record a { owes = o })) ≡ 0)
-      rests r Closed e s = (tt, refl, refl)
-      rests Answerer Detecting e s = (s, refl, refl)
-      rests Answerer Negotiating e s = (s, refl, refl)
-      rests r p e s = cc
+      rests r p e s = grind (arith)
 
   linked : a.phase ≡ Connected → ConnectedWays (λ s. P s.account) turn a
   linked e = linked-so _ _ turn a (λ s x. now Connected e Connected s.account (spoken-linked z total breaks turn role a s e x))
@@ -385,9 +382,7 @@ module _ (z : Rates) (total breaks turn : ℕ) (release : Bool) (a : Account) (y
       wrong r = let other-role : Answerer ≡ Originator = sym er ∙ r in cc
 
       originates : (r : Role) (b : Bool) → (b && is_originator r) ≡ true → r ≡ Originator
-      originates Originator b x = refl
-      originates Answerer true x = cc
-      originates Answerer false x = cc
+      originates c b x = grind (arith)
 
 pub speaks-well : (z : Rates) (total breaks turn : ℕ) (role : Role) (p : Phase) (release : Bool) (a : Account) (said : Said) → AreRates z
     → IsOf z a.setup → Stands z (turn + 1) turn role p a → a.phase ≡ p → a.setup.role ≡ role → length a.outgoing.pieces ≤ total
@@ -402,8 +397,7 @@ speaks-well z total breaks turn role p release a said y k h e er all f =
     go Answerer er st = by-ways _ turn release a (a-ways z total breaks turn release a y k st er all) said f
 
 pub stopped : (m : Option ℕ) → is_some m ≡ false → m ≡ None
-stopped None e = refl
-stopped (Some set) e = cc
+stopped b e = grind (arith)
 
 released-says : (turn : ℕ) (a : Account) (said : Said) → speak_releasing turn (trying Releasing turn a) ≡ Ok said
     → is_connected said.account.phase ≡ false

@@ -107,11 +107,7 @@ module _ (z : Rates) (total turn : ℕ) (role : Role) (a : Account) (h : Linked 
   less : (m : Option Answer)
       → dues total (record a { owes = record a.owes { answer = without_adp m } }) ≤ dues total
       (record a { owes = record a.owes { answer = m } }) + 0
-  less None = omega arith
-  less (Some answers.Adp) = omega arith
-  less (Some answers.Xid) = omega arith
-  less (Some (answers.Ua pf)) = omega arith
-  less (Some (answers.Dm pf)) = omega arith
+  less b = grind (arith)
 
   still-ways : ConnectedWays P turn a
   still-ways = record {

@@ -13,7 +13,7 @@ use Rattle.link_run.proofs.Names.{Phase, Detecting, Negotiating, Establishing, C
 use Rattle.lapm_sender.specs.Numbers.{with_number}
 use Rattle.link_account.specs.Hear.{timer_after}
 use Rattle.turn_bound.proofs.Value.{Rates, Breaks, Linked, frame_weight, arrived_weight, arrived_rnrs}
-use Rattle.link_account.proofs.HearWays.{ConnectedWays, by-linked, numbered_with, Plain, IsUa, IsXid, IsTest, IsNoWord}
+use Rattle.link_account.proofs.HearWays.{ConnectedWays, by-linked, numbered_with, Plain}
 use Rattle.turn_bound.proofs.Sender.{acked-heard, Heard, meant-range, heard-advanced, heard-resumed, heard-selected}
 use Rattle.turn_bound.proofs.MeetHear.{of_arrived}
 use Rattle.turn_bound.proofs.Serving.{Served}
@@ -68,8 +68,7 @@ poll_value turn Closed a = 0
 poll_value turn p a = 38
 
 timer-most : (turn : ℕ) (timer : Option ℕ) → timer_value turn timer ≤ 19
-timer-most turn None = omega arith
-timer-most turn (Some set) = omega arith
+timer-most turn b = grind (arith)
 
 pub poll-most : (turn : ℕ) (p : Phase) (a : Account) → poll_value turn p a ≤ 38
 poll-most turn Detecting a = omega arith
@@ -265,10 +264,7 @@ module _ (z : Rates) (turn : ℕ) (role : Role) (a : Account) (h : Linked z turn
   plain frame p = subst (λ b. TakesSo turn b a a) (sym (kind p)) same
     where
       kind : Plain frame → frame_poll frame ≡ false
-      kind (IsUa pf q) = ap frame_poll q
-      kind (IsXid command pf info q) = ap frame_poll q
-      kind (IsTest command pf info q) = ap frame_poll q
-      kind (IsNoWord command pf info fault w q) = ap frame_poll q
+      kind b = grind (arith)
 
   -- an own frame is heard: of no weight above two, and no RNR
   ways : ConnectedWays (λ x b. arrived_weight x ≤ 2 → arrived_rnrs x ≡ 0 → TakesSo turn (of_arrived frame_poll x) a b) turn a

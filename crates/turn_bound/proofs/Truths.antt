@@ -1,7 +1,7 @@
 -- What follows of two truths, of one that contradicts itself, and of a phase that isn't linked.
 use Rattle.std.proofs.Common.{arith, ◌≡◌, ◌&&◌, ◌||◌, Bool, true, false, refl, sym, ◌∙◌}
 use Rattle.link_account.proofs.Names.{is_connected}
-use Rattle.link_run.proofs.Names.{Phase, Connected}
+use Rattle.link_run.proofs.Names.{Phase}
 use Rattle.link_account.specs.Laws.{has_begun as is_linked}
 
 pub clash : {A : Type 0} (b : Bool) → b ≡ true → b ≡ false → A
@@ -53,5 +53,4 @@ pub or-false : (b : Bool) → b || false ≡ b
 or-false b = grind (arith)
 
 pub unlinked-connected : (p : Phase) → is_linked p ≡ false → is_connected p ≡ false
-unlinked-connected Connected e = cc
-unlinked-connected p e = refl
+unlinked-connected p e = grind (arith)

@@ -3,7 +3,7 @@ use Rattle.link_account.proofs.Names.{Frame, I, Rr, Rnr, Rej, Sabme, Ui, BreakWo
 use Rattle.link_account.proofs.Names.{is_connected}
 use Rattle.std.specs.Prelude.{◌≡◌, ℕ, ◌+◌, ◌-◌, ◌*◌, ◌<◌, ◌≤◌, Bool, true, false, not, cond, ◌&&◌, ◌||◌, nat_lt, length, Option, Some, None}
 use Rattle.std.specs.Prelude.{Result, Ok, Err}
-use Rattle.std.proofs.Common.{List, [], ◌∷◌, arith, refl}
+use Rattle.std.proofs.Common.{List, [], ◌∷◌, arith}
 use Rattle.std.proofs.Math.Nat.{mul-le-mul_left, mul-le-mul_right}
 use Rattle.link_run.proofs.Names.{Setup, Phase, Detecting, Negotiating, Establishing, Connected, Releasing, Closed}
 use Rattle.link_account.specs.Laws.{has_begun}
@@ -140,14 +140,12 @@ pub cond-le : (b : Bool) (n : ℕ) → cond b n 0 ≤ n
 cond-le b n = grind (arith)
 
 pub stopped : (z : Rates) (before turn count : ℕ) (timer : Option ℕ) → Ticks z before turn count timer → timer ≡ None → count ≡ 0
-stopped z before turn count None h e = h
-stopped z before turn count (Some set) h e = cc
+stopped z before turn count b h e = grind (arith)
 
 -- a clock that runs counts one at least
 pub left-some : (z : Rates) (before turn count : ℕ) (timer : Option ℕ) → AreRates z → Ticks z before turn count timer → is_some timer ≡ true
     → 1 ≤ left z turn count timer
-left-some z before turn count None y h e = cc
-left-some z before turn count (Some set) y h e = omega (arith, tries_fit z count y h.tried, h.within)
+left-some z before turn count b y h e = grind (arith)
 
 -- later within a turn
 pub ticks-later : (z : Rates) (before turn count : ℕ) (timer : Option ℕ) → Ticks z before turn count timer
@@ -267,23 +265,16 @@ abbrev pub Stands : Rates → ℕ → ℕ → Role → Phase → Account → Typ
 Stands z before turn role p a = StandsIn p role z before turn a
 
 pub connected-is : (p : Phase) → is_connected p ≡ true → p ≡ Connected
-connected-is Connected e = refl
-connected-is p e = cc
+connected-is p e = grind (arith)
 
 -- by what phases are
 pub linked-of : (z : Rates) (before turn : ℕ) (role : Role) (p : Phase) (a : Account) → Stands z before turn role p a → is_connected p ≡ true
     → Linked z before turn role a
-linked-of z before turn role Connected a s e = s
-linked-of z before turn role p a s e = cc
+linked-of z before turn role p a s e = grind (arith)
 
 pub unlinked-of : (z : Rates) (before turn : ℕ) (role : Role) (p : Phase) (a : Account) → Stands z before turn role p a
     → has_begun p ≡ false → Unlinked a
-unlinked-of z before turn role Detecting a s e = s
-unlinked-of z before turn Originator Negotiating a s e = s.0
-unlinked-of z before turn Originator Establishing a s e = s.0
-unlinked-of z before turn Answerer Negotiating a s e = s
-unlinked-of z before turn Answerer Establishing a s e = absurd s
-unlinked-of z before turn role p a s e = cc
+unlinked-of z before turn role p a s e = grind (arith)
 
 -- what is due, where nothing lives: the least is 2 for what makes nothing due at the other end
 abbrev pub two_if : Bool → ℕ

@@ -1,7 +1,7 @@
 -- What an end sends at the answer to its poll is acknowledged, where no line is lost.
 use Rattle.std.proofs.Common.{◌⊎◌, inl, inr, ◌≡◌, ℕ, ◌+◌, ◌-◌, ◌%◌, ◌<◌, ◌≤◌, ◌&&◌, Bool, true, false, cond, nat_lt, nat_le, length, arith}
 use Rattle.std.proofs.Common.{refl, sym, ◌∙◌, ap, Option, Some, None}
-use Rattle.link_account.proofs.Names.{is_some, cases_lt, nat_tests, Frame, I, Rr, Rnr, Rej, meant, Sent, Arrived, is_connected, arrives}
+use Rattle.link_account.proofs.Names.{is_some, cases_lt, nat_tests, Frame, meant, Sent, Arrived, is_connected, arrives}
 use Rattle.turn_losses.proofs.PeriodLaws.{Answers, reply-matches, awaits-on, NoneLost, StayConnected, connected-since}
 use Rattle.turn_losses.proofs.NumberHear.{frame_nr, nr_heard, ns_heard, nr_sent, ns_sent, NumbersHeard, Room}
 use Rattle.turn_losses.proofs.NumberTurn.{NumberTurn}
@@ -72,15 +72,10 @@ told-to g k w delay turn loses f arrived h none =
     ∙ (ap (λ b. cond b arrivals.Nothing (arrives (f (turn + delay - delay)))) none ∙ ap (λ n. arrives (f n)) back)) ∙ w.same (f turn)
 
 is-some : (m : Option ℕ) → is_some m ≡ true → (n : ℕ) × (m ≡ Some n)
-is-some None e = cc
-is-some (Some n) e = (n, refl)
+is-some b e = grind (arith)
 
 final-nr : (frame : Frame) → is_final frame ≡ true → is_some (frame_nr frame) ≡ true
-final-nr (Rr c nr pf) e = refl
-final-nr (Rnr c nr pf) e = refl
-final-nr (Rej c nr pf) e = refl
-final-nr (I ns nr pf info) e = refl
-final-nr p e = cc
+final-nr p e = grind (arith)
 
 final-told : (x : Arrived) → of_arrived is_final x ≡ true → (n : ℕ) × (nr_heard x ≡ Some n)
 final-told arrivals.Nothing e = cc

@@ -158,14 +158,7 @@ steps-urgent turn n special a e1 e2 e3 e4 e5 = go a.owes.answer a.owes.reply a.w
     go : (m : Option Answer) (r p u : Bool) (s : Option ℕ) (x y rest : Said) → m ≡ None → r ≡ false → p ≡ false → u ≡ true → s ≡ Some n
         → Segment n a (else_says (answering m a)
         (else_says (where_says r x) (else_says (where_says p y) (else_says (cond u (says_segment turn s a) None) rest))))
-    go None false false true (Some k) x y rest f1 f2 f3 f4 f5 = let same : k ≡ n = cc in
-        subst (λ v. Segment v a (else_says (says_segment turn (Some k) a) rest)) same
-        (record { sent = refl; number = refl; outgoing = refl })
-    go (Some answer) r p u s x y rest f1 f2 f3 f4 f5 = cc
-    go None true p u s x y rest f1 f2 f3 f4 f5 = cc
-    go None false true u s x y rest f1 f2 f3 f4 f5 = cc
-    go None false false false s x y rest f1 f2 f3 f4 f5 = cc
-    go None false false true None x y rest f1 f2 f3 f4 f5 = cc
+    go b r p u s x y rest f1 f2 f3 f4 f5 = grind (arith)
 
 pub urgent-says : (turn n : ℕ) (a : Account) (said : Said) → speak_linked turn a ≡ Ok said → timer_expires turn a a.wait.timer ≡ false
     → a.owes.answer ≡ None → a.owes.reply ≡ false → a.wait.poll ≡ false → a.wait.urgent ≡ true

@@ -1,7 +1,7 @@
 -- What hearing makes of an end's breaks, of what it owes for the other end's, and of its urgent segment.
 use Rattle.std.proofs.Common.{arith, ◌⊎◌, inl, ◌≡◌, ℕ, ◌+◌, ◌%◌, ◌&&◌, List, Bool, true, false, cond, nat_eq, refl, sym, ◌∙◌, ap, Ok}
-use Rattle.link_account.proofs.Names.{Ui, Arrived, BreakWord, Ack, word_in, OwnBreaks, waits, Account, is_connected, hear, Role, Originator}
-use Rattle.link_account.proofs.Names.{Answerer, on_nothing, owing}
+use Rattle.link_account.proofs.Names.{Ui, Arrived, BreakWord, Ack, word_in, OwnBreaks, waits, Account, is_connected, hear, Role, on_nothing}
+use Rattle.link_account.proofs.Names.{owing}
 use Rattle.link_run.proofs.Names.{Connected}
 use Rattle.link_account.proofs.HearWays.{by-linked}
 use Rattle.turn_losses.proofs.HeardNumber.{number-rows, plain-frame}
@@ -104,8 +104,7 @@ unlinked-old arrived a b o t s u n = record {
 }
 
 first-urgent : (r : Role) (turn : ℕ) (a : Account) → (first_wait r turn a.wait).urgent ≡ a.wait.urgent
-first-urgent Originator turn a = refl
-first-urgent Answerer turn a = refl
+first-urgent b turn a = grind (arith)
 
 pub old-heard : (arrived : Arrived) (turn : ℕ) (a mid : Account) → is_linked a.phase ≡ false → hear turn arrived a ≡ Ok mid
     → SameOld arrived a mid

@@ -1,8 +1,8 @@
 -- Where the originator sees no pattern, something was lost in each period.
 use Rattle.std.proofs.Common.{◌⊎◌, inl, inr, ◌≡◌, ℕ, zero, suc, ◌+◌, ◌-◌, ◌*◌, ◌<◌, ◌≤◌, Bool, true, false, cond, nat_le, length, arith}
-use Rattle.std.proofs.Common.{refl, sym, ◌∙◌, ap, Option, Some, None, Result, Ok, Err, List, [], ◌∷◌}
+use Rattle.std.proofs.Common.{refl, sym, ◌∙◌, ap, Option, Some, Result, Ok, Err, List, [], ◌∷◌}
 use Rattle.link_account.proofs.Names.{cases_lt, Originator, Answerer, Arrived, LinkFault, NotDetected, Account, hear, trying, arrives, Said}
-use Rattle.link_account.proofs.Names.{says, spent, speak, speak_in, Role, Heard, Passed}
+use Rattle.link_account.proofs.Names.{says, speak, speak_in, Role, Heard, Passed}
 use Rattle.link_run.proofs.Names.{Phase, Detecting, Negotiating, Connected, Releasing, Answer, User, is_busy, is_released, Accounts}
 use Rattle.link_run.proofs.Names.{arrival, served_at, releases, Link, Turn, RunOf, IsCarried}
 use Rattle.link_account.specs.Hear.{on_seen, on_pattern}
@@ -12,7 +12,7 @@ use Rattle.link_run.proofs.Speaking.{speaks-phase}
 use Rattle.turn_losses.proofs.Periods.{once, times, loses-of}
 use Rattle.turn_losses.specs.Losses.{OriginatorWantsPattern, UndetectedIsStarved, PassesNoPattern, UndetectedOnTime}
 use Rattle.link_account.proofs.HearWays.{numbers-alike}
-use Rattle.link_account.proofs.SpeakWays.{why-broken, Undetected, Spends}
+use Rattle.link_account.proofs.SpeakWays.{why-broken}
 use Rattle.turn_losses.proofs.Tracing.{timed-run, end-turn, last-turn}
 use Rattle.turn_losses.proofs.PeriodLaws.{two-ends, NoneLost}
 use Rattle.turn_losses.proofs.Expiries.{LostIn, lost-or-none}
@@ -117,9 +117,7 @@ answers-odp user turn arrived a mid released release said e r r' only hears spea
       where
         by : (x : Option Answer) → says-ok (else_says (answering x b) (says slots.Mark b)) ≡ says-ok said
             → (else_says (answering x b) (says slots.Mark b) ≡ said) × (said.account.phase ≡ Detecting)
-        by None f = let same : says slots.Mark b ≡ said = cc in (same, ap (λ y. y.account.phase) (sym same) ∙ d)
-        by (Some answer) f = let same : else_says (answering (Some answer) b) (says slots.Mark b) ≡ said = cc in
-            (same, ap (λ y. y.account.phase) (sym same) ∙ d)
+        by b f = grind (arith)
 
     nothing : arrived ≡ arrivals.Nothing → mid.phase ≡ Detecting
     nothing q = let same : hear turn arrivals.Nothing a ≡ Ok mid = ap (λ x. hear turn x a) (sym q) ∙ hears in by same
@@ -128,8 +126,7 @@ answers-odp user turn arrived a mid released release said e r r' only hears spea
         by f = ok-phase (hear turn arrivals.Nothing a) f e
           where
             ok-phase : (x : Result Account LinkFault) → x ≡ Ok mid → PhaseOf x Detecting → mid.phase ≡ Detecting
-            ok-phase (Err fault) g k = cc
-            ok-phase (Ok y) g k = let same : y ≡ mid = cc in ap (λ z. z.phase) (sym same) ∙ k
+            ok-phase b g k = grind (arith)
 
     odp : arrived ≡ arrivals.Pattern seens.Odp → (mid.phase ≡ Detecting) × (mid.owes.answer ≡ Some answers.Adp)
     odp q =
@@ -157,8 +154,7 @@ pub err-detecting : (turn : ℕ) (release : Bool) (b : Account) → speak turn r
 err-detecting turn release b h = go NotDetected refl (why-broken turn release b NotDetected h)
   where
     go : (fault : LinkFault) → fault ≡ NotDetected → SpeakWays.Breaks turn release b fault → b.phase ≡ Detecting
-    go fault n (Undetected p r l e) = p
-    go fault n (Spends x e) = let wrong : NotDetected ≡ spent turn b = sym n ∙ e in cc
+    go fault n b = grind (arith)
 
 pub wants-pattern : SpendsOnTime → OriginatorWantsPattern
 wants-pattern spends tries period delay link ts before t mid kt run c broken number less =

@@ -2,7 +2,7 @@
 use Rattle.std.proofs.Common.{inl, inr, ◌≡◌, ◌≢◌, ℕ, zero, suc, ◌+◌, ◌-◌, ◌*◌, ◌<◌, ◌≤◌, ◌&&◌, ◌||◌, Bool, true, false, max, nat_lt, nat_le}
 use Rattle.std.proofs.Common.{List, [], ◌∷◌, length, arith, refl, ◌∙◌, ap, subst, Some}
 use Rattle.turn_bound.proofs.Truths.{or-late, and-true, and-two}
-use Rattle.link_account.proofs.Names.{slice_get, cases_lt, nat_tests, Originator, Answerer, Heard, Lost}
+use Rattle.link_account.proofs.Names.{slice_get, cases_lt, nat_tests, Originator, Answerer, Heard}
 use Rattle.link_run.proofs.Names.{Turn, LosesSome}
 use Rattle.link_run.specs.Counts.{lost_in, lost_slots}
 use Rattle.link_run.specs.Starved.{SpanLoses, IsLost, turn_at}
@@ -115,8 +115,7 @@ spans-near period delay last turn m k short less em ek = elim (cases_lt (m + 1) 
         omega (arith, sum, next, behind, before, short)
 
 lost-one : (h : Heard) → is_lost h ≡ true → lost_in h ≡ 1
-lost-one (Lost s) e = refl
-lost-one p e = cc
+lost-one p e = grind (arith)
 
 -- the spans that losses cover
 covers-few : (period delay last n : ℕ) → delay < period → (ts : List Turn) → count_of n (covers period delay last ts) ≤ 2 * lost_slots ts
@@ -147,8 +146,7 @@ covers-few period delay last n short (t ∷ ts) =
         let a = all in omega (arith, none, a, r)
 
 is-loss : (h : Heard) → IsLost h → is_lost h ≡ true
-is-loss (Lost s) e = refl
-is-loss p e = absurd e
+is-loss p e = grind (arith)
 
 loses-turn : (t : Turn) → LosesSome (Some t) → loses t ≡ true
 loses-turn t (Originator, h) = ap (λ b. b || is_lost t.answ.heard) (is-loss t.orig.heard h)

@@ -3,7 +3,7 @@ use Rattle.std.proofs.Common.{◌⊎◌, inl, inr, ◌≡◌, ℕ, Bool, true, f
 use Rattle.std.proofs.Common.{◌<◌, ◌≤◌, subst}
 use Rattle.link_account.proofs.Names.{is_some, Sabme, Disc, Arrived, Account, is_connected, hear, on_nothing, without_adp, owing, trying}
 use Rattle.link_account.proofs.Names.{after_answer, Answerer, MayPlay, Originator, ReadsWritten, cases_lt, Role, of}
-use Rattle.link_run.proofs.Names.{Negotiating, Closed, Accounts, Detecting, Establishing, Phase, Releasing, is_released}
+use Rattle.link_run.proofs.Names.{Negotiating, Closed, Accounts, Detecting, Establishing, Phase, is_released}
 use Rattle.link_account.specs.Hear.{connected}
 use Rattle.break_signals.specs.Breaks.{after_break}
 use Rattle.link_account.proofs.HearWays.{by-ways, numbers-alike}
@@ -104,13 +104,10 @@ heard-ua arrived turn a mid e h = by-ways (λ x b. is_linked b.phase ≡ true �
     never c = clash (is_linked a.phase) c (ap is_linked e)
 
 pub only-establishing : (p : Phase) → is_established p ≡ true → is_linked p ≡ false → p ≡ Establishing
-only-establishing Establishing e l = refl
-only-establishing p e l = cc
+only-establishing p e l = grind (arith)
 
 released-linked : (p : Phase) → is_released p ≡ true → is_linked p ≡ true
-released-linked Releasing e = refl
-released-linked Closed e = refl
-released-linked p e = cc
+released-linked p e = grind (arith)
 
 -- the frame of a try is due no more once it spoke
 try-false : (w : TimedRun) → (u : ℕ) → u ≤ length w.ts → (w.state u).orig.phase ≡ Establishing → (w.state u).orig.wait.try ≡ false

@@ -1,9 +1,8 @@
-use Rattle.std.proofs.Common.{◌≡◌, ℕ, ◌+◌, ◌-◌, ◌<◌, ◌&&◌, Bool, true, ◌∷◌, length, arith, refl, sym, ◌∙◌, ap, Option, Some, None}
+use Rattle.std.proofs.Common.{◌≡◌, ℕ, ◌+◌, ◌-◌, ◌<◌, ◌&&◌, Bool, true, ◌∷◌, length, arith, refl, sym, ◌∙◌, ap, Option, Some}
 use Rattle.turn_losses.proofs.Names.{TwoEnds, of_frame, of_arrived, is_poll, is_final, Deed, past, sent_or, sends_poll, hears_poll}
 use Rattle.turn_losses.proofs.Names.{sends_final, hears_final, TimedRun, end_of}
 use Rattle.turn_losses.proofs.PeriodLaws.{polls-apart, still-awaited, reply-matches, two-ends, Answers, StillAwaited, looked}
-use Rattle.link_account.proofs.Names.{slice_get, Role, Originator, Answerer, other, of, Frame, Sent, Heard, Nothing, Passed, Lost, Chance}
-use Rattle.link_account.proofs.Names.{is_connected}
+use Rattle.link_account.proofs.Names.{slice_get, Role, Originator, Answerer, other, of, Frame, Sent, Heard, is_connected}
 use Rattle.link_run.proofs.Names.{Accounts, Spoken, Turn, arrival, sent_in, sent_ago}
 use Rattle.link_run.specs.Overheard.{passes_in}
 use Rattle.link_run.specs.Starved.{turn_at}
@@ -20,18 +19,10 @@ same-kind is slots.Adp = refl
 same-kind is (slots.Frame frame) = refl
 
 sends-kind : (is : Frame → Bool) (m : Option Spoken) (s : Spoken) → m ≡ Some s → sends_of is m ≡ of_frame is (sent_or m)
-sends-kind is None s e = cc
-sends-kind is (Some slot) s e = same-kind is slot.sent
+sends-kind is b s e = grind (arith)
 
 passes-kind : (is : Frame → Bool) (h : Heard) → passes_in is h ≡ of_arrived is (arrival h)
-passes-kind is Nothing = refl
-passes-kind is (Lost s) = refl
-passes-kind is Chance = refl
-passes-kind is (Passed slots.Mark) = refl
-passes-kind is (Passed slots.Flags) = refl
-passes-kind is (Passed slots.Odp) = refl
-passes-kind is (Passed slots.Adp) = refl
-passes-kind is (Passed (slots.Frame frame)) = refl
+passes-kind is b = grind (arith)
 
 -- the turn of that number
 pub turn-is : (w : TimedRun) → (t : ℕ) → t < length w.ts → turn_at t w.ts ≡ Some (w.deed t).turn
@@ -134,8 +125,7 @@ answers-match tries period delay link ts before t after k run g c role cb h =
             ∙ (sends-kind is_poll (of role (w.deed a.sent).turn).sent _ s.sent_is ∙ a.is_sent)
           where
             both-delays : (x : Role) → delay x + delay (other x) ≡ delay Originator + delay Answerer
-            both-delays Originator = refl
-            both-delays Answerer = omega arith
+            both-delays b = grind (arith)
 
             past-now : past (t ∷ ts) n ≡ ts
             past-now = past-before t ts

@@ -129,9 +129,7 @@ try-heard arrived turn a mid r h = by-ways (λ x b. TryHeard turn x a b) turn a 
         closed same = let wrong : Closed ≡ Releasing = ap (λ b. b.phase) same ∙ g in cc
 
         go : (y : Frame) → on_releasing y a ≡ Ok a → moves_on Releasing y ≡ false
-        go (Ua true) q = closed cc
-        go (Dm true) q = closed cc
-        go p q = refl
+        go p q = grind (arith)
     unmoved Detecting (arrivals.Frame frame) t g f = cc
     unmoved Connected (arrivals.Frame frame) t g f = cc
     unmoved Closed (arrivals.Frame frame) t g f = cc
@@ -180,10 +178,7 @@ try-says turn release b said r long offers h = SpeakWays.by-ways (TrySaid turn b
 }) said h
   where
     alone-untried : (p : Phase) (role : Role) → role ≡ Originator → answers_alone p role ≡ true → is_trying p ≡ false
-    alone-untried Detecting role e f = refl
-    alone-untried Connected role e f = refl
-    alone-untried Closed role e f = refl
-    alone-untried p q e f = cc
+    alone-untried p role e f = grind (arith)
 
     untried : (q : Phase) → b.phase ≡ q → is_trying q ≡ false → {A : Type 0} (p : Phase) → is_trying p ≡ true → b.phase ≡ p → A
     untried q e n p t f = let wrong : true ≡ false = sym t ∙ (ap is_trying (sym f ∙ e) ∙ n) in cc
@@ -231,8 +226,7 @@ DueOf p (Err fault) = Unit {0}
 DueOf p (Ok b) = AnswerDue p b
 
 some-offer : (m : Option Offer) (a : Account) → is_some m ≡ true → AnswerDue Negotiating (on_xid_command m a)
-some-offer None a e = cc
-some-offer (Some offer) a e = (refl, refl)
+some-offer b a e = grind (arith)
 
 frame-answers : (p q : Phase) (frame : Frame) (turn : ℕ) (a : Account) → a.phase ≡ q → a.setup.role ≡ Answerer
     → can_answer p q a.numbered ≡ true → asks p frame ≡ true → DueOf p (on_frame q frame turn a)

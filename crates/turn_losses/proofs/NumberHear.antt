@@ -4,10 +4,10 @@ use Rattle.std.proofs.Common.{arith, refl, sym, ◌∙◌, ap, subst, Option, So
 use Rattle.turn_losses.proofs.Names.{Rates, Sends, served_account, is_linked}
 use Rattle.turn_bound.proofs.Sender.{Heard, ended, heard-advanced, heard-resumed, acked-heard, meant-range}
 use Rattle.link_account.proofs.Names.{nat_tests, Frame, I, Rr, Rnr, Rej, meant, Outgoing, is_outstanding, resumed, Incoming, after_take}
-use Rattle.link_account.proofs.Names.{after_kind, kind_of, offset, Took, InOrder, Kept, Gap, Sent, Arrived, Account, is_connected, hear}
-use Rattle.link_account.proofs.Names.{Role, Originator, Answerer, Offer, Terms, IsAllowed, agree, with_piece, wants, piece_size, on_nothing}
+use Rattle.link_account.proofs.Names.{after_kind, kind_of, offset, Took, InOrder, Sent, Arrived, Account, is_connected, hear, Role, Offer}
+use Rattle.link_account.proofs.Names.{Terms, IsAllowed, agree, with_piece, wants, piece_size, on_nothing}
 use Rattle.lapm_receiver.specs.Incoming.{kind_at}
-use Rattle.link_account.proofs.HearWays.{by-linked, acked, acked_back, Plain, IsUa, IsXid, IsTest, IsNoWord, by-early}
+use Rattle.link_account.proofs.HearWays.{by-linked, acked, acked_back, Plain, by-early}
 use Rattle.turn_bound.proofs.Value.{connected-is}
 use Rattle.lapm_frames.specs.declared.sent.Sent.TheVariants as slots
 use Rattle.lapm_frames.specs.declared.arrived.Arrived.TheVariants as arrivals
@@ -69,9 +69,7 @@ kind-low InOrder o ns info i = omega (arith, length-append {A = List ℕ})
 kind-low p o ns info i = omega arith
 
 kind-owed : (k : Took) (o ns : ℕ) (info : List ℕ) (i : Incoming) → i.owed ≡ true → (after_kind k o info i).owed ≡ true
-kind-owed Kept o ns info i e = e
-kind-owed Gap o ns info i e = e
-kind-owed p o ns info i e = refl
+kind-owed p o ns info i e = grind (arith)
 
 in-order : (o ns : ℕ) (info : List ℕ) (i : Incoming) → length i.taken < length (after_kind InOrder o info i).taken
 in-order o ns info i = omega (arith, length-append {A = List ℕ})
@@ -150,10 +148,7 @@ heard-number frame nr n a b e m w taken numbered special =
     }
 
 plain-none : (frame : Frame) → Plain frame → (frame_nr frame ≡ None) × (frame_ns frame ≡ None)
-plain-none frame (IsUa pf e) = (ap frame_nr e, ap frame_ns e)
-plain-none frame (IsXid command pf info e) = (ap frame_nr e, ap frame_ns e)
-plain-none frame (IsTest command pf info e) = (ap frame_nr e, ap frame_ns e)
-plain-none frame (IsNoWord command pf info fault w e) = (ap frame_nr e, ap frame_ns e)
+plain-none frame b = grind (arith)
 
 pub numbers-heard : (z : Rates) (arrived : Arrived) (turn : ℕ) (a mid : Account) → is_connected a.phase ≡ true
     → Sends z turn turn a.outgoing a.wait.timer → hear turn arrived a ≡ Ok mid → NumbersHeard arrived a mid
@@ -213,8 +208,7 @@ fits-second o a h = (
 )
 
 fits-for : (role : Role) (terms : Terms) → Fits terms → window_for role terms ≤ 127
-fits-for Originator terms h = h.0
-fits-for Answerer terms h = h.1
+fits-for b terms h = grind (arith)
 
 -- becoming Connected
 pub record BeginsWith (b : Account) : Type 0 where

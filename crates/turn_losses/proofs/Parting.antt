@@ -7,10 +7,9 @@ use Rattle.turn_bound.proofs.Speaking.{stopped}
 use Rattle.link_account.proofs.Names.{cases_lt, nat_tests, Role, Originator, Answerer, is_originator, Outgoing, ReadsWritten, waits}
 use Rattle.link_account.proofs.Names.{Arrived, LinkFault, Spent, Account, is_connected, hear, trying, MayPlay, Said, speak, speak_in}
 use Rattle.link_account.proofs.Names.{speak_linked, speak_releasing, other}
-use Rattle.link_run.proofs.Names.{Phase, Detecting, Negotiating, Establishing, Connected, Releasing, Closed, is_released, is_closed}
-use Rattle.link_run.proofs.Names.{next_break, Link, Accounts, Turn, Hears, arrival, served_at, releases, Carries}
+use Rattle.link_run.proofs.Names.{Phase, Detecting, Connected, Releasing, Closed, is_released, is_closed, next_break, Link, Accounts, Turn}
+use Rattle.link_run.proofs.Names.{Hears, arrival, served_at, releases, Carries}
 use Rattle.lapm_sender.specs.Outgoing.{is_whole}
-use Rattle.link_account.specs.Speak.{speak_detecting, speak_negotiating}
 use Rattle.link_run.specs.End.{is_ready}
 use Rattle.link_run.specs.Run.{BrokenTurn, finished_at, served_ends}
 use Rattle.link_run.specs.Starved.{SpanLoses, IsStarved}
@@ -166,9 +165,7 @@ whole-is : (o : Outgoing) → is_whole o ≡ true → o.front ≡ length o.piece
 whole-is o e = let x = (and-two o.ended (nat_eq o.front (length o.pieces)) e).1 in grind (arith, nat_tests, x)
 
 pub connected-or : (p : Phase) → is_linked p ≡ true → is_connected p ≡ false → (p ≡ Releasing) ⊎ (p ≡ Closed)
-connected-or Releasing l c = inl refl
-connected-or Closed l c = inr refl
-connected-or p l c = cc
+connected-or p l c = grind (arith)
 
 -- when it was told
 pub told-at : ReadsWritten → (w : TimedRun) → MayPlay w.link.orig.setup w.link.answ.setup → (u : ℕ) → u ≤ length w.ts
@@ -416,13 +413,7 @@ pub answerer-connected : (z : Rates) (before turn : ℕ) (b : Account) (q : Phas
 answerer-connected z before turn b q fault st e r h = go q e st (ap (λ x. speak_in x turn false b) (sym e) ∙ h)
   where
     go : (x : Phase) → b.phase ≡ x → Stands z before turn Answerer x b → speak_in x turn false b ≡ Err fault → is_connected b.phase ≡ true
-    go Detecting f s q = let there : speak_detecting Answerer turn b ≡ Err fault = ap (λ y. speak_detecting y turn b) (sym r) ∙ q in cc
-    go Negotiating f s q = let there : speak_negotiating Answerer turn b ≡ Err fault = ap (λ y. speak_negotiating y turn b) (sym r)
-        ∙ q in cc
-    go Establishing f s q = absurd s
-    go Connected f s q = ap is_connected f
-    go Releasing f s q = absurd s
-    go Closed f s q = cc
+    go b f s q = grind (arith)
 
 pub answerer-gives-up : (w : TimedRun) (t : Turn) (mid : Accounts) (fault : LinkFault) → BrokenTurn w.link w.ts w.ends t mid Answerer fault
     → is_connected mid.answ.phase ≡ true

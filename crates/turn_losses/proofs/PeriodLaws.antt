@@ -128,8 +128,7 @@ two-ends w role = record {
     none r = ap poll_due (starts-fresh w r)
 
     sum : (r : Role) → w.period ≡ 2 * (w.delay r + w.delay (other r)) + 16
-    sum Originator = w.keeps.period_is
-    sum Answerer = let p = w.keeps.period_is in omega (arith, p)
+    sum b = grind (arith)
 
 -- the same seen from the other end
 pub turned : {period turns : ℕ} {e o : EndRun} → TwoEnds period turns e o → TwoEnds period turns o e

@@ -27,8 +27,7 @@ pub record PollHeard (role : Role) (turn : ℕ) (polled : Bool) (a b : Account) 
   pub awaits : role ≡ Originator → is_linked a.phase ≡ false → is_connected b.phase ≡ true → b.outgoing.awaited ≡ true
 
 pub linked-connected : (p : Phase) → is_connected p ≡ true → is_linked p ≡ true
-linked-connected Connected e = refl
-linked-connected p e = cc
+linked-connected p e = grind (arith)
 
 -- before it is Connected, and after
 unlinked-heard : (role : Role) (turn : ℕ) (polled : Bool) (a b : Account) → is_linked a.phase ≡ false → is_connected b.phase ≡ false

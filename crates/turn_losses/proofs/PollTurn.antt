@@ -3,7 +3,7 @@ use Rattle.std.proofs.Common.{Ok, ◌≤◌, cond}
 use Rattle.turn_bound.proofs.Truths.{or-late, and-two, unlinked-connected, and-second, and-true, clash, and-drop}
 use Rattle.link_account.proofs.Names.{Frame, OwnBreaks, Account, is_connected, trying, Said, frame_for, nr_of, ready_frame, speak, Role}
 use Rattle.link_account.proofs.Names.{Originator, Answerer}
-use Rattle.link_run.proofs.Names.{Connected, Releasing, Answer, Phase, Closed, is_closed, is_released}
+use Rattle.link_run.proofs.Names.{Connected, Releasing, Answer, Phase, is_closed, is_released}
 use Rattle.link_account.specs.Speak.{running}
 use Rattle.link_account.proofs.SpeakWays.{linked-so, Before, Steps, steps-so, polling_at, ConnectedWays, Tries, Ways, by-ways}
 use Rattle.link_account.proofs.SpeakWays.{answers-unconnected, next-keeps}
@@ -38,8 +38,7 @@ set-running turn None s k = let same : turn ≡ s = cc in inl (sym same)
 set-running turn (Some t) s k = inr k
 
 running-runs : (turn : ℕ) (m : Option ℕ) (s : ℕ) → m ≡ Some s → running turn m ≡ Some s
-running-runs turn None s h = cc
-running-runs turn (Some t) s h = h
+running-runs turn b s h = grind (arith)
 
 -- a frame that is no poll and no answer to one, behind both
 quiet : (turn : ℕ) (a : Account) (said : Said) → Before a → said.account.phase ≡ a.phase → said.account.numbered ≡ a.numbered
@@ -242,17 +241,13 @@ pub poll-speaks : (turn : ℕ) (release : Bool) (a : Account) (said : Said) → 
 poll-speaks turn release a said e = by-ways (SpeakPoll turn a) turn release a (poll-ways turn release a) said e
 
 unlinked-released : (p : Phase) → is_linked p ≡ false → is_released p ≡ false
-unlinked-released Releasing e = cc
-unlinked-released Closed e = cc
-unlinked-released p e = refl
+unlinked-released p e = grind (arith)
 
 connected-released : (p : Phase) → is_connected p ≡ true → is_released p ≡ false
-connected-released Connected e = refl
-connected-released p e = cc
+connected-released p e = grind (arith)
 
 connected-closed : (p : Phase) → is_connected p ≡ true → is_closed p ≡ false
-connected-closed Connected e = refl
-connected-closed p e = cc
+connected-closed p e = grind (arith)
 
 either-bool : (b : Bool) → (b ≡ true) ⊎ (b ≡ false)
 either-bool b = grind (arith)

@@ -3,8 +3,8 @@ use Rattle.std.proofs.Common.{◌⊎◌, inl, inr, ◌≡◌, ℕ, ◌+◌, ◌<
 use Rattle.std.proofs.Common.{max, List, ◌∷◌, subst, cond, nat_lt}
 use Rattle.link_account.proofs.Names.{Originator, Answerer, ReadsWritten, waits, Arrived, Account, is_connected, MayPlay, hear, cases_lt}
 use Rattle.link_account.proofs.Names.{Role, of, other, nat_tests, LinkFault}
-use Rattle.link_run.proofs.Names.{Phase, Releasing, Closed, User, is_released, is_closed, served_at, Detecting, Establishing, Connected}
-use Rattle.link_run.proofs.Names.{Accounts, Turn, Hears, arrival, Carries, LosesSome}
+use Rattle.link_run.proofs.Names.{Phase, Releasing, Closed, User, is_released, is_closed, served_at, Detecting, Establishing, Accounts}
+use Rattle.link_run.proofs.Names.{Turn, Hears, arrival, Carries, LosesSome}
 use Rattle.turn_bound.proofs.MeetHear.{o-hears}
 use Rattle.turn_bound.proofs.Serving.{serves-own}
 use Rattle.turn_bound.proofs.Truths.{clash, is-true, not-true}
@@ -76,8 +76,7 @@ unclosed arrived turn a mid r h n e = go mid.phase refl
     ((o-hears arrived turn a mid r h).released (ap is_released e)) n
   where
     go : (p : Phase) → mid.phase ≡ p → is_released p ≡ true → is_closed p ≡ false → p ≡ Releasing
-    go Releasing q x y = refl
-    go p q x y = cc
+    go p q x y = grind (arith)
 
 pub not-closed : (arrived : Arrived) (turn : ℕ) (a mid : Account) → a.setup.role ≡ Originator → hear turn arrived a ≡ Ok mid
     → is_closed mid.phase ≡ false → a.phase ≡ Closed → ⊥
@@ -115,8 +114,7 @@ max-second : (a b : ℕ) → b ≤ max a b
 max-second a b = grind (arith)
 
 connected-begun : (p : Phase) → is_connected p ≡ true → is_begun p ≡ true
-connected-begun Connected e = refl
-connected-begun p e = cc
+connected-begun p e = grind (arith)
 
 -- a span of the run with its last turn loses something
 abbrev Loses : TimedRun → Turn → ℕ → Type 0
@@ -377,8 +375,7 @@ pub record Base : Type 0 where
   pub quiet : GivesUpForLosses
 
 only-releasing : (q : Phase) → is_released q ≡ true → is_closed q ≡ false → q ≡ Releasing
-only-releasing Releasing g h = refl
-only-releasing p g h = cc
+only-releasing p g h = grind (arith)
 
 waiting-is : (c w : Bool) → cond c w false ≡ true → (c ≡ true) × (w ≡ true)
 waiting-is b w e = grind (arith)

@@ -2,8 +2,8 @@ use Rattle.std.proofs.Common.{◌⊎◌, inl, inr, ◌≡◌, ℕ, suc, ◌+◌,
 use Rattle.std.proofs.Common.{refl, sym, ◌∙◌, ap, subst, None, Ok}
 use Rattle.turn_bound.proofs.Value.{linked-of, unlinked-of}
 use Rattle.link_account.proofs.Names.{nat_tests, Role, Originator, Answerer, Arrived, Account, is_connected, Said, speak, cases_lt, of}
-use Rattle.link_run.proofs.Names.{Phase, Connected, is_busy, is_closed, is_released, Link, Accounts, Turn, RunOf, GoingTurn, start, arrival}
-use Rattle.link_run.proofs.Names.{served_at, said_at, releases, Carries, IsCarried, Hears}
+use Rattle.link_run.proofs.Names.{Phase, is_busy, is_closed, is_released, Link, Accounts, Turn, RunOf, GoingTurn, start, arrival, served_at}
+use Rattle.link_run.proofs.Names.{said_at, releases, Carries, IsCarried, Hears}
 use Rattle.turn_bound.proofs.AtMostOne.{OneDue, one-hears}
 use Rattle.turn_losses.proofs.PollHear.{PollHeard}
 use Rattle.turn_losses.proofs.PollTurn.{poll-speaks, poll-turn}
@@ -38,8 +38,7 @@ served-heard role turn breaks busy polled a b c s h = record {
 
 pub silent-of : (z : Rates) (before turn : ℕ) (r : Role) (p : Phase) (a : Account) → Stands z before turn r p a → r ≡ Answerer
     → is_connected p ≡ true → a.numbered ≡ false → a.wait.timer ≡ None
-silent-of z before turn Answerer Connected a st e f n = (st.silent n).1
-silent-of z before turn q x a st e f n = cc
+silent-of z before turn q x a st e f n = grind (arith)
 
 -- a turn of one end
 module _ {tries period : ℕ} {link : Link} {role : Role} {turn : ℕ} {a : Account} {arrived : Arrived} {mid b : Account}
@@ -84,8 +83,7 @@ release_of link turn mid Answerer = false
 
 pub said-as : (link : Link) (turn : ℕ) (mid : Accounts) (role : Role)
     → said_at link turn mid role ≡ speak turn (release_of link turn mid role) (served_at link turn mid role).account
-said-as link turn mid Originator = refl
-said-as link turn mid Answerer = refl
+said-as link turn mid b = grind (arith)
 
 abbrev pub AllEarly : Accounts → Type 0
 AllEarly ends = (role : Role) → Early role (of role ends)
@@ -357,5 +355,4 @@ pub last-turn : (w : TimedRun) (t : Turn) (mid : Accounts) → Hears (length w.t
 last-turn w = in-turn w.tries w.period w.delay w.link w.ts w.ends w.keeps w.run w.carried
 
 pub starts-fresh : (w : TimedRun) (r : Role) → (end_of w r).account 0 ≡ fresh (of r w.link).setup
-starts-fresh w Originator = ap (λ (x : Accounts). x.orig) w.trace.starts
-starts-fresh w Answerer = ap (λ (x : Accounts). x.answ) w.trace.starts
+starts-fresh w b = grind (arith)

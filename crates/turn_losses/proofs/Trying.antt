@@ -1,15 +1,13 @@
 -- The tries of an originator by the turn: when each went, and what is lost where none is answered.
-use Rattle.std.proofs.Common.{◌⊎◌, inl, inr, ◌≡◌, ℕ, ◌+◌, ◌-◌, ◌*◌, ◌<◌, ◌≤◌, not, Bool, true, false, length, arith, refl, sym, ◌∙◌, ap}
-use Rattle.std.proofs.Common.{subst, Ok, Err}
+use Rattle.std.proofs.Common.{◌⊎◌, inl, inr, ◌≡◌, ℕ, ◌+◌, ◌-◌, ◌*◌, ◌<◌, ◌≤◌, Bool, true, false, length, arith, refl, sym, ◌∙◌, ap, subst}
+use Rattle.std.proofs.Common.{Ok, Err}
 use Rattle.turn_bound.proofs.MeetHear.{o-hears}
 use Rattle.turn_bound.proofs.Truths.{clash, not-true}
-use Rattle.link_account.proofs.Names.{nat_tests, is_some, cases_lt, Originator, Answerer, offer_in, written, ReadsWritten, Sent, Arrived}
-use Rattle.link_account.proofs.Names.{Account, MayPlay, Said, speak, Spent, is_connected, says}
-use Rattle.link_account.proofs.SpeakWays.Ended.{TryEnds, ReleaseEnds, TimerEnds, BreakEnds}
-use Rattle.link_account.proofs.SpeakWays.Breaks.{Undetected, Spends}
+use Rattle.link_account.proofs.Names.{is_some, cases_lt, Originator, Answerer, offer_in, written, ReadsWritten, Sent, Arrived, Account}
+use Rattle.link_account.proofs.Names.{MayPlay, Said, speak, Spent, is_connected, says}
 use Rattle.link_account.proofs.SpeakWays.{Breaks, why-broken}
-use Rattle.link_run.proofs.Names.{Phase, Detecting, Negotiating, Establishing, Connected, Releasing, Closed, is_released, is_closed}
-use Rattle.link_run.proofs.Names.{arrival, Link, Accounts, served_at, releases}
+use Rattle.link_run.proofs.Names.{Phase, Negotiating, Establishing, Releasing, is_released, is_closed, arrival, Link, Accounts, served_at}
+use Rattle.link_run.proofs.Names.{releases}
 use Rattle.turn_losses.proofs.Numbering.{allowed}
 use Rattle.turn_losses.proofs.Follows.{numbered-linked}
 use Rattle.turn_losses.proofs.Tracing.{release_of, EndTurn, end-turn, timed-run, last-turn, starts-fresh}
@@ -180,27 +178,7 @@ answerable : (p q : Phase) (n : Bool) → is_trying p ≡ true → (q ≡ Establ
     → (p ≡ Negotiating → is_begun q ≡ false) → (p ≡ Establishing → (n ≡ false) × (is_closed q ≡ false))
     → (p ≡ Releasing → is_begun q ≡ true)
     → can_answer p q n ≡ true
-answerable Detecting q n t e r x y z = cc
-answerable Connected q n t e r x y z = cc
-answerable Closed q n t e r x y z = cc
-answerable Negotiating Detecting n t e r x y z = refl
-answerable Negotiating Negotiating n t e r x y z = refl
-answerable Negotiating Establishing n t e r x y z = absurd (e refl)
-answerable Negotiating Connected n t e r x y z = let w = x refl in cc
-answerable Negotiating Releasing n t e r x y z = absurd (r refl)
-answerable Negotiating Closed n t e r x y z = let w = x refl in cc
-answerable Establishing Detecting n t e r x y z = refl
-answerable Establishing Negotiating n t e r x y z = refl
-answerable Establishing Establishing n t e r x y z = absurd (e refl)
-answerable Establishing Connected n t e r x y z = ap not (y refl).0
-answerable Establishing Releasing n t e r x y z = absurd (r refl)
-answerable Establishing Closed n t e r x y z = let w = (y refl).1 in cc
-answerable Releasing Detecting n t e r x y z = let w = z refl in cc
-answerable Releasing Negotiating n t e r x y z = let w = z refl in cc
-answerable Releasing Establishing n t e r x y z = absurd (e refl)
-answerable Releasing Connected n t e r x y z = refl
-answerable Releasing Releasing n t e r x y z = absurd (r refl)
-answerable Releasing Closed n t e r x y z = refl
+answerable b q n t e r x y z = grind (arith)
 
 -- The answerer answers in the turn in which it hears.
 pub answers-so : ReadsWritten → (w : TimedRun) → MayPlay w.link.orig.setup w.link.answ.setup → (p : Phase) → is_trying p ≡ true → (u : ℕ)
@@ -287,11 +265,7 @@ which-try turn release b segment since c h = go (why-broken turn release b (Spen
 
     go : Breaks turn release b (Spent segment since)
         → (is_trying b.phase ≡ true) × (turn ≡ b.wait.try_set + b.setup.period) × (b.wait.try_count ≡ b.setup.tries)
-    go (Undetected p r l f) = cc
-    go (Spends (TryEnds q x n) f) = (trying q, grind (arith, nat_tests, x), grind (arith, nat_tests, n))
-    go (Spends (ReleaseEnds p x) f) = clash (is_connected b.phase) (ap is_connected p) c
-    go (Spends (TimerEnds p set r x n) f) = clash (is_connected b.phase) (ap is_connected p) c
-    go (Spends (BreakEnds p w x n) f) = clash (is_connected b.phase) (ap is_connected p) c
+    go b = grind (arith)
 
 pub originator-wants-frame : ReadsWritten → OriginatorWantsFrame
 originator-wants-frame reads tries period delay link ts before t mid segment since kt run cs broken

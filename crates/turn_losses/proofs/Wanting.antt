@@ -219,8 +219,7 @@ originator-starved laws together tries period delay link ts before t mid segment
 
 -- A Connected answerer that gives up was starved.
 connected-open : (p : Phase) → is_linked p ≡ true → is_released p ≡ false → is_connected p ≡ true
-connected-open Connected l r = refl
-connected-open p l r = cc
+connected-open p l r = grind (arith)
 
 clocked : (z : Rates) (turn : ℕ) (a : Account) → Stands z turn turn Answerer a.phase a → is_connected a.phase ≡ true → (s : ℕ)
     → a.wait.timer ≡ Some s → a.numbered ≡ true
