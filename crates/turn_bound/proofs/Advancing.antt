@@ -1,23 +1,21 @@
 -- The front of an end that isn't whole advances within the turns of one segment, or the run ends.
 use Rattle.std.proofs.Common.{◌≡◌, ℕ, suc, ◌+◌, ◌-◌, ◌*◌, ◌<◌, ◌≤◌, ◌||◌, ◌⊎◌, Bool, true, false, cond, nat_lt, List, [], ◌∷◌, ◌++◌, length}
-use Rattle.std.proofs.Common.{inl, inr, arith, refl, sym, ◌∙◌, ap, subst, Option, Some, None}
-use Rattle.link_account.proofs.Names.{nat_tests, Role, Originator, Answerer, is_originator, of, Outgoing, Account}
+use Rattle.std.proofs.Common.{inl, inr, arith, refl, sym, ◌∙◌, ap, subst, Option}
+use Rattle.turn_bound.proofs.Truths.{neither-first}
+use Rattle.link_account.proofs.Names.{nat_tests, Role, of, Outgoing, Account}
 use Rattle.link_run.proofs.Names.{Connected, is_released, Link, Accounts, Turn, GoingTurn, RunOf, arrival, IsCarried}
 use Rattle.lapm_sender.specs.Outgoing.{is_whole}
 use Rattle.turn_bound.specs.Time.{KeepsTime}
 use Rattle.turn_bound.specs.Due.{NoneDue}
 use Rattle.turn_bound.specs.Advance.{NeverBusy, MaySend, GoesOn, AdvancesSoon}
-use Rattle.turn_bound.proofs.Clock.{Rates, rates, AreRates, Ticks, left, is_waiting, Sends, is_free, lasts, one_if, sender_value}
-use Rattle.turn_bound.proofs.Arithmetic.{cond-le}
+use Rattle.turn_bound.proofs.Value.{Rates, rates, AreRates, Ticks, left, is_waiting, Sends, is_free, lasts, one_if, sender_value, cond-le}
 use Rattle.turn_bound.proofs.Value.{Stands}
 use Rattle.turn_bound.proofs.Falls.{Offered, end-turn}
 use Rattle.turn_bound.proofs.Ending.{own-offered}
-use Rattle.turn_bound.proofs.StillTurn.{linked-stand}
 use Rattle.turn_bound.proofs.MeetHear.{is_begun, of_arrived}
 use Rattle.turn_bound.proofs.Meeting.{only-linked}
 use Rattle.turn_bound.proofs.Bounding.{at-once-always}
-use Rattle.turn_bound.proofs.Credits.{held_value, held-most, frame_poll}
-use Rattle.turn_bound.proofs.Taking.{may_send_at}
+use Rattle.turn_bound.proofs.Taking.{held_value, held-most, frame_poll, may_send_at}
 use Rattle.turn_bound.proofs.HeldTurn.{Linking, Linger, lingers}
 use Rattle.turn_bound.proofs.Wholeness.{late-whole}
 use Rattle.turn_bound.proofs.CalmRuns.{said-speaks, EndAt, end-at, never-at, light-arrival, Unpaused, calm-run, going-run, polls_heard}
@@ -41,17 +39,15 @@ begun-on delay link ts (t ∷ us) before after role n run (ends, goes, g) c e =
     (begun-on delay link ts us before ends role n run goes c.1 e)
 
 unreleased : (b c : Bool) → (b ≡ true → c ≡ true) → c ≡ false → b ≡ false
-unreleased true c h e = let wrong : true ≡ false = sym (h refl) ∙ e in cc
-unreleased false c h e = refl
+unreleased b c h e = grind (arith)
 
 may-of : (a : Account) (role : Role) → a.setup.role ≡ role → MaySend a → may_send_at a ≡ true
-may-of a Originator e m = ap (λ r. is_originator r || a.numbered) e
-may-of a Answerer e m = ap (λ r. is_originator r || a.numbered) e ∙ m.numbered e
+may-of a b e m = grind (arith)
 
 linking-of : (z : Rates) (turn : ℕ) (role : Role) (a : Account) → EndAt z turn role a → a.phase ≡ Connected → NoneDue a → Unpaused a
     → may_send_at a ≡ true → Linking z turn role a
 linking-of z turn role a e phase none u may = record {
-  linked = linked-stand z turn turn role a (subst (λ q. Stands z turn turn role q a) phase e.stands);
+  linked = subst (λ q. Stands z turn turn role q a) phase e.stands;
   phase = phase;
   role_is = e.role_is;
   rates = e.is_of;
@@ -217,8 +213,7 @@ stages tries period delay link ts (t ∷ us) before after role total k n run m (
 
 -- a clock that runs between turns counts a whole set of tries at most
 left-most : (z : Rates) (turn count : ℕ) (timer : Option ℕ) → Ticks z turn turn count timer → left z turn count timer ≤ z.whole
-left-most z turn count None h = omega arith
-left-most z turn count (Some set) h = omega (arith, h.started)
+left-most z turn count b h = grind (arith)
 
 start-most : (z : Rates) (total turn : ℕ) (o : Outgoing) (timer : Option ℕ) → Sends z turn turn o timer
     → sender_value z total turn o timer ≤ z.quota * (total - o.front) + z.first + z.whole
@@ -235,14 +230,10 @@ soon z total start n front list role a y low same less few (Waits e s) =
 soon z total start n front list role a y low same less few (Holds h e s p) =
     let here : z.quota * (total - a.outgoing.front) ≡ z.quota * (total - front) = ap (λ f. z.quota * (total - f)) same in
     let idle : nat_lt a.outgoing.front a.outgoing.high ≡ false =
-    first-false (nat_lt a.outgoing.front a.outgoing.high) (a.outgoing.awaited || a.outgoing.paused) e in
+    neither-first (nat_lt a.outgoing.front a.outgoing.high) (a.outgoing.awaited || a.outgoing.paused) e in
     let some : nat_lt a.outgoing.front total ≡ true = grind (arith, nat_tests) in
     let free : cond (is_free total a.outgoing) z.first 0 ≡ z.first = rw (idle, some) refl in
     omega (arith, s, low, here, free, few h p, y.quota, y.first, y.room, y.period)
-  where
-    first-false : (b c : Bool) → b || c ≡ false → b ≡ false
-    first-false true c f = cc
-    first-false false c f = refl
 
 advances-linked : (tries period : ℕ) (delay : Role → ℕ) (link : Link) (ts us : List Turn) (before after : Accounts) (role : Role)
     → KeepsTime tries period delay link → NeverBusy link → RunOf link ts before → MaySend (of role before) → GoesOn link ts before us after

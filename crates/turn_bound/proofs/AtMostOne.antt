@@ -1,21 +1,18 @@
-use Rattle.std.proofs.Common.{◌⊎◌, inl, inr, ◌≡◌, ℕ, ◌+◌, ◌*◌, ◌&&◌, Bool, true, false, List, [], ◌∷◌, length, arith, refl, sym, ◌∙◌, ap}
-use Rattle.std.proofs.Common.{subst, Some, None, Ok}
+use Rattle.std.proofs.Common.{arith, ◌⊎◌, inl, inr, ◌≡◌, ℕ, ◌+◌, ◌&&◌, Bool, true, false, List, [], ◌∷◌, length, refl, sym, ◌∙◌, ap, subst}
+use Rattle.std.proofs.Common.{Some, None, Ok}
 use Rattle.link_account.proofs.Names.{Role, Originator, Answerer, Frame, is_originator, Arrived, Account, is_connected, hear, without_adp}
-use Rattle.link_account.proofs.Names.{trying, Said, speak}
-use Rattle.link_run.proofs.Names.{Phase, Connected, Releasing, Closed, Answer, User, is_busy}
-use Rattle.link_run.proofs.Names.{is_closed, is_released}
-use Rattle.turn_bound.proofs.Clock.{Rates, AreRates}
-use Rattle.turn_bound.proofs.Value.{IsOf, Stands, arrived_rnrs}
-use Rattle.turn_bound.proofs.OneTurn.{heard-ok}
-use Rattle.turn_bound.proofs.Phases.{hears-well}
-use Rattle.turn_bound.proofs.Serves.{serves-well}
-use Rattle.turn_bound.proofs.Run.{served_account, Link, State, Turn, RunOf, arrival}
+use Rattle.link_account.proofs.Names.{trying, Said, speak, of}
+use Rattle.link_run.proofs.Names.{Phase, Connected, Releasing, Answer, User, is_busy, is_closed, is_released, Link, Accounts, Turn, RunOf}
+use Rattle.link_run.proofs.Names.{IsCarried}
+use Rattle.turn_bound.proofs.Value.{Rates, Stands}
+use Rattle.turn_bound.proofs.OneTurn.{Hearing}
+use Rattle.turn_bound.proofs.CalmRuns.{said-speaks, hears-in}
+use Rattle.link_run.specs.Run.{start}
+use Rattle.turn_bound.specs.Time.{KeepsTime}
 use Rattle.turn_bound.specs.Due.{NoneDue}
-use Rattle.turn_bound.proofs.Serving.{Served, serves-all}
+use Rattle.turn_bound.proofs.Serving.{Served}
 use Rattle.link_account.proofs.HearWays.{numbers-alike}
 use Rattle.link_account.proofs.SpeakWays.{Steps, Tries, answers-unconnected, linked-alike, tries-alike, retimed}
-use Rattle.turn_bound.proofs.Falls.{Fits, after-is}
-use Rattle.turn_bound.proofs.Ending.{sound-run}
 use Rattle.link_account.proofs.HearWays as HearWays
 use Rattle.link_account.proofs.SpeakWays as SpeakWays
 
@@ -43,8 +40,7 @@ one-closed role b e =
     }
   where
     closed-released : (p : Phase) → is_closed p ≡ true → is_released p ≡ true
-    closed-released Closed e = refl
-    closed-released p e = cc
+    closed-released p e = grind (arith)
 
 pub one-hears : (role : Role) (arrived : Arrived) (turn : ℕ) (a mid : Account) → a.setup.role ≡ role → NoneDue a → hear turn arrived a
     ≡ Ok mid
@@ -137,30 +133,19 @@ said-clean z before turn release role p a said st e er open_ k h = SpeakWays.by-
     alone {q} f unheld = go role st
       where
         go : (r : Role) → Stands z before turn r p a → r ≡ Originator
-        go Originator s = refl
-        go Answerer s = absurd (unheld (subst (λ x. Stands z before turn Answerer x a) (sym e ∙ f) s))
+        go b s = grind (arith)
 
     originates : (r : Role) (b : Bool) → (b && is_originator r) ≡ true → r ≡ Originator
-    originates Originator b x = refl
-    originates Answerer true x = cc
-    originates Answerer false x = cc
+    originates c b x = grind (arith)
 
 -- a turn of one end
-end-clean : (z : Rates) (user : User) (turn : ℕ) (role : Role) (arrived : Arrived) (a mid : Account) (released release : Bool) (said : Said)
-    → AreRates z → IsOf z a.setup → Stands z turn turn role a.phase a → a.setup.role ≡ role
-    → hear turn arrived a ≡ Ok mid → speak turn release (served_account user turn released mid) ≡ Ok said
+end-clean : {z : Rates} {user : User} {turn : ℕ} {role : Role} {a : Account} {arrived : Arrived} {mid b : Account}
+    → Hearing z user turn role a arrived mid b → (release : Bool) (said : Said) → speak turn release b ≡ Ok said
     → (role ≡ Originator → is_closed mid.phase ≡ false) → NoneDue a → NoneDue said.account
-end-clean z user turn role arrived a mid released release said y k h er hears speaks open_ none =
-    let b : Account = served_account user turn released mid in
-    let heard = heard-ok z (length a.outgoing.pieces) (length user.breaks) turn (z.quota * arrived_rnrs arrived) role a.phase a mid
-    (hear turn arrived a) hears
-    (hears-well z (length a.outgoing.pieces) (length user.breaks) turn role a.phase arrived a y k h refl er (omega arith)) in
-    let s = serves-all user turn released mid in
-    let serves = serves-well z (length a.outgoing.pieces) (length user.breaks) turn
-    (is_busy turn user.busy) role heard.0 mid b y heard.1.stands heard.1.phase s in
-    let one = one-hears role arrived turn a mid er none hears in
-    said-clean z (turn + 1) turn release role heard.0 b said serves.stands (s.phase ∙ heard.1.phase)
-    (ap (λ x. x.role) (s.setup ∙ heard.1.setup) ∙ er) (λ r. ap is_closed s.phase ∙ open_ r) (record {
+end-clean {z} {user} {turn} {role} {a} {arrived} {mid} {b} i release said speaks open_ none =
+    let s = i.serves in
+    let one = one-hears role arrived turn a mid i.role_is none i.hears in
+    said-clean z (turn + 1) turn release role i.phase b said i.b_stands i.b_phase i.b_role (λ r. ap is_closed s.phase ∙ open_ r) (record {
       one = served-one mid b s one;
       calm = λ c x. s.reply ∙ one.calm (ap is_connected (sym s.phase) ∙ c) (ap is_released (sym s.phase) ∙ x);
       none = λ r c. s.answer ∙ one.none r (ap is_closed (sym s.phase) ∙ c);
@@ -170,18 +155,15 @@ end-clean z user turn role arrived a mid released release said y k h er hears sp
         → (c.owes.answer ≡ None) ⊎ (is_released c.phase ≡ false → c.owes.reply ≡ false)
     served-one m c s o = elim o.one [ inl n ↦ inl (s.answer ∙ n) | inr f ↦ inr (λ x. s.reply ∙ f (ap is_released (sym s.phase) ∙ x)) ]
 
-pub none-due-run : (z : Rates) (link : Link) (ts : List Turn) (s : State) → Fits z link → RunOf link ts s → NoneDue s.orig × NoneDue s.answ
-none-due-run z link [] s f run =
-    subst (λ x. NoneDue x.orig × NoneDue x.answ) (sym run)
-    (record { answer = refl; reply = λ r. refl }, record { answer = refl; reply = λ r. refl })
-none-due-run z link (t ∷ ts) s f (before, run, g) =
-    let h = sound-run z link ts before f run in
-    let n = none-due-run z link ts before f run in
-    subst (λ x. NoneDue x.orig × NoneDue x.answ) (sym (after-is link (length ts) before t s g)) (
-      end-clean z link.orig.user (length ts) Originator (arrival link.answ.delay t.orig_loses before.back) before.orig g.orig_mid
-          (is_released g.orig_mid.phase) _ g.orig_said f.rates (subst (IsOf z) (sym h.orig_setup) f.orig) h.orig
-          (ap (λ x. x.role) h.orig_setup ∙ f.originates) g.orig_hears g.orig_says (λ r. g.going) n.0,
-      end-clean z link.answ.user (length ts) Answerer (arrival link.orig.delay t.answ_loses before.forward) before.answ g.answ_mid
-          (is_released g.orig_mid.phase) false g.answ_said f.rates (subst (IsOf z) (sym h.answ_setup) f.answ) h.answ
-          (ap (λ x. x.role) h.answ_setup ∙ f.answers) g.answ_hears g.answ_says (λ r. cc) n.1,
-    )
+pub none-due-run : (tries period : ℕ) (delay : Role → ℕ) (link : Link) (ts : List Turn) (ends : Accounts)
+    → KeepsTime tries period delay link → RunOf link ts ends → IsCarried delay ts → (role : Role) → NoneDue (of role ends)
+none-due-run tries period delay link [] ends k run c role = subst (λ (x : Accounts). NoneDue (of role x)) (sym run) (by role)
+  where
+    by : (r : Role) → NoneDue (of r (start link))
+    by Originator = record { answer = refl; reply = λ r. refl }
+    by Answerer = record { answer = refl; reply = λ r. refl }
+none-due-run tries period delay link (t ∷ ts) ends k (before, run, g) c role =
+    let o = g.speaking role in
+    let sp = said-speaks link (length ts) g.mid role o.said o.says in
+    subst NoneDue (sym o.after_is) (end-clean (hears-in tries period delay link ts before role k run c.1 t g.mid g.hearing) sp.0 o.said
+    sp.1 (λ r. ap (λ q. is_closed (of q g.mid).phase) r ∙ g.going) (none-due-run tries period delay link ts before k run c.1 role))

@@ -1,30 +1,25 @@
 -- What holds all through a run where no user is busy.
 use Rattle.std.proofs.Common.{◌≡◌, ℕ, zero, suc, ◌+◌, ◌-◌, ◌*◌, ◌≤◌, Bool, true, false, List, [], ◌∷◌, drop, map, length, arith, refl, sym}
-use Rattle.std.proofs.Common.{◌∙◌, ap, subst, Option, Some, None, Result, Ok, Err}
-use Rattle.link_account.proofs.Names.{slice_get, AllByRecursion, Role, Originator, Answerer, other, of, Heard, Passed}
-use Rattle.link_account.proofs.Names.{LinkFault, Account, is_connected, Said, speak}
+use Rattle.std.proofs.Common.{◌∙◌, ap, subst, Option, Some, None, Result, Ok}
+use Rattle.link_account.proofs.Names.{slice_get, AllByRecursion, Role, Originator, Answerer, other, of, Heard, LinkFault, Account}
+use Rattle.link_account.proofs.Names.{is_connected, Said, speak}
 use Rattle.link_run.proofs.Names.{User, is_busy, is_released, Link, Accounts, Spoken, Turn, GoingTurn, RunOf, said_at, releases, arrival}
-use Rattle.link_run.proofs.Names.{Crosses, Carries, IsCarried, sent_in, sent_ago}
-use Rattle.link_run.proofs.Names.{Hears}
+use Rattle.link_run.proofs.Names.{Crosses, Carries, IsCarried, sent_in, sent_ago, Hears}
 use Rattle.link_run.specs.End.{BusyLine}
 use Rattle.turn_bound.specs.Time.{KeepsTime}
 use Rattle.turn_bound.specs.Advance.{NeverBusy}
-use Rattle.turn_bound.proofs.Clock.{Rates, rates, AreRates, one_if}
-use Rattle.turn_bound.proofs.Value.{IsOf, Stands, weight, rnrs, arrived_weight, arrived_rnrs}
+use Rattle.turn_bound.proofs.Value.{Rates, rates, AreRates, one_if, IsOf, Stands, weight, rnrs, arrived_weight, arrived_rnrs}
 use Rattle.turn_bound.proofs.Run.{served_account}
 use Rattle.turn_bound.proofs.Serving.{serves-all}
 use Rattle.turn_bound.proofs.Falls.{Sound, Fits}
 use Rattle.turn_bound.proofs.Ending.{fits, sound-run}
 use Rattle.turn_bound.proofs.Tied.{Tied, tied, keeps, link_of, turn_of, state_of, turns-length}
 use Rattle.turn_bound.proofs.Light.{Light, LightSaid, speaks-light}
-use Rattle.turn_bound.proofs.Lines.{arrives-weight, arrives-rnrs}
 use Rattle.turn_bound.proofs.MeetHear.{is_begun, of_arrived, of_frame}
-use Rattle.turn_bound.proofs.MeetSpeak.{speaks-so}
-use Rattle.turn_bound.proofs.Meeting.{arrives-flag}
-use Rattle.turn_bound.proofs.Credits.{frame_poll, poll_value, poll-most}
-use Rattle.turn_bound.proofs.Polling.{nineteen_if}
+use Rattle.turn_bound.proofs.Meeting.{speaks-so}
+use Rattle.turn_bound.proofs.Taking.{frame_poll, poll_value, poll-most}
+use Rattle.turn_bound.proofs.Polled.{nineteen_if, poll-turn}
 use Rattle.turn_bound.proofs.Pausing.{goes-on, says-calm}
-use Rattle.turn_bound.proofs.Polled.{poll-turn}
 use Rattle.turn_bound.proofs.OneTurn.{Hearing, hearing}
 use Rattle.link_run.specs.Run as runs
 
@@ -105,8 +100,7 @@ said-light : (busy : Bool) (said : Said) (turn : ℕ) (release : Bool) (b : Acco
 said-light busy said turn release b e h = by (speak turn release b) e h
   where
     by : (r : Result Said LinkFault) → r ≡ Ok said → LightSaid busy r → Light busy said
-    by (Err fault) e h = cc
-    by (Ok other) e h = let same : other ≡ said = cc in subst (Light busy) same h
+    by b e h = grind (arith)
 
 light-turn : (link : Link) (ts : List Turn) (before : Accounts) (t : Turn) (after : Accounts) → NeverBusy link
     → GoingTurn link ts before t after
@@ -136,9 +130,7 @@ all-get (t ∷ ts) (suc n) h role = all-get ts n h.1 role
 -- so is what arrives
 pub light-heard : (m : Option Spoken) (heard : Heard) → Crosses m heard → LightSlot m
     → (arrived_weight (arrival heard) ≤ 2) × (arrived_rnrs (arrival heard) ≡ 0)
-light-heard None (Passed s) c l = absurd c
-light-heard (Some slot) (Passed s) c l = (omega (arith, l.0, ap weight c.0, arrives-weight s), arrives-rnrs s ∙ (ap rnrs c.0 ∙ l.1))
-light-heard m p c l = (omega arith, refl)
+light-heard m p c l = grind (arith)
 
 pub light-arrival : (delay : Role → ℕ) (link : Link) (ts : List Turn) (ends : Accounts) (t : Turn) (role : Role) → NeverBusy link
     → RunOf link ts ends → Carries delay ts t
@@ -213,8 +205,7 @@ polls_heard (suc n) role [] = 0
 polls_heard (suc n) role (t ∷ ts) = one_if (of_arrived frame_poll (arrival (of role t).heard)) + polls_heard n role ts
 
 nineteen : (b : Bool) → nineteen_if b ≡ 19 * one_if b
-nineteen true = omega arith
-nineteen false = omega arith
+nineteen b = grind (arith)
 
 pub few-sent : (tries period : ℕ) (delay : Role → ℕ) (link : Link) (n : ℕ) (ts : List Turn) (ends : Accounts) (role : Role)
     → KeepsTime tries period delay link → NeverBusy link → RunOf link ts ends → IsCarried delay ts
@@ -223,13 +214,10 @@ few-sent tries period delay link zero ts ends role k nb run c = omega (arith, po
 few-sent tries period delay link (suc n) [] ends role k nb run c = omega (arith, poll-most 0 (of role ends).phase (of role ends))
 few-sent tries period delay link (suc n) (t ∷ ts) ends role k nb (before, run, g) c =
     let turn : ℕ = length ts in
-    let user : User = (of role link).user in
     let o = g.speaking role in
-    let e = end-at tries period delay link ts before role k run c.1 in
     let light = light-arrival delay link ts before t role nb run c.0 in
     let sp = said-speaks link turn g.mid role o.said o.says in
-    let one = poll-turn (rates tries period) user turn role (arrival (of role t).heard) (of role before) (of role g.mid)
-    (is_released g.mid.orig.phase) sp.0 o.said e.rates e.is_of e.stands e.role_is light.0 light.1 (g.hearing role).hears sp.1 in
+    let one = poll-turn (hears-in tries period delay link ts before role k run c.1 t g.mid g.hearing) sp.0 o.said light.0 light.1 sp.1 in
     let rest = few-sent tries period delay link n ts before role k nb run c.1 in
     let now : poll_value (turn + 1) (of role ends).phase (of role ends) ≡ poll_value (turn + 1) o.said.account.phase o.said.account =
     ap (λ a. poll_value (turn + 1) a.phase a) o.after_is in
@@ -253,9 +241,7 @@ split (suc k) (t ∷ ts) = go (split k ts)
     go (Within x rest e f g) = Within x rest e f g
 
 crossed-polls : (m : Option Spoken) (heard : Heard) → Crosses m heard → one_if (of_arrived frame_poll (arrival heard)) ≤ poll_in m
-crossed-polls None (Passed s) c = absurd c
-crossed-polls (Some slot) (Passed s) c = omega (arith, ap one_if (arrives-flag frame_poll s ∙ ap (of_frame frame_poll) c.0))
-crossed-polls m p c = omega arith
+crossed-polls m p c = grind (arith)
 
 pub heard-sent : (delay : Role → ℕ) (d n : ℕ) (ts : List Turn) (role : Role) → delay (other role) ≡ d → 1 ≤ d → IsCarried delay ts
     → polls_heard n role ts ≤ polls_sent n (other role) (drop d ts)

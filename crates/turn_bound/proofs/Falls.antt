@@ -1,14 +1,14 @@
 use Rattle.std.proofs.Common.{◌≡◌, ℕ, ◌+◌, ◌*◌, ◌<◌, ◌≤◌, ◌&&◌, ◌||◌, not, Bool, true, false, cond, nat_lt, [], length, length-append}
-use Rattle.std.proofs.Common.{arith, refl, sym, ◌∙◌, ap, subst, Some, None, Result, Ok, Err, List, ◌++◌, ◌∷◌}
-use Rattle.link_account.proofs.Names.{nat_tests, Role, Originator, Answerer, Outgoing, wanted, Arrived, LinkFault, Account, is_connected}
-use Rattle.link_account.proofs.Names.{is_originator, Said, speak, Slot, other}
+use Rattle.std.proofs.Common.{arith, refl, sym, ◌∙◌, ap, subst, Some, None, Result, Ok, List, ◌++◌, ◌∷◌}
+use Rattle.turn_bound.proofs.Truths.{neither-first, neither-second}
+use Rattle.link_account.proofs.Names.{Role, Originator, Answerer, Outgoing, wanted, Arrived, LinkFault, Account, is_connected}
+use Rattle.link_account.proofs.Names.{is_originator, Said, speak, Slot}
 use Rattle.link_run.proofs.Names.{Phase, Connected, User, is_busy, is_closed, is_released, has_finished}
-use Rattle.turn_bound.proofs.Clock.{Rates, is_waiting, is_free, lasts, one_if, is_breaking, AreRates}
-use Rattle.turn_bound.proofs.Value.{value, linked_lives, lives, IsOf, Linked, Stands, dues, arrived_rnrs}
+use Rattle.turn_bound.proofs.Value.{Rates, is_waiting, is_free, lasts, one_if, is_breaking, AreRates, value, linked_lives, lives, IsOf}
+use Rattle.turn_bound.proofs.Value.{Linked, Stands, dues, arrived_rnrs, kept}
 use Rattle.link_run.specs.End.{busy_left}
-use Rattle.turn_bound.proofs.Run.{served_account, Link, State, Turn, GoingTurn, arrival, left_on, slot_of}
-use Rattle.turn_bound.proofs.Potential.{weights, rnrs_on, Totals, is_alive, stall, potential, AreTogether}
-use Rattle.turn_bound.proofs.Arithmetic.{kept}
+use Rattle.turn_bound.proofs.Run.{served_account, Link, State, Turn, GoingTurn, arrival, left_on, slot_of, weights, rnrs_on, Totals}
+use Rattle.turn_bound.proofs.Run.{is_alive, stall, potential, AreTogether}
 use Rattle.turn_bound.proofs.Lines.{AllLight, arrived-well, weights-snoc, rnrs-snoc, light-snoc, weights-most, dues-most, busy-falls}
 use Rattle.turn_bound.proofs.Serving.{serves-all}
 use Rattle.turn_bound.proofs.OneTurn.{TurnsAs, one-turn, Hearing, hearing}
@@ -30,8 +30,7 @@ pub record EndTurn (z : Rates) (total : ℕ) (user : User) (turn : ℕ) (role : 
   pub more : is_connected b.phase ≡ true → 1 ≤ b.outgoing.window → b.outgoing.front < total → b.outgoing.front < length b.outgoing.pieces
 
 light-ok : (busy : Bool) (said : Said) (r : Result Said LinkFault) → r ≡ Ok said → LightSaid busy r → Light busy said
-light-ok busy said (Err fault) e h = cc
-light-ok busy said (Ok other) e h = let same : other ≡ said = cc in subst (Light busy) same h
+light-ok busy said b e h = grind (arith)
 
 -- where none is wanted the file has ended, or the window is full
 pub full-or-ended : (total : ℕ) (o : Outgoing) → wanted o ≡ None → 1 ≤ o.window → (o.ended ≡ true → length o.pieces ≡ total)
@@ -40,9 +39,7 @@ full-or-ended total o none window whole less = go o.ended refl (nat_lt (length o
   where
     go : (e : Bool) → o.ended ≡ e → (l : Bool) → nat_lt (length o.pieces) (o.front + o.window) ≡ l
         → cond (not e && l) (Some (length o.pieces)) None ≡ None → o.front < length o.pieces
-    go true e l f g = omega (arith, whole e, less)
-    go false e true f g = cc
-    go false e false f g = let full : o.front + o.window ≤ length o.pieces = grind (arith, nat_tests) in omega (arith, full, window)
+    go b e l f g = grind (arith)
 
 module _ {z : Rates} {user : User} {turn : ℕ} {role : Role} {a : Account} {arrived : Arrived} {mid b : Account}
     (i : Hearing z user turn role a arrived mid b) where
@@ -116,8 +113,7 @@ stall-small z link totals turn false s h big =
 
 -- an originator that isn't closed, and that doesn't live, is Connected
 dead-connected : (turn : ℕ) (p : Phase) (a : Account) → is_closed p ≡ false → lives turn Originator p a ≡ false → p ≡ Connected
-dead-connected turn Connected a c d = refl
-dead-connected turn p a c d = cc
+dead-connected turn p a c d = grind (arith)
 
 finished-at : {z : Rates} {total more : ℕ} {user : User} {turn : ℕ} {role : Role} {a mid : Account} (released : Bool) {release : Bool}
     {said : Said} → released ≡ false → Stays z turn user role a mid (served_account user turn released mid) release said
@@ -127,19 +123,8 @@ finished-at : {z : Rates} {total more : ℕ} {user : User} {turn : ℕ} {role : 
 finished-at true r s t h all dead none = cc
 finished-at false r s t h all dead none = finished s t h.breaks all dead none
 
-lives-linked-o : (turn : ℕ) (a : Account) → a.phase ≡ Connected → lives turn Originator a.phase a ≡ false → linked_lives turn a ≡ false
-lives-linked-o turn a e f = subst (λ p. lives turn Originator p a ≡ false) e f
-
-lives-linked-a : (turn : ℕ) (a : Account) → a.phase ≡ Connected → lives turn Answerer a.phase a ≡ false → linked_lives turn a ≡ false
-lives-linked-a turn a e f = subst (λ p. lives turn Answerer p a ≡ false) e f
-
-first-false : (b c : Bool) → b || c ≡ false → b ≡ false
-first-false true c e = cc
-first-false false c e = refl
-
-second-false : (b c : Bool) → b || c ≡ false → c ≡ false
-second-false true c e = cc
-second-false false c e = e
+lives-linked : (turn : ℕ) (role : Role) (a : Account) → a.phase ≡ Connected → lives turn role a.phase a ≡ false → linked_lives turn a ≡ false
+lives-linked turn role a e f = subst (λ p. lives turn role p a ≡ false) e f
 
 released-not : (p : Phase) → p ≡ Connected → is_released p ≡ false
 released-not p e = ap is_released e
@@ -187,14 +172,14 @@ pub record Both (z : Rates) (link : Link) (totals : Totals) (turn : ℕ) (s : St
       (served_account link.answ.user turn (is_released orig_mid.phase) answ_mid) answ_said
 
 -- an end hears in a turn
-hears-o : {z : Rates} {link : Link} {turn : ℕ} {s : State} {t : Turn} {u : State} → Fits z link → Sound z link turn s
+pub hears-o : {z : Rates} {link : Link} {turn : ℕ} {s : State} {t : Turn} {u : State} → Fits z link → Sound z link turn s
     → (g : GoingTurn link turn s t u)
     → Hearing z link.orig.user turn Originator s.orig (arrival link.answ.delay t.orig_loses s.back) g.orig_mid
     (served_account link.orig.user turn (is_released g.orig_mid.phase) g.orig_mid)
 hears-o {z} {link} f h g = hearing link.orig.user (is_released g.orig_mid.phase) f.rates (subst (IsOf z) (sym h.orig_setup) f.orig) h.orig
     (ap (λ x. x.role) h.orig_setup ∙ f.originates) g.orig_hears
 
-hears-a : {z : Rates} {link : Link} {turn : ℕ} {s : State} {t : Turn} {u : State} → Fits z link → Sound z link turn s
+pub hears-a : {z : Rates} {link : Link} {turn : ℕ} {s : State} {t : Turn} {u : State} → Fits z link → Sound z link turn s
     → (g : GoingTurn link turn s t u)
     → Hearing z link.answ.user turn Answerer s.answ (arrival link.orig.delay t.answ_loses s.forward) g.answ_mid
     (served_account link.answ.user turn (is_released g.orig_mid.phase) g.answ_mid)
@@ -234,9 +219,7 @@ sound-after z link totals turn s t u f h g oo oa =
     }
 
 pub calm-free : (fo fa : Bool) → (fo ≡ false → fa ≡ false → ⊥) → 1 ≤ one_if fo + one_if fa
-calm-free true fa f = omega arith
-calm-free false true f = omega arith
-calm-free false false f = absurd (f refl refl)
+calm-free b fa f = grind (arith)
 
 -- Where nothing lives before and after a turn, and no user is busy in it, the standstill gets shorter.
 standstill : (z : Rates) (link : Link) (totals : Totals) (turn : ℕ) (s : State) (t : Turn) (u : State) → Fits z link → Sound z link turn s
@@ -254,10 +237,10 @@ standstill z link totals turn s t u f h g oo oa before after dead dead' calm_o c
     let sa = slot_of g.answ_said (served_account link.answ.user turn (is_released g.orig_mid.phase) g.answ_mid) in
     let s' = state_after link turn s g.orig_mid g.answ_mid g.orig_said g.answ_said in
     let sound' = sound-after z link totals turn s t u f h g oo oa in
-    let dead_o = first-false (lives turn Originator s.orig.phase s.orig) (lives turn Answerer s.answ.phase s.answ) dead in
-    let dead_a = second-false (lives turn Originator s.orig.phase s.orig) (lives turn Answerer s.answ.phase s.answ) dead in
-    let dead_o' = first-false (lives (turn + 1) Originator s'.orig.phase s'.orig) (lives (turn + 1) Answerer s'.answ.phase s'.answ) dead' in
-    let dead_a' = second-false (lives (turn + 1) Originator s'.orig.phase s'.orig)
+    let dead_o = neither-first (lives turn Originator s.orig.phase s.orig) (lives turn Answerer s.answ.phase s.answ) dead in
+    let dead_a = neither-second (lives turn Originator s.orig.phase s.orig) (lives turn Answerer s.answ.phase s.answ) dead in
+    let dead_o' = neither-first (lives (turn + 1) Originator s'.orig.phase s'.orig) (lives (turn + 1) Answerer s'.answ.phase s'.answ) dead' in
+    let dead_a' = neither-second (lives (turn + 1) Originator s'.orig.phase s'.orig)
     (lives (turn + 1) Answerer s'.answ.phase s'.answ) dead' in
     let po : s.orig.phase ≡ Connected = dead-connected turn s.orig.phase s.orig h.going dead_o in
     let po' : g.orig_said.account.phase ≡ Connected = dead-connected (turn + 1) s'.orig.phase s'.orig sound'.going dead_o' in
@@ -265,10 +248,10 @@ standstill z link totals turn s t u f h g oo oa before after dead dead' calm_o c
     let pa' : g.answ_said.account.phase ≡ Connected = after.answ po' in
     let lo : Linked z turn turn Originator s.orig = subst (λ p. Stands z turn turn Originator p s.orig) po h.orig in
     let la : Linked z turn turn Answerer s.answ = subst (λ p. Stands z turn turn Answerer p s.answ) pa h.answ in
-    let quiet_o = lives-linked-o turn s.orig po dead_o in
-    let quiet_a = lives-linked-a turn s.answ pa dead_a in
-    let quiet_o' = lives-linked-o (turn + 1) g.orig_said.account po' dead_o' in
-    let quiet_a' = lives-linked-a (turn + 1) g.answ_said.account pa' dead_a' in
+    let quiet_o = lives-linked turn Originator s.orig po dead_o in
+    let quiet_a = lives-linked turn Answerer s.answ pa dead_a in
+    let quiet_o' = lives-linked (turn + 1) Originator g.orig_said.account po' dead_o' in
+    let quiet_a' = lives-linked (turn + 1) Answerer g.answ_said.account pa' dead_a' in
     let io = hears-o f h g in
     let ia = hears-a f h g in
     let to = stays io po _ g.orig_says po' in
@@ -301,15 +284,13 @@ standstill z link totals turn s t u f h g oo oa before after dead dead' calm_o c
 
     polled-not : (a : Account) → a.outgoing.awaited ≡ true → linked_lives turn a ≡ false → ⊥
     polled-not a e k =
-        let w = first-false (is_waiting a.outgoing) (is_breaking turn a.own_breaks) k in
+        let w = neither-first (is_waiting a.outgoing) (is_breaking turn a.own_breaks) k in
         let v : a.outgoing.awaited || a.outgoing.paused ≡ false =
-        second-false (nat_lt a.outgoing.front a.outgoing.high) (a.outgoing.awaited || a.outgoing.paused) w in
-        let wrong : true ≡ false = sym e ∙ first-false a.outgoing.awaited a.outgoing.paused v in cc
+        neither-second (nat_lt a.outgoing.front a.outgoing.high) (a.outgoing.awaited || a.outgoing.paused) w in
+        let wrong : true ≡ false = sym e ∙ neither-first a.outgoing.awaited a.outgoing.paused v in cc
 
     spoken-to-a : (o n : Bool) → (n ≡ false → ⊥) → o || n ≡ true
-    spoken-to-a true n f = refl
-    spoken-to-a false true f = refl
-    spoken-to-a false false f = absurd (f refl)
+    spoken-to-a b n f = grind (arith)
 
 lasts-some : (k : ℕ) (l l' m m' : Bool) → l || m ≡ true → 1 ≤ lasts k l l' + lasts k m m'
 lasts-some k l l' m m' e = grind (arith)
@@ -318,9 +299,7 @@ lasts-new : (k : ℕ) (l l' m m' : Bool) → l || m ≡ false → l' || m' ≡ t
 lasts-new k l l' m m' e f = grind (arith)
 
 busy-one : (b c : Bool) → b || c ≡ true → 1 ≤ one_if b + one_if c
-busy-one true c e = omega arith
-busy-one false true e = omega arith
-busy-one false false e = cc
+busy-one b c e = grind (arith)
 
 -- The potential falls in every turn after which the run goes on.
 pub falls : (z : Rates) (link : Link) (totals : Totals) (turn : ℕ) (s : State) (t : Turn) (u : State) → Fits z link → Sound z link turn s
@@ -411,4 +390,4 @@ falls z link totals turn s t u f h g oo oa before after = by (is_busy turn link.
         (value z totals.answ (length link.answ.user.breaks) (turn + 1) Answerer s'.answ.phase s'.answ)
         (stall z totals turn s) (stall z totals (turn + 1) s') _ _ ao aa
         (one_if bo + one_if ba) lo la b.orig.turns.falls b.answ.turns.falls lines
-        (calm (first-false bo ba e) (second-false bo ba e) (is_alive turn s) refl (is_alive (turn + 1) s') refl)
+        (calm (neither-first bo ba e) (neither-second bo ba e) (is_alive turn s) refl (is_alive (turn + 1) s') refl)

@@ -1,18 +1,46 @@
-use Rattle.std.proofs.Common.{◌≡◌, ℕ, ◌+◌, ◌-◌, ◌*◌, ◌%◌, ◌<◌, ◌≤◌, ◌&&◌, ◌||◌, Bool, true, false, cond, nat_eq, length, arith, refl, sym}
-use Rattle.std.proofs.Common.{◌∙◌, ap, subst, Option, Some, Result, Ok, Err}
-use Rattle.link_account.proofs.Names.{nat_tests, Role, Originator, Answerer, Outgoing, OwnBreaks, after_answer, waits, LinkFault, Account}
-use Rattle.link_account.proofs.Names.{Frame, I, Rr, Rnr, Rej, Srej, Arrived, Incoming}
-use Rattle.link_run.proofs.Names.{Phase, Connected}
+use Rattle.std.proofs.Common.{◌≡◌, ℕ, ◌≤◌, ◌&&◌, min, Bool, true, false, List, arith, Some, ◌+◌, ◌-◌, ◌*◌, ◌%◌, ◌<◌, ◌||◌, cond, nat_eq}
+use Rattle.std.proofs.Common.{length, refl, subst, Option, nat_lt, sym, ◌∙◌, ap, Ok, inl, inr}
+use Rattle.link_account.proofs.Names.{Offer, agree, offer_in, nat_tests, Role, Originator, Answerer, Outgoing, OwnBreaks, after_answer}
+use Rattle.link_account.proofs.Names.{waits, Account, Frame, I, Rr, Rnr, Rej, Srej, Arrived, Incoming, is_some, Sabme, Disc, Ui, Ua, Xid}
+use Rattle.link_account.proofs.Names.{is_originator, other, hear, on_nothing, trying, owing}
+use Rattle.xid_params.specs.Terms.{lowered, default_offer}
+use Rattle.xid_params.proofs.Allowed.{reads_allowed_always}
+use Rattle.link_run.proofs.Names.{Phase, Connected, Detecting, Negotiating, Establishing, Releasing, Closed}
 use Rattle.lapm_sender.specs.Outgoing.{paused_at}
-use Rattle.link_account.specs.Hear.{timer_after}
-use Rattle.link_account.proofs.HearWays.{Numbers, numbered_with, acked-keeps, acked_back-keeps, resumed-keeps}
-use Rattle.turn_bound.proofs.Value.{frame_rnrs, value, lives, IsAck, IsSilent, Linked, Stands}
+use Rattle.link_account.specs.Hear.{timer_after, connected, on_xid_command, on_xid_response, first_wait}
+use Rattle.link_account.proofs.HearWays.{Numbers, numbered_with, acked-keeps, acked_back-keeps, resumed-keeps, ConnectedWays, EarlyWays}
+use Rattle.link_account.proofs.HearWays.{by-ways}
+use Rattle.turn_bound.proofs.Value.{frame_rnrs, value, lives, IsAck, IsSilent, Linked, Stands, Rates, AreRates, is_waiting, Sends, ends}
+use Rattle.turn_bound.proofs.Value.{Breaks, is_breaking, Ticks, left, worth, break_left, time_left, linked_left, linked_lives, IsOf}
+use Rattle.turn_bound.proofs.Value.{Unlinked, Tries, phases_left, arrived_rnrs, tries_fit, left-some, ticks-now}
 use Rattle.turn_bound.proofs.Sender.{acked-heard, Heard, HeardWell, heard-well, heard-busy, meant-range, heard-advanced, heard-resumed}
 use Rattle.turn_bound.proofs.Sender.{heard-selected}
-use Rattle.turn_bound.proofs.Clock.{Rates, AreRates, is_waiting, Sends, ends, Breaks, is_breaking}
-use Rattle.turn_bound.proofs.Sending.{later-sends}
-use Rattle.turn_bound.proofs.Breaking.{later-breaks, ChangedWell, answered-well, ends-same}
+use Rattle.turn_bound.proofs.Sending.{later-sends, later-breaks, ChangedWell, answered-well, ends-same, or-false}
+use Rattle.break_signals.specs.Breaks.{TheirBreaks, no_breaks}
+use Rattle.link_account.specs.declared.owes.Owes.{Owes}
 use Rattle.lapm_frames.specs.declared.arrived.Arrived.TheVariants as arrivals
+use Rattle.xid_params.specs.declared.terms.Terms.{Terms}
+use Rattle.lapm_frames.specs.declared.seen.Seen.TheVariants.{Odp, Adp}
+use Rattle.link_account.specs.Account.{window_for, size_for}
+use Rattle.lapm_sender.specs.Outgoing as outgoing
+use Rattle.lapm_receiver.specs.Incoming as incoming
+use Rattle.link_account.specs.declared.answer.Answer.TheVariants as answers
+
+abbrev pub HasWindows : Offer → Type 0
+HasWindows o = (1 ≤ o.tx_window) × (1 ≤ o.rx_window)
+
+-- an offer that is read has windows of one segment at least
+pub read-windows : (info : List ℕ) (o : Offer) → offer_in info ≡ Some o → HasWindows o
+read-windows info o e = let k = reads_allowed_always info o e in (k.tx_window_low, k.rx_window_low)
+
+lowered-one : (srej : Bool) (w : ℕ) → 1 ≤ w → 1 ≤ lowered srej w
+lowered-one b w h = grind (arith)
+
+pub agreed-windows : (o a : Offer) → HasWindows o → HasWindows a → (1 ≤ (agree o a).window_o) × (1 ≤ (agree o a).window_a)
+agreed-windows o a h k = (
+  lowered-one (o.srej && a.srej) (min o.tx_window a.rx_window) (omega (arith, h.0, k.1)),
+  lowered-one (o.srej && a.srej) (min a.tx_window o.rx_window) (omega (arith, h.1, k.0)),
+)
 
 -- what hearing makes of an end of one role and phase
 pub record HeardAs (z : Rates) (total breaks turn more : ℕ) (role : Role) (p : Phase) (a : Account) (q : Phase) (b : Account) : Type 0 where
@@ -24,10 +52,6 @@ pub record HeardAs (z : Rates) (total breaks turn more : ℕ) (role : Role) (p :
   pub lengths : b.own_breaks.lengths ≡ a.own_breaks.lengths
   pub falls : value z total breaks turn role q b + ends z.room (lives turn role p a)
       (lives turn role q b) ≤ value z total breaks turn role p a + more
-
-abbrev pub HearsWell : Rates → ℕ → ℕ → ℕ → ℕ → Role → Phase → Account → Result Account LinkFault → Type 0
-HearsWell z total breaks turn more role p a (Err fault) = Unit {0}
-HearsWell z total breaks turn more role p a (Ok b) = (q : Phase) × HeardAs z total breaks turn more role p a q b
 
 pub more-as : (z : Rates) (total breaks turn more : ℕ) (role : Role) (p : Phase) (a : Account) (q : Phase) (b : Account)
     → HeardAs z total breaks turn 0 role p a q b → HeardAs z total breaks turn more role p a q b
@@ -48,24 +72,10 @@ ends-both k s b s' b' = grind (arith)
 -- A Connected end goes on so: its sender's part and its breaks.
 pub connected-well : (z : Rates) (total breaks turn more : ℕ) (role : Role) (a b : Account)
     → HeardWell z total turn a.outgoing a.wait.timer b.outgoing b.wait.timer more → ChangedWell z breaks turn a.own_breaks b.own_breaks
-    → IsAck b.their_breaks.ack → IsSilent role b → b.phase ≡ Connected → b.setup ≡ a.setup → b.outgoing.pieces ≡ a.outgoing.pieces
-    → b.outgoing.ended ≡ a.outgoing.ended → b.own_breaks.lengths ≡ a.own_breaks.lengths
+    → IsAck b.their_breaks.ack → IsSilent role b.numbered b.outgoing.high b.wait.timer → b.phase ≡ Connected → b.setup ≡ a.setup
+    → b.outgoing.pieces ≡ a.outgoing.pieces → b.outgoing.ended ≡ a.outgoing.ended → b.own_breaks.lengths ≡ a.own_breaks.lengths
     → HeardAs z total breaks turn more role Connected a Connected b
-connected-well z total breaks turn more Originator a b s c ack silent phase setup pieces ended lengths = record {
-  phase = phase;
-  stands = record { sends = s.sends; breaks = c.sound; ack = ack; silent = silent };
-  setup = setup;
-  pieces = pieces;
-  ended = ended;
-  lengths = lengths;
-  falls = omega (
-    arith,
-    s.falls,
-    c.falls,
-    ends-both z.room (is_waiting a.outgoing) (is_breaking turn a.own_breaks) (is_waiting b.outgoing) (is_breaking turn b.own_breaks),
-  );
-}
-connected-well z total breaks turn more Answerer a b s c ack silent phase setup pieces ended lengths = record {
+connected-well z total breaks turn more role a b s c ack silent phase setup pieces ended lengths = record {
   phase = phase;
   stands = record { sends = s.sends; breaks = c.sound; ack = ack; silent = silent };
   setup = setup;
@@ -88,27 +98,17 @@ same-changed : (z : Rates) (breaks turn : ℕ) (b : OwnBreaks) → Breaks z turn
 same-changed z breaks turn b s = record { sound = later-breaks z turn b s; falls = omega (arith, ends-same z.room (is_breaking turn b)) }
 
 -- one that heard a number isn't silent any more
-spoken-to : (role : Role) (b : Account) → b.numbered ≡ true → IsSilent role b
-spoken-to Originator b e = tt
-spoken-to Answerer b e = λ f. cc
+spoken-to : (role : Role) (high : ℕ) (timer : Option ℕ) → IsSilent role true high timer
+spoken-to Originator high timer = tt
+spoken-to Answerer high timer = λ f. cc
 
-same-silent : (role : Role) (a b : Account) → b.numbered ≡ a.numbered → b.outgoing ≡ a.outgoing → b.wait.timer ≡ a.wait.timer
-    → IsSilent role a → IsSilent role b
-same-silent Originator a b e f g h = tt
-same-silent Answerer a b e f g h = λ n. let k = h (sym e ∙ n) in (ap (λ o. o.high) f ∙ k.0, g ∙ k.1)
-
--- a frame that leaves the sender's part and the breaks as they are
-pub quiet-well : (z : Rates) (total breaks turn : ℕ) (role : Role) (a b : Account) → Linked z turn turn role a → a.phase ≡ Connected
-    → b.outgoing ≡ a.outgoing → b.wait.timer ≡ a.wait.timer → b.own_breaks ≡ a.own_breaks → IsAck b.their_breaks.ack
-    → b.numbered ≡ a.numbered → b.phase ≡ a.phase → b.setup ≡ a.setup → HeardAs z total breaks turn 0 role Connected a Connected b
-quiet-well z total breaks turn role a b h e outgoing timer own ack numbered phase setup =
-    connected-well z total breaks turn 0 role a b
-    (subst (λ o. HeardWell z total turn a.outgoing a.wait.timer o b.wait.timer 0) (sym outgoing)
-    (subst (λ r. HeardWell z total turn a.outgoing a.wait.timer a.outgoing r 0) (sym timer)
-    (same-heard z total turn a.outgoing a.wait.timer h.sends)))
-    (subst (ChangedWell z breaks turn a.own_breaks) (sym own) (same-changed z breaks turn a.own_breaks h.breaks))
-    ack (same-silent role a b numbered outgoing timer h.silent) (phase ∙ e) setup (ap (λ o. o.pieces) outgoing) (ap (λ o. o.ended) outgoing)
-    (ap (λ o. o.lengths) own)
+-- what leaves the sender's part and the breaks as they are
+pub quiet-well : (z : Rates) (total breaks turn : ℕ) (role : Role) (a : Account) → Linked z turn turn role a → a.phase ≡ Connected
+    → (o : Owes) (t : TheirBreaks) → IsAck t.ack
+    → HeardAs z total breaks turn 0 role Connected a Connected (record a { owes = o; their_breaks = t })
+quiet-well z total breaks turn role a h e o t ack = connected-well z total breaks turn 0 role a _
+    (same-heard z total turn a.outgoing a.wait.timer h.sends) (same-changed z breaks turn a.own_breaks h.breaks) ack h.silent e refl refl refl
+    refl
 
 answered-lengths : (turn number : ℕ) (b : OwnBreaks) → (after_answer turn number b).lengths ≡ b.lengths
 answered-lengths turn number b = by (waits b && nat_eq number (b.answered % 2))
@@ -126,7 +126,7 @@ module _ (z : Rates) (total breaks turn : ℕ) (role : Role) (a : Account) (y : 
       (numbered_with a new incoming (timer_after turn a.outgoing new a.wait.timer) reply urgent)
   number new incoming reply urgent k ended = connected-well z total breaks turn 0 role a _
       (heard-well z total turn a.outgoing new a.wait.timer y h.sends k all) (same-changed z breaks turn a.own_breaks h.breaks) h.ack
-      (spoken-to role _ refl) e refl k.pieces ended refl
+      (spoken-to role _ _) e refl k.pieces ended refl
 
   busy : (more : ℕ) (new : Outgoing) (reply : Bool) → z.quota ≡ more → Heard a.outgoing new → new.ended ≡ a.outgoing.ended
       → HeardAs z total breaks turn more role Connected a Connected
@@ -134,7 +134,7 @@ module _ (z : Rates) (total breaks turn : ℕ) (role : Role) (a : Account) (y : 
   busy more new reply q k ended = subst (λ x. HeardAs z total breaks turn x role Connected a Connected
       (numbered_with a (paused_at new) a.incoming (Some turn) reply a.wait.urgent)) q
       (connected-well z total breaks turn z.quota role a _ (heard-busy z total turn a.outgoing new a.wait.timer y h.sends k all)
-      (same-changed z breaks turn a.own_breaks h.breaks) h.ack (spoken-to role _ refl) e refl k.pieces ended refl)
+      (same-changed z breaks turn a.own_breaks h.breaks) h.ack (spoken-to role _ _) e refl k.pieces ended refl)
 
   pub number-well : (P : Arrived → Account → Type 0)
       → ((frame : Frame) (b : Account) → HeardAs z total breaks turn (z.quota * frame_rnrs frame) role Connected a Connected b
@@ -160,5 +160,426 @@ module _ (z : Rates) (total breaks turn : ℕ) (role : Role) (a : Account) (y : 
   pub answer-well : (number : ℕ) → HeardAs z total breaks turn 0 role Connected a Connected
       (record a { own_breaks = after_answer turn number a.own_breaks })
   answer-well number = connected-well z total breaks turn 0 role a _ (same-heard z total turn a.outgoing a.wait.timer h.sends)
-      (answered-well z breaks turn number a.own_breaks y h.breaks) h.ack (same-silent role a _ refl refl refl h.silent) e refl refl refl
+      (answered-well z breaks turn number a.own_breaks y h.breaks) h.ack h.silent e refl refl refl
       (answered-lengths turn number a.own_breaks)
+
+-- what lives counts
+pub linked-some : (z : Rates) (before turn : ℕ) (role : Role) (a : Account) → AreRates z → Linked z before turn role a
+    → linked_lives turn a ≡ true → 1 ≤ linked_left z turn a
+linked-some z before turn role a y h e = go (is_waiting a.outgoing) refl (waits a.own_breaks) refl e
+  where
+    go : (w : Bool) → is_waiting a.outgoing ≡ w → (v : Bool) → waits a.own_breaks ≡ v → w || is_breaking turn a.own_breaks ≡ true
+        → 1 ≤ linked_left z turn a
+    go true f v g e = omega (arith, left-some z before turn a.outgoing.count a.wait.timer y h.sends.ticks (h.sends.cause ∙ f))
+    go false f true g e =
+        let r = h.breaks.clock g in
+        let l : break_left z turn a.own_breaks ≡ a.own_breaks.set + z.whole + 9 - (a.own_breaks.count * z.period + turn) =
+        ap (λ w. cond w (a.own_breaks.set + z.whole + 9 - (a.own_breaks.count * z.period + turn)) (a.own_breaks.rest - turn)) g in
+        omega (arith, l, tries_fit z a.own_breaks.count y r.tried, r.within)
+    go false f false g e =
+        let l : break_left z turn a.own_breaks ≡ a.own_breaks.rest - turn =
+        ap (λ w. cond w (a.own_breaks.set + z.whole + 9 - (a.own_breaks.count * z.period + turn)) (a.own_breaks.rest - turn)) g in
+        let rests : nat_lt turn a.own_breaks.rest ≡ true = sym (or-false (waits a.own_breaks) (nat_lt turn a.own_breaks.rest) g) ∙ e in
+        let less : turn < a.own_breaks.rest = grind (arith, nat_tests) in
+        omega (arith, l, less)
+
+-- an end becomes Connected
+abbrev pub connected_as : Role → ℕ → Account → Account
+connected_as role turn a = record a {
+  phase = Connected;
+  outgoing = outgoing.begun (window_for role a.terms) (size_for role a.terms) a.setup.tries (is_originator role);
+  incoming = incoming.begun (window_for (other role) a.terms) a.terms.srej;
+  wait = first_wait role turn a.wait;
+}
+
+none-broken : (z : Rates) (before turn : ℕ) → Breaks z before turn no_breaks
+none-broken z before turn = record { low = omega arith; high = omega arith; due = λ e. e; clock = λ w. cc; rests = omega arith }
+
+begins-o : (z : Rates) (total breaks turn : ℕ) (a : Account) → AreRates z → IsOf z a.setup → Unlinked a
+    → HeardAs z total breaks turn 0 Originator Establishing a Connected (connected_as Originator turn a)
+begins-o z total breaks turn a y k u = record {
+  phase = refl;
+  stands = record {
+    sends = record {
+      front_from = omega arith;
+      from_high = omega arith;
+      high_pieces = omega arith;
+      high_window = omega arith;
+      window = u.window_o;
+      chosen = tt;
+      tries_are = k.tries;
+      cause = refl;
+      ticks = ticks-now z turn;
+    };
+    breaks = subst (Breaks z (turn + 1) turn) (sym u.breaks) (none-broken z (turn + 1) turn);
+    ack = subst IsAck (sym u.ack) tt;
+    silent = tt;
+  };
+  setup = refl;
+  pieces = ap (λ o. o.pieces) (sym u.outgoing);
+  ended = ap (λ o. o.ended) (sym u.outgoing);
+  lengths = refl;
+  falls = omega (arith, ap (worth z total) u.outgoing, ap (break_left z turn) u.breaks, y.quota);
+}
+
+stays-dead : (z : Rates) (turn : ℕ) (k : ℕ) (own : OwnBreaks) → own ≡ no_breaks
+    → (break_left z turn own ≡ 0) × (ends k false (is_breaking turn own) ≡ 0)
+stays-dead z turn k own e =
+    let none : nat_lt turn 0 ≡ false = grind (arith, nat_tests) in
+    let zero-left : 0 - turn ≡ 0 = omega arith in
+    (ap (break_left z turn) e ∙ zero-left, ap (λ b. ends k false (is_breaking turn b)) e ∙ ap (λ l. ends k false l) none)
+
+begins-a-stands : (z : Rates) (turn : ℕ) (a : Account) → AreRates z → IsOf z a.setup → Unlinked a
+    → Linked z (turn + 1) turn Answerer (connected_as Answerer turn a)
+begins-a-stands z turn a y k u = record {
+  sends = record {
+    front_from = omega arith;
+    from_high = omega arith;
+    high_pieces = omega arith;
+    high_window = omega arith;
+    window = u.window_a;
+    chosen = tt;
+    tries_are = k.tries;
+    cause = ap is_some u.timer;
+    ticks = subst (Ticks z (turn + 1) turn 0) (sym u.timer) refl;
+  };
+  breaks = subst (Breaks z (turn + 1) turn) (sym u.breaks) (none-broken z (turn + 1) turn);
+  ack = subst IsAck (sym u.ack) tt;
+  silent = λ e. (refl, u.timer);
+}
+
+begins-a : (z : Rates) (total breaks turn : ℕ) (p : Phase) (a : Account) → AreRates z → IsOf z a.setup → Unlinked a
+    → lives turn Answerer p a ≡ false → time_left z turn Answerer p a ≡ 0
+    → HeardAs z total breaks turn 0 Answerer p a Connected (connected_as Answerer turn a)
+begins-a z total breaks turn p a y k u dead none = record {
+  phase = refl;
+  stands = begins-a-stands z turn a y k u;
+  setup = refl;
+  pieces = ap (λ o. o.pieces) (sym u.outgoing);
+  ended = ap (λ o. o.ended) (sym u.outgoing);
+  lengths = refl;
+  falls = let d = stays-dead z turn z.room a.own_breaks u.breaks in
+      omega (
+        arith,
+        ap (worth z total) u.outgoing,
+        ap (λ r. left z turn 0 r) u.timer,
+        d.0,
+        d.1,
+        ap (λ l. ends z.room l (is_breaking turn a.own_breaks)) dead,
+        none,
+      );
+}
+
+-- what changes nothing of what counts
+pub idle-well : (z : Rates) (total breaks turn : ℕ) (role : Role) (p q : Phase) (a b : Account) → Stands z (turn + 1) turn role q b
+    → b.phase ≡ q → b.setup ≡ a.setup → b.outgoing ≡ a.outgoing → b.own_breaks ≡ a.own_breaks
+    → lives turn role q b ≡ lives turn role p a → time_left z turn role q b ≡ time_left z turn role p a
+    → phases_left role q ≡ phases_left role p → HeardAs z total breaks turn 0 role p a q b
+idle-well z total breaks turn role p q a b s phase setup outgoing own live time phases = record {
+  phase = phase;
+  stands = s;
+  setup = setup;
+  pieces = ap (λ o. o.pieces) outgoing;
+  ended = ap (λ o. o.ended) outgoing;
+  lengths = ap (λ o. o.lengths) own;
+  falls = omega (
+    arith,
+    ap (worth z total) outgoing,
+    ap (λ o. z.quota * (breaks - length o.lengths)) own,
+    time,
+    ap (λ n. z.quota * n) phases,
+    ap (λ l. ends z.room (lives turn role p a) l) live,
+    ends-same z.room (lives turn role p a),
+  );
+}
+
+-- a try begins
+pub tries-now : (z : Rates) (turn : ℕ) (p : Phase) (a : Account) → Tries z (turn + 1) turn (trying p turn a)
+tries-now z turn p a = record { tied = omega arith; started = omega arith; within = omega arith; tried = omega arith }
+
+pub later-tries : (z : Rates) (turn : ℕ) (a : Account) → Tries z turn turn a → Tries z (turn + 1) turn a
+later-tries z turn a t = record { tied = t.tied; started = omega (arith, t.started); within = t.within; tried = t.tried }
+
+pub same-unlinked : (a b : Account) → Unlinked a → b.outgoing ≡ a.outgoing → b.wait.timer ≡ a.wait.timer → b.own_breaks ≡ a.own_breaks
+    → b.their_breaks.ack ≡ a.their_breaks.ack → b.terms ≡ a.terms → Unlinked b
+same-unlinked a b u o t w k e =
+    let windows = subst (λ x. (1 ≤ x.window_o) × (1 ≤ x.window_a)) (sym e) (u.window_o, u.window_a) in
+    record {
+      outgoing = o ∙ u.outgoing;
+      timer = t ∙ u.timer;
+      breaks = w ∙ u.breaks;
+      ack = k ∙ u.ack;
+      window_o = windows.0;
+      window_a = windows.1;
+    }
+
+-- on other terms
+on-terms : (a : Account) (terms : Terms) → Unlinked a → (1 ≤ terms.window_o) × (1 ≤ terms.window_a) → Unlinked (record a { terms = terms })
+on-terms a terms u windows = record {
+  outgoing = u.outgoing;
+  timer = u.timer;
+  breaks = u.breaks;
+  ack = u.ack;
+  window_o = windows.0;
+  window_a = windows.1;
+}
+
+-- hearing before Connected, of an originator
+o-detecting : (z : Rates) (total breaks turn : ℕ) (a : Account) → AreRates z → Unlinked a
+    → (q : Phase) × HeardAs z total breaks turn 0 Originator Detecting a q (trying Negotiating turn a)
+o-detecting z total breaks turn a y u = (
+  Negotiating,
+  record {
+    phase = refl;
+    stands = (u, tries-now z turn Negotiating a);
+    setup = refl;
+    pieces = refl;
+    ended = refl;
+    lengths = refl;
+    falls = omega (arith, y.quota);
+  },
+)
+
+o-negotiating : (z : Rates) (total breaks turn : ℕ) (a : Account) (offer : Offer) (info : List ℕ) → AreRates z → IsOf z a.setup
+    → Unlinked a → offer_in info ≡ Some offer
+    → (q : Phase) × HeardAs z total breaks turn 0 Originator Negotiating a q (on_xid_response (Some offer) turn a)
+o-negotiating z total breaks turn a offer info y k u f =
+    let windows = agreed-windows a.setup.offer offer (k.tx_window, k.rx_window) (read-windows info offer f) in (
+      Establishing,
+      record {
+        phase = refl;
+        stands = (
+          on-terms a (agree a.setup.offer offer) u windows,
+          tries-now z turn Establishing a,
+        );
+        setup = refl;
+        pieces = refl;
+        ended = refl;
+        lengths = refl;
+        falls = omega (arith, y.quota);
+      },
+    )
+
+-- an answerer before it is Connected
+a-xid : (z : Rates) (total breaks turn : ℕ) (p : Phase) (a : Account) (offer : Offer) (info : List ℕ) → lives turn Answerer p a ≡ false
+    → time_left z turn Answerer p a ≡ 0 → IsOf z a.setup → Unlinked a → offer_in info ≡ Some offer
+    → (q : Phase) × HeardAs z total breaks turn 0 Answerer p a q (on_xid_command (Some offer) a)
+a-xid z total breaks turn p a offer info dead none k u f = (
+  Negotiating,
+  idle-well z total breaks turn Answerer p Negotiating a _ (on-terms a (agree offer a.setup.offer) u
+      (agreed-windows offer a.setup.offer (read-windows info offer f) (k.tx_window, k.rx_window))) refl refl refl refl (sym dead) (sym none) refl,
+)
+
+default-windows : (a : Account) (z : Rates) → IsOf z a.setup
+    → (1 ≤ (agree default_offer a.setup.offer).window_o) × (1 ≤ (agree default_offer a.setup.offer).window_a)
+default-windows a z k = agreed-windows default_offer a.setup.offer (omega arith, omega arith) (k.tx_window, k.rx_window)
+
+-- SABME: the answerer becomes Connected, on these terms
+a-sabme : (z : Rates) (total breaks turn : ℕ) (p : Phase) (a : Account) (pf : Bool) → lives turn Answerer p a ≡ false
+    → time_left z turn Answerer p a ≡ 0 → AreRates z → IsOf z a.setup → Unlinked a → a.setup.role ≡ Answerer
+    → HeardAs z total breaks turn 0 Answerer p a Connected (owing (answers.Ua pf) (connected turn a))
+a-sabme z total breaks turn p a pf dead none y k u er =
+    let h = begins-a z total breaks turn p a y k u dead none in
+    subst (λ r. HeardAs z total breaks turn 0 Answerer p a Connected (owing (answers.Ua pf) (connected_as r turn a))) (sym er) (record {
+      phase = h.phase;
+      stands = h.stands;
+      setup = h.setup;
+      pieces = h.pieces;
+      ended = h.ended;
+      lengths = h.lengths;
+      falls = h.falls;
+    })
+
+-- of default terms
+a-sabme-default : (z : Rates) (total breaks turn : ℕ) (a : Account) (pf : Bool) → AreRates z → IsOf z a.setup → Unlinked a
+    → a.setup.role ≡ Answerer
+    → HeardAs z total breaks turn 0 Answerer Detecting a Connected
+    (owing (answers.Ua pf) (connected turn (record a { terms = agree default_offer a.setup.offer })))
+a-sabme-default z total breaks turn a pf y k u er =
+    let b : Account = record a { terms = agree default_offer a.setup.offer } in
+    let h = a-sabme z total breaks turn Detecting b pf refl refl y k (on-terms a b.terms u (default-windows a z k)) er in
+    record { phase = h.phase; stands = h.stands; setup = h.setup; pieces = h.pieces; ended = h.ended; lengths = h.lengths; falls = h.falls }
+
+closes : (z : Rates) (total breaks turn : ℕ) (a b : Account) → AreRates z → Linked z turn turn Answerer a → b.phase ≡ Closed
+    → b.setup ≡ a.setup → b.outgoing ≡ a.outgoing → b.own_breaks ≡ a.own_breaks
+    → HeardAs z total breaks turn 0 Answerer Connected a Closed b
+closes z total breaks turn a b y h phase setup outgoing own = record {
+  phase = phase;
+  stands = tt;
+  setup = setup;
+  pieces = ap (λ o. o.pieces) outgoing;
+  ended = ap (λ o. o.ended) outgoing;
+  lengths = ap (λ o. o.lengths) own;
+  falls = go (linked_lives turn a) refl;
+}
+  where
+    go : (l : Bool) → linked_lives turn a ≡ l
+        → value z total breaks turn Answerer Closed b + ends z.room
+        (linked_lives turn a) false ≤ value z total breaks turn Answerer Connected a + 0
+    go true e = omega (
+      arith,
+      ap (worth z total) outgoing,
+      ap (λ o. z.quota * (breaks - length o.lengths)) own,
+      linked-some z turn turn Answerer a y h e,
+      ap (λ l. ends z.room l false) e,
+    )
+    go false e = omega (
+      arith,
+      ap (worth z total) outgoing,
+      ap (λ o. z.quota * (breaks - length o.lengths)) own,
+      ap (λ l. ends z.room l false) e,
+    )
+
+-- nothing changes but what it owes
+still-well : (z : Rates) (total breaks turn : ℕ) (role : Role) (p : Phase) (a : Account) (o : Owes) → Stands z turn turn role p a
+    → a.phase ≡ p → HeardAs z total breaks turn 0 role p a p (record a { owes = o })
+still-well z total breaks turn role Connected a o h e = quiet-well z total breaks turn role a h e o _ h.ack
+still-well z total breaks turn role Closed a o h e = idle-well z total breaks turn role Closed Closed a _ tt e refl refl refl refl refl refl
+still-well z total breaks turn Originator Detecting a o h e =
+    idle-well z total breaks turn Originator Detecting Detecting a _ h e refl refl refl refl refl refl
+still-well z total breaks turn Originator Negotiating a o h e =
+    idle-well z total breaks turn Originator Negotiating Negotiating a _ (h.0, later-tries z turn a h.1) e refl refl refl refl refl refl
+still-well z total breaks turn Originator Establishing a o h e =
+    idle-well z total breaks turn Originator Establishing Establishing a _ (h.0, later-tries z turn a h.1) e refl refl refl refl refl refl
+still-well z total breaks turn Originator Releasing a o h e =
+    idle-well z total breaks turn Originator Releasing Releasing a _ (later-tries z turn a h) e refl refl refl refl refl refl
+still-well z total breaks turn Answerer Detecting a o h e =
+    idle-well z total breaks turn Answerer Detecting Detecting a _ h e refl refl refl refl refl refl
+still-well z total breaks turn Answerer Negotiating a o h e =
+    idle-well z total breaks turn Answerer Negotiating Negotiating a _ h e refl refl refl refl refl refl
+still-well z total breaks turn Answerer p a o h e = absurd h
+
+-- Hearing: whatever the role, the phase and what arrives.
+module _ (z : Rates) (total breaks turn : ℕ) (role : Role) (a : Account) (y : AreRates z) (k : IsOf z a.setup)
+    (s : Stands z turn turn role a.phase a)
+    (er : a.setup.role ≡ role) (all : length a.outgoing.pieces ≤ total) where
+  abbrev P : Arrived → Account → Type 0
+  P x b = (q : Phase) × HeardAs z total breaks turn (z.quota * arrived_rnrs x) role a.phase a q b
+
+  -- in this phase
+  now : (x : Arrived) (b : Account) (p : Phase) → a.phase ≡ p → (q : Phase) × HeardAs z total breaks turn 0 role p a q b → P x b
+  now x b p e w = (
+    w.0,
+    more-as z total breaks turn _ role a.phase a w.0 b
+        (subst (λ p. HeardAs z total breaks turn 0 role p a w.0 b) (sym e) w.1),
+  )
+
+  still : (x : Arrived) (o : Owes) → P x (record a { owes = o })
+  still x o = now x (record a { owes = o }) a.phase refl (a.phase, still-well z total breaks turn role a.phase a o s refl)
+
+  same : (x : Arrived) → P x a
+  same x = still x a.owes
+
+  stands : (p : Phase) → a.phase ≡ p → Stands z turn turn role p a
+  stands p e = subst (λ p. Stands z turn turn role p a) e s
+
+  linked-ways : a.phase ≡ Connected → ConnectedWays P turn a
+  linked-ways e = let h = stands Connected e in record {
+    pattern = λ seen. same (arrivals.Pattern seen);
+    plain = λ frame p. same (arrivals.Frame frame);
+    numbers = number-well z total breaks turn role a y h e all P
+        (λ frame b w. (Connected, subst (λ p. HeardAs z total breaks turn (z.quota * frame_rnrs frame) role p a Connected b) (sym e) w));
+    sabme = λ pf n r. still (arrivals.Frame (Sabme pf)) _;
+    disc = λ pf r. now (arrivals.Frame (Disc pf)) _ Connected e (Closed, closed role (sym er ∙ r) h pf);
+    brk = λ command pf info number length_octet q.
+        now (arrivals.Frame (Ui command pf info)) _ Connected e
+        (Connected, quiet-well z total breaks turn role a h e _ _ tt);
+    brkack = λ command pf info number length_octet q.
+        now (arrivals.Frame (Ui command pf info)) _ Connected e (Connected, answer-well z total breaks turn role a y h e all number);
+  }
+    where
+      closed : (r : Role) → r ≡ Answerer → Linked z turn turn r a → (pf : Bool)
+          → HeardAs z total breaks turn 0 r Connected a Closed (owing (answers.Ua pf) (record a { phase = Closed }))
+      closed Answerer q h pf = closes z total breaks turn a _ y h refl refl refl refl
+      closed Originator q h pf = cc
+
+module _ (z : Rates) (total breaks turn : ℕ) (a : Account) (y : AreRates z) (k : IsOf z a.setup)
+    (s : Stands z turn turn Originator a.phase a)
+    (er : a.setup.role ≡ Originator) (all : length a.outgoing.pieces ≤ total) where
+  o-now : (x : Arrived) (b : Account) (p : Phase) → a.phase ≡ p → (q : Phase) × HeardAs z total breaks turn 0 Originator p a q b
+      → P z total breaks turn Originator a y k s er all x b
+  o-now = now z total breaks turn Originator a y k s er all
+
+  o-stands : (p : Phase) → a.phase ≡ p → Stands z turn turn Originator p a
+  o-stands = stands z total breaks turn Originator a y k s er all
+
+  o-early : EarlyWays (P z total breaks turn Originator a y k s er all) turn a
+  o-early = record {
+    ignores = λ x f. same z total breaks turn Originator a y k s er all x;
+    detects = λ p r. o-now (arrivals.Pattern Adp) _ Detecting p (o-detecting z total breaks turn a y (o-stands Detecting p));
+    detected = λ p r. wrong r;
+    xid = λ p r pf info offer f. wrong r;
+    agrees = λ p r pf info offer f.
+        o-now (arrivals.Frame (Xid false pf info)) _ Negotiating p
+        (o-negotiating z total breaks turn a offer info y k (o-stands Negotiating p).0 f);
+    sabme_first = λ p r pf. wrong r;
+    sabme = λ p r pf. wrong r;
+    ua = λ p. o-now (arrivals.Frame (Ua true)) _ Establishing p (
+      Connected,
+      subst (λ r. HeardAs z total breaks turn 0 Originator Establishing a Connected (connected_as r turn a))
+          (sym er) (begins-o z total breaks turn a y k (o-stands Establishing p).0),
+    );
+    disc = λ p pf. still z total breaks turn Originator a y k s er all (arrivals.Frame (Disc pf)) _;
+    closes = λ p frame f. let h = o-stands Releasing p in o-now (arrivals.Frame frame) _ Releasing p (
+      Closed,
+      record {
+        phase = refl;
+        stands = tt;
+        setup = refl;
+        pieces = refl;
+        ended = refl;
+        lengths = refl;
+        falls = omega (arith, tries_fit z a.wait.try_count y h.tried, h.within);
+      },
+    );
+  }
+    where
+      wrong : {A : Type 0} → a.setup.role ≡ Answerer → A
+      wrong r = let other-role : Originator ≡ Answerer = sym er ∙ r in cc
+
+module _ (z : Rates) (total breaks turn : ℕ) (a : Account) (y : AreRates z) (k : IsOf z a.setup) (s : Stands z turn turn Answerer a.phase a)
+    (er : a.setup.role ≡ Answerer) (all : length a.outgoing.pieces ≤ total) where
+  a-now : (x : Arrived) (b : Account) (p : Phase) → a.phase ≡ p → (q : Phase) × HeardAs z total breaks turn 0 Answerer p a q b
+      → P z total breaks turn Answerer a y k s er all x b
+  a-now = now z total breaks turn Answerer a y k s er all
+
+  a-stands : (p : Phase) → a.phase ≡ p → Stands z turn turn Answerer p a
+  a-stands = stands z total breaks turn Answerer a y k s er all
+
+  a-early : EarlyWays (P z total breaks turn Answerer a y k s er all) turn a
+  a-early = record {
+    ignores = λ x f. same z total breaks turn Answerer a y k s er all x;
+    detects = λ p r. wrong r;
+    detected = λ p r. still z total breaks turn Answerer a y k s er all (arrivals.Pattern Odp) _;
+    xid = λ p r pf info offer f. elim p [
+      | inl q ↦ a-now (arrivals.Frame (Xid true pf info)) _ Detecting q
+          (a-xid z total breaks turn Detecting a offer info refl refl k (a-stands Detecting q) f)
+      | inr q ↦ a-now (arrivals.Frame (Xid true pf info)) _ Negotiating q
+          (a-xid z total breaks turn Negotiating a offer info refl refl k (a-stands Negotiating q) f)
+    ];
+    agrees = λ p r pf info offer f. wrong r;
+    sabme_first = λ p r pf. a-now (arrivals.Frame (Sabme pf)) _ Detecting p
+        (Connected, a-sabme-default z total breaks turn a pf y k (a-stands Detecting p) er);
+    sabme = λ p r pf. a-now (arrivals.Frame (Sabme pf)) _ Negotiating p
+        (Connected, a-sabme z total breaks turn Negotiating a pf refl refl y k (a-stands Negotiating p) er);
+    ua = λ p. absurd (a-stands Establishing p);
+    disc = λ p pf. still z total breaks turn Answerer a y k s er all (arrivals.Frame (Disc pf)) _;
+    closes = λ p frame f. absurd (a-stands Releasing p);
+  }
+    where
+      wrong : {A : Type 0} → a.setup.role ≡ Originator → A
+      wrong r = let other-role : Answerer ≡ Originator = sym er ∙ r in cc
+
+pub hears-well : (z : Rates) (total breaks turn : ℕ) (role : Role) (arrived : Arrived) (a mid : Account) → AreRates z → IsOf z a.setup
+    → Stands z turn turn role a.phase a → a.setup.role ≡ role → length a.outgoing.pieces ≤ total → hear turn arrived a ≡ Ok mid
+    → (q : Phase) × HeardAs z total breaks turn (z.quota * arrived_rnrs arrived) role a.phase a q mid
+hears-well z total breaks turn role arrived a mid y k s er all = by-ways (P z total breaks turn role a y k s er all) turn a (record {
+  nothing = still z total breaks turn role a y k s er all arrivals.Nothing (on_nothing a).owes;
+  linked = linked-ways z total breaks turn role a y k s er all;
+  early = λ c. early role s er;
+}) arrived mid
+  where
+    early : (r : Role) (t : Stands z turn turn r a.phase a) (f : a.setup.role ≡ r)
+        → EarlyWays (P z total breaks turn r a y k t f all) turn a
+    early Originator t f = o-early z total breaks turn a y k t f all
+    early Answerer t f = a-early z total breaks turn a y k t f all

@@ -1,25 +1,164 @@
--- A turn of an end that stays Connected, where no user is busy.
-use Rattle.std.proofs.Common.{◌≡◌, ℕ, ◌+◌, ◌<◌, ◌≤◌, ◌&&◌, ◌⊎◌, not, nat_eq, nat_lt, Bool, true, false, cond, length, inl, inr, arith}
-use Rattle.std.proofs.Common.{refl, sym, ◌∙◌, ap, subst, Option, Some, None, Ok}
-use Rattle.link_account.proofs.Names.{is_some, nat_tests, Role, is_originator, wanted, Arrived, Account, is_connected, Said, speak, steps}
-use Rattle.link_account.proofs.Names.{other}
+-- A Connected end with a segment to send and nothing outstanding sends it, or something else goes first that it pays for.
+use Rattle.std.proofs.Common.{◌≡◌, ℕ, ◌+◌, ◌-◌, ◌%◌, ◌<◌, ◌≤◌, ◌&&◌, ◌||◌, ◌⊎◌, min, Bool, true, false, cond, nat_eq, [], ◌∷◌, subst, ◌++◌}
+use Rattle.std.proofs.Common.{length, slice_index_or, inl, inr, arith, refl, sym, ◌∙◌, ap, Some, None, not, nat_lt, Ok}
+use Rattle.link_account.proofs.Names.{is_some, nat_tests, is_originator, next_number, Incoming, BreakWord, Brk, OwnBreaks, waits, ticked}
+use Rattle.link_account.proofs.Names.{Account, Said, may_send, Role, wanted, Arrived, is_connected, speak, other}
+use Rattle.link_account.specs.Speak.{differs}
+use Rattle.turn_bound.proofs.Value.{Rates, AreRates, is_waiting, Sends, IsOf, ends, one_if, lasts, sender_value, Linked, Stands}
+use Rattle.turn_bound.proofs.Value.{arrived_weight, arrived_rnrs}
+use Rattle.turn_bound.proofs.Sending.{sent-well, ends-same}
+use Rattle.link_account.proofs.SpeakWays.{NoWord, Steps, steps-so}
+use Rattle.turn_bound.proofs.StillTurn.{asks-rej, idle-next, Stays, stays, or-numbered}
+use Rattle.turn_bound.proofs.Taking.{own_value, held_value, owed_by, may_send_at, frame_poll, TakesNumber, Takes, Closes, takes, served-own}
+use Rattle.turn_bound.proofs.Taking.{served-owes}
 use Rattle.link_run.proofs.Names.{Connected, Closed, User, is_busy, is_released}
 use Rattle.lapm_sender.specs.Outgoing.{is_whole}
 use Rattle.turn_bound.specs.Due.{NoneDue}
-use Rattle.turn_bound.proofs.Clock.{Rates, AreRates, is_waiting, Sends, ends, one_if, lasts, sender_value}
-use Rattle.turn_bound.proofs.Value.{IsOf, Linked, Stands, arrived_weight, arrived_rnrs}
 use Rattle.turn_bound.proofs.Sender.{heard-well}
-use Rattle.turn_bound.proofs.Breaking.{ends-same}
-use Rattle.turn_bound.proofs.Speaking.{timed-linked}
+use Rattle.turn_bound.proofs.Speaking.{Spoke, spoke, untimed, stopped}
 use Rattle.turn_bound.proofs.Falls.{Offered, full-or-ended}
-use Rattle.turn_bound.proofs.StillTurn.{Stays, stays, Spoke, spoke, linked-stand, or-numbered}
-use Rattle.turn_bound.proofs.Credits.{held_value, frame_poll}
-use Rattle.turn_bound.proofs.Taking.{owed_by, may_send_at, TakesNumber, Takes, Closes, takes}
-use Rattle.turn_bound.proofs.Asking.{served-own, served-owes}
 use Rattle.turn_bound.proofs.Pausing.{Calm, says-calm}
-use Rattle.turn_bound.proofs.Holding.{TicksOnly, ticks-only, Ready, base_value, Pays, Goes, steps-go, Much, Replies, Srejs}
 use Rattle.turn_bound.proofs.OneTurn.{Hearing}
 use Rattle.turn_bound.proofs.MeetHear.{of_arrived}
+
+-- what the break's timer makes of it
+pub ticks-value : (z : Rates) (turn : ℕ) (b : Account) (own : OwnBreaks) → AreRates z → IsOf z b.setup
+    → ticked turn b.setup.period b.setup.tries b.own_breaks ≡ Some own → own_value (turn + 1) own ≤ own_value turn b.own_breaks + 1
+ticks-value z turn b own y k h =
+    go (waits b.own_breaks) refl (nat_eq turn (b.own_breaks.set + b.setup.period)) refl (nat_eq b.own_breaks.count b.setup.tries) h
+  where
+    later : (w : Bool) → cond b.own_breaks.brk 8 0 + cond w (min 8 (turn + 1 - b.own_breaks.set)) (8 - (b.own_breaks.rest - (turn + 1)))
+        ≤ cond b.own_breaks.brk 8 0 + cond w (min 8 (turn - b.own_breaks.set)) (8 - (b.own_breaks.rest - turn)) + 1
+    later true = omega arith
+    later false = omega arith
+
+    quiet : b.own_breaks ≡ own → own_value (turn + 1) own ≤ own_value turn b.own_breaks + 1
+    quiet same = subst (λ o. own_value (turn + 1) o ≤ own_value turn b.own_breaks + 1) same (later (waits b.own_breaks))
+
+    go : (w : Bool) → waits b.own_breaks ≡ w → (due : Bool) → nat_eq turn (b.own_breaks.set + b.setup.period) ≡ due → (spent' : Bool)
+        → cond (w && due) (cond spent' None (Some (record b.own_breaks { brk = true; set = turn; count = b.own_breaks.count + 1 })))
+        (Some b.own_breaks) ≡ Some own → own_value (turn + 1) own ≤ own_value turn b.own_breaks + 1
+    go false w due d s f = quiet cc
+    go true w false d s f = quiet cc
+    go true w true d true f = cc
+    go true w true d false f =
+        let new : OwnBreaks = record b.own_breaks { brk = true; set = turn; count = b.own_breaks.count + 1 } in
+        let same : new ≡ own = cc in
+        let at : turn ≡ b.own_breaks.set + b.setup.period = grind (arith, nat_tests) in
+        let long : 20 ≤ b.setup.period = omega (arith, k.period, y.period) in
+        subst (λ o. own_value (turn + 1) o ≤ own_value turn b.own_breaks + 1) same (omega (
+          arith,
+          at,
+          long,
+          ap (λ x. cond x (min 8 (turn - b.own_breaks.set)) (8 - (b.own_breaks.rest - turn))) w,
+          ap (λ x. cond x (min 8 (turn + 1 - turn)) (8 - (b.own_breaks.rest - (turn + 1)))) w,
+        ))
+
+-- A Connected account whose timers are done, with a segment to send, nothing waited for and no answer due.
+pub record Ready (z : Rates) (turn : ℕ) (a : Account) : Type 0 where
+  pub sends : Sends z (turn + 1) (turn + 1) a.outgoing a.wait.timer
+  pub idle : is_waiting a.outgoing ≡ false
+  pub answer : a.owes.answer ≡ None
+  pub busy : a.owes.busy ≡ false
+  pub told : a.owes.busy_told ≡ false
+  pub may : may_send_at a ≡ true
+  pub more : a.outgoing.front < length a.outgoing.pieces
+
+-- what holds up a segment, without the mark of the last speaking, which comes beside it
+abbrev pub base_value : ℕ → Bool → Account → ℕ
+base_value turn special a = owed_by a + cond special 0 4 + own_value (turn + 1) a.own_breaks + cond a.wait.poll 16 0
+
+-- what is said pays: an F reply for a poll that was heard, an SREJ where no break is to be answered, and all else for more
+pub data Pays (turn : ℕ) (special : Bool) (a b : Account) : Type 0 where
+  Replies : a.owes.reply ≡ true → held_value (turn + 1) b ≤ base_value turn special a + 4 → Pays turn special a b
+  Much : held_value (turn + 1) b + 12 ≤ base_value turn special a → Pays turn special a b
+  Srejs : a.incoming.srej ≡ true → is_some a.their_breaks.ack ≡ false → held_value (turn + 1) b + 4 ≤ base_value turn special a
+      → Pays turn special a b
+
+pub record Held (turn : ℕ) (special : Bool) (a b : Account) : Type 0 where
+  pub outgoing : b.outgoing ≡ a.outgoing
+  pub timer : b.wait.timer ≡ a.wait.timer
+  pub pays : Pays turn special a b
+
+abbrev pub Goes : ℕ → Bool → Account → Said → Type 0
+Goes turn special a said = (is_waiting said.account.outgoing ≡ true) ⊎ Held turn special a said.account
+
+-- there is one to send
+some-free : (z : Rates) (turn : ℕ) (a : Account) → Ready z turn a → may_send a ≡ None → ⊥
+some-free z turn a h e = let wrong : None ≡ Some a.outgoing.from = sym e
+    ∙ (ap (λ b. cond b (next_number a.outgoing) None) h.may ∙ idle-next h.sends h.idle h.more) in cc
+
+-- the steps
+module _ (z : Rates) (turn : ℕ) (special : Bool) (a : Account) (y : AreRates z) (h : Ready z turn a) (s : a.special ≡ false) where
+  -- of the same sender's part
+  holds : (b : Account) → b.outgoing ≡ a.outgoing → b.wait.timer ≡ a.wait.timer → Pays turn special a b
+      → (is_waiting b.outgoing ≡ true) ⊎ Held turn special a b
+  holds b e f p = inr (record { outgoing = e; timer = f; pays = p })
+
+  fresh4 : cond {A = ℕ} a.special 0 4 ≡ 4
+  fresh4 = ap (λ b. cond {A = ℕ} b 0 4) s
+
+  four : special ≡ false → cond {A = ℕ} special 0 4 ≡ 4
+  four e = ap (λ b. cond {A = ℕ} b 0 4) e
+
+  due : (b : Bool) (word : BreakWord)
+      → cond b (Some (Brk (a.own_breaks.answered % 2) (slice_index_or a.own_breaks.lengths a.own_breaks.answered 0))) None ≡ Some word
+      → cond {A = ℕ} b 8 0 ≡ 8
+  due b word e = grind (arith)
+
+  none-new : (x y : Bool) → x ≡ false → y ≡ false → differs x y && (is_originator a.setup.role || a.numbered) ≡ true → ⊥
+  none-new b y e f g = grind (arith)
+
+  -- where no word is to be said no break is to be answered
+  unasked : special ≡ false → NoWord special a → is_some a.their_breaks.ack ≡ false
+  unasked e (inl f) = let wrong : false ≡ true = sym e ∙ f in cc
+  unasked e (inr f) = ap is_some f.1
+
+  rejected : (i : Incoming) (x : ℕ) → i.srej ≡ false → i.rej ≡ true
+      → cond (cond i.srej (record i { asked = i.asked ++ x ∷ [] }) (record i { rej = false })).srej 0
+      (cond (cond i.srej (record i { asked = i.asked ++ x ∷ [] }) (record i { rej = false })).rej 16 0 + cond
+      (cond i.srej (record i { asked = i.asked ++ x ∷ [] }) (record i { rej = false })).gapped 0 8) + 16
+      ≡ cond i.srej 0 (cond i.rej 16 0 + cond i.gapped 0 8)
+  rejected i x e f =
+      ap (λ j. cond j.srej 0 (cond j.rej 16 0 + cond j.gapped 0 8) + 16)
+      (ap (λ b. cond b (record i { asked = i.asked ++ x ∷ [] }) (record i { rej = false })) e)
+      ∙ (ap (λ b. cond b 0 (0 + cond i.gapped 0 8) + 16) e
+      ∙ (sums (cond i.gapped 0 8)
+      ∙ sym (ap (λ b. cond b 0 (cond i.rej 16 0 + cond i.gapped 0 8)) e ∙ ap (λ b. cond b 16 0 + cond i.gapped 0 8) f)))
+    where
+      sums : (n : ℕ) → 0 + n + 16 ≡ 16 + n
+      sums n = omega arith
+
+  kept : (i : Incoming) (x : ℕ) → i.srej ≡ true
+      → cond (cond i.srej (record i { asked = i.asked ++ x ∷ [] }) (record i { rej = false })).srej 0
+      (cond (cond i.srej (record i { asked = i.asked ++ x ∷ [] }) (record i { rej = false })).rej 16 0 + cond
+      (cond i.srej (record i { asked = i.asked ++ x ∷ [] }) (record i { rej = false })).gapped 0 8)
+      ≡ 0
+  kept i x e =
+      ap (λ j. cond j.srej 0 (cond j.rej 16 0 + cond j.gapped 0 8))
+      (ap (λ b. cond b (record i { asked = i.asked ++ x ∷ [] }) (record i { rej = false })) e)
+      ∙ ap (λ b. cond b 0 (cond i.rej 16 0 + cond i.gapped 0 8)) e
+
+  pub steps-go : Steps (Goes turn special a) turn special a
+  steps-go = record {
+    answers = λ d e. let wrong : None ≡ Some d = sym h.answer ∙ e in cc;
+    final = λ n e. holds _ refl refl (Replies e (omega (arith, fresh4)));
+    poll = λ n r e. holds _ refl refl (Much (omega (arith, fresh4, ap (λ b. cond {A = ℕ} b 16 0) e)));
+    segment = λ b u n e. inl (sent-well z (length a.outgoing.pieces) turn a.outgoing a.wait.timer n y h.sends (omega arith)
+        (sym (ap (λ b. cond b (next_number a.outgoing) None) h.may) ∙ e)).waits;
+    brkack = λ b e word f. holds _ refl refl (Much (omega (arith, four e, ap (λ m. cond {A = ℕ} (is_some m) 8 0) f)));
+    brk = λ b e n word f. holds _ refl refl (Much (omega (arith, four e, due a.own_breaks.brk word f)));
+    tell = λ b w e. elim e [
+      | inl n ↦ absurd (none-new a.owes.busy a.owes.busy_told h.busy h.told n)
+      | inr o ↦ absurd (some-free z turn a h o.0)
+    ];
+    rej = λ b w n k. holds _ refl refl
+        (Much (omega (arith, fresh4, rejected a.incoming n k.kind (asks-rej a.incoming n k.kind k.number))));
+    srej = λ b w e n k. holds _ refl refl (Srejs k.kind (unasked e w) (omega (arith, four e, kept a.incoming n k.kind)));
+    flags = λ i. absurd (some-free z turn a h i.segment);
+  }
+
+-- A turn of an end that stays Connected, where no user is busy.
 
 -- an end between turns that is Connected and may send
 pub record Linking (z : Rates) (turn : ℕ) (role : Role) (a : Account) : Type 0 where
@@ -89,7 +228,7 @@ module _ {z : Rates} {user : User} {turn : ℕ} {role : Role} {a : Account} {arr
       s = stays i l.phase release speaks after
 
       p : Spoke z total (length user.breaks) turn role b said
-      p = spoke z total (length user.breaks) turn role b said y k s.linked i.b_role all s.says
+      p = spoke z total (length user.breaks) turn role b y k s.linked i.b_role all said s.says
 
       busy-is : b.owes.busy ≡ false
       busy-is = s.serves.busy_now (ap is_connected s.mid_phase) ∙ calm
@@ -119,52 +258,41 @@ module _ {z : Rates} {user : User} {turn : ℕ} {role : Role} {a : Account} {arr
 
       may-said : Takes turn polled a mid → may_send_at said.account ≡ true
       may-said t = or-numbered (is_originator a.setup.role) (is_originator said.account.setup.role) a.numbered said.account.numbered
-          (ap (λ x. is_originator x.role) (p.stepped.same.setup ∙ (p.is_timed.same.setup ∙ s.setup)))
-          (λ n. p.stepped.same.numbered ∙ (p.is_timed.same.numbered ∙ (s.serves.numbered ∙ t.numbered n))) l.may
+          (ap (λ x. is_originator x.role) (p.stepped.setup ∙ (p.is_timed.setup ∙ s.setup)))
+          (λ n. p.stepped.numbered ∙ (p.is_timed.numbered ∙ (s.serves.numbered ∙ t.numbered n))) l.may
 
       may-served : Takes turn polled a mid → may_send_at b ≡ true
       may-served t = or-numbered (is_originator a.setup.role) (is_originator b.setup.role) a.numbered b.numbered
           (ap (λ x. is_originator x.role) s.setup) (λ n. s.serves.numbered ∙ t.numbered n) l.may
 
       mid-linked : Linked z (turn + 1) turn role mid
-      mid-linked = linked-stand z (turn + 1) turn role mid
-          (subst (λ q. Stands z (turn + 1) turn role q mid) (sym i.heard.phase ∙ s.mid_phase) i.heard.stands)
+      mid-linked = subst (λ q. Stands z (turn + 1) turn role q mid) (sym i.heard.phase ∙ s.mid_phase) i.heard.stands
 
       holds : Takes turn polled a mid → is_waiting b.outgoing ≡ false → said.account.outgoing.front < total
           → (is_waiting said.account.outgoing ≡ true) ⊎ (held_value (turn + 1) said.account + 3 ≤ held_value turn a + eight_if polled)
-      holds t idle less = by (subst (Goes turn b.special d) said-is (steps-go z turn b.special d y ready refl))
+      holds t idle less = untimed z total (length user.breaks) turn role b y k s.linked Lingers
+          (stopped b.wait.timer (s.linked.sends.cause ∙ idle)) rows said s.says
         where
-          no-timer : b.wait.timer ≡ None
-          no-timer = stopped b.wait.timer (s.linked.sends.cause ∙ idle)
-            where
-              stopped : (m : Option ℕ) → is_some m ≡ false → m ≡ None
-              stopped None e = refl
-              stopped (Some set) e = cc
-
-          q : TicksOnly turn b p.timed
-          q = ticks-only z turn b p.timed y k no-timer p.timers
-
-          d : Account
-          d = record b { own_breaks = q.own; special = false }
-
-          said-is : steps turn b.special d ≡ said
-          said-is = subst (λ x. steps turn b.special (record x { special = false }) ≡ said) q.timed_is p.said_is
-
-          linked : Linked z (turn + 1) (turn + 1) role d
-          linked = subst (λ x. Linked z (turn + 1) (turn + 1) role (record x { special = false })) q.timed_is
-              (timed-linked z total (length user.breaks) turn role b p.timed p.is_timed)
+          Lingers : Said → Type 0
+          Lingers x = (is_waiting x.account.outgoing ≡ true)
+              ⊎ (held_value (turn + 1) x.account + 3 ≤ held_value turn a + eight_if polled)
 
           pieces-said : said.account.outgoing.pieces ≡ b.outgoing.pieces
-          pieces-said = p.stepped.same.pieces ∙ p.is_timed.same.pieces
+          pieces-said = p.stepped.pieces ∙ p.is_timed.pieces
 
           more : b.outgoing.front < length b.outgoing.pieces
           more = full-or-ended total b.outgoing
               (ap (λ x. cond x (wanted b.outgoing) None) (sym (ap is_connected s.phase)) ∙ s.serves.wants_none) s.linked.sends.window
-              (λ e. ap (λ x. length x) (sym pieces-said) ∙ offered.whole (p.stepped.same.ended ∙ (p.is_timed.same.ended ∙ e)))
+              (λ e. ap (λ x. length x) (sym pieces-said) ∙ offered.whole (p.stepped.ended ∙ (p.is_timed.ended ∙ e)))
               (omega (arith, less, front-said))
 
-          ready : Ready z turn d
-          ready = record {
+          unreplied : a.owes.reply ≡ false
+          unreplied = l.none_due.reply (ap is_released l.phase)
+
+          rows : (own : OwnBreaks) → ticked turn b.setup.period b.setup.tries b.own_breaks ≡ Some own
+              → Linked z (turn + 1) (turn + 1) role (record b { own_breaks = own; special = false })
+              → Steps Lingers turn b.special (record b { own_breaks = own; special = false })
+          rows own tick linked = steps-so _ _ turn b.special d by (steps-go z turn b.special d y (record {
             sends = linked.sends;
             idle = idle;
             answer = s.serves.answer ∙ t.answer l.none_due.answer l.may;
@@ -172,39 +300,39 @@ module _ {z : Rates} {user : User} {turn : ℕ} {role : Role} {a : Account} {arr
             told = s.serves.busy_told ∙ (t.told ∙ l.told);
             may = may-served t;
             more = more;
-          }
-
-          base : base_value turn b.special d + owed_by a ≤ held_value turn a + owed_by mid + 1
-          base = omega (
-            arith,
-            (served-owes turn (length user.breaks) (is_busy turn user.busy) mid b s.serves),
-            (served-own z turn (length user.breaks) (is_busy turn user.busy) mid b mid-linked.breaks s.serves),
-            t.own,
-            q.value,
-            ap (λ x. cond {A = ℕ} x 0 4) (s.serves.special ∙ t.special),
-            ap (λ x. cond {A = ℕ} x 16 0) (ap (λ w. w.poll) s.serves.wait ∙ t.poll),
-          )
-
-          unreplied : a.owes.reply ≡ false
-          unreplied = l.none_due.reply (ap is_released l.phase)
-
-          by : Goes turn b.special d said
-              → (is_waiting said.account.outgoing ≡ true) ⊎ (held_value (turn + 1) said.account + 3 ≤ held_value turn a + eight_if polled)
-          by (inl w) = inl w
-          by (inr h) = inr (pays h.pays)
+          }) refl)
             where
-              pays : Pays turn b.special d said.account → held_value (turn + 1) said.account + 3 ≤ held_value turn a + eight_if polled
-              pays (Replies e less) = let x = t.asked unreplied (sym s.serves.reply ∙ e) in omega (arith, less, base, x.1, ap eight_if x.0)
-              pays (Much less) = omega (arith, less, base, t.gain)
-              pays (Srejs e n less) =
+              d : Account
+              d = record b { own_breaks = own; special = false }
+
+              base : base_value turn b.special d + owed_by a ≤ held_value turn a + owed_by mid + 1
+              base = omega (
+                arith,
+                (served-owes turn (length user.breaks) (is_busy turn user.busy) mid b s.serves),
+                (served-own z turn (length user.breaks) (is_busy turn user.busy) mid b mid-linked.breaks s.serves),
+                t.own,
+                ticks-value z turn b own y k tick,
+                ap (λ x. cond {A = ℕ} x 0 4) (s.serves.special ∙ t.special),
+                ap (λ x. cond {A = ℕ} x 16 0) (ap (λ w. w.poll) s.serves.wait ∙ t.poll),
+              )
+
+              pays : (x : Said) → Pays turn b.special d x.account
+                  → held_value (turn + 1) x.account + 3 ≤ held_value turn a + eight_if polled
+              pays x (Replies e less) = let q = t.asked unreplied (sym s.serves.reply ∙ e) in omega (arith, less, base, q.1, ap eight_if q.0)
+              pays x (Much less) = omega (arith, less, base, t.gain)
+              pays x (Srejs e n less) =
                   omega (arith, less, base, t.calm (sym s.serves.srej ∙ e) (ap (λ x. is_some x.ack) (sym s.serves.ack) ∙ n))
+
+              by : (x : Said) → Goes turn b.special d x → Lingers x
+              by x (inl w) = inl w
+              by x (inr h) = inr (pays x h.pays)
 
       -- none is wanted: the file has ended, or the window is full
       some-left : is_whole said.account.outgoing ≡ false → said.account.outgoing.front < length said.account.outgoing.pieces
       some-left e = go b.outgoing.ended refl (nat_lt (length b.outgoing.pieces) (b.outgoing.front + b.outgoing.window)) refl none
         where
           pieces-same : length said.account.outgoing.pieces ≡ length b.outgoing.pieces
-          pieces-same = ap (λ x. length x) (p.stepped.same.pieces ∙ p.is_timed.same.pieces)
+          pieces-same = ap (λ x. length x) (p.stepped.pieces ∙ p.is_timed.pieces)
 
           none : cond (not b.outgoing.ended && nat_lt (length b.outgoing.pieces) (b.outgoing.front + b.outgoing.window))
               (Some (length b.outgoing.pieces)) None ≡ None
@@ -221,10 +349,10 @@ module _ {z : Rates} {user : User} {turn : ℕ} {role : Role} {a : Account} {arr
           go true f l g h =
               let other : nat_eq said.account.outgoing.front (length said.account.outgoing.pieces) ≡ false =
               ap (λ x. x && nat_eq said.account.outgoing.front (length said.account.outgoing.pieces))
-              (sym (p.stepped.same.ended ∙ (p.is_timed.same.ended ∙ f))) ∙ e in
-              let low = p.stepped.sends.front_from in
-              let mid = p.stepped.sends.from_high in
-              let high = p.stepped.sends.high_pieces in
+              (sym (p.stepped.ended ∙ (p.is_timed.ended ∙ f))) ∙ e in
+              let low = p.stepped.linked.sends.front_from in
+              let mid = p.stepped.linked.sends.from_high in
+              let high = p.stepped.linked.sends.high_pieces in
               less said.account.outgoing.front (length said.account.outgoing.pieces) (omega (arith, low, mid, high)) other
             where
               less : (m n : ℕ) → m ≤ n → nat_eq m n ≡ false → m < n

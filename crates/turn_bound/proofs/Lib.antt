@@ -1,44 +1,28 @@
-pub mod Clock
+pub mod Truths
 pub mod Value
+pub mod Light
 pub mod Run
-pub mod Potential
-pub mod Arithmetic
+mod Lines
 pub mod Sender
 pub mod Sending
-mod Breaking
 pub mod Hearing
-mod Offers
-pub mod Phases
-pub mod Speaking
-pub mod Turning
 pub mod Serving
-pub mod Serves
-mod Still
-pub mod SpeakStill
-pub mod Light
+pub mod Speaking
 pub mod OneTurn
-mod StillTurn
-mod Lines
+pub mod StillTurn
 pub mod Falls
 pub mod Ending
-pub mod MeetHear
-pub mod MeetSpeak
-pub mod Meeting
-mod Soon
-mod Spending
 pub mod AtMostOne
-mod Sizes
-pub mod Tied
-mod Credits
+pub mod MeetHear
+pub mod Meeting
 mod Taking
-mod Asking
-mod Polling
 mod Pausing
-mod Holding
-mod HeldTurn
 mod Polled
+pub mod Tied
 pub mod CalmRuns
+mod Sizes
+mod Soon
+pub mod Bounding
+mod HeldTurn
 mod Wholeness
 mod Advancing
-mod Counted
-pub mod Bounding

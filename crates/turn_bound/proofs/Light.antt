@@ -1,10 +1,9 @@
-use Rattle.std.proofs.Common.{◌≡◌, ℕ, ◌≤◌, ◌&&◌, ap, Bool, true, false, arith, refl, subst, Result, Ok, Err}
-use Rattle.link_account.proofs.Names.{BreakWord, BreakFault, Brk, Ack, word_in, LinkFault, Account, is_connected, trying, Said, frame_for}
-use Rattle.link_account.proofs.Names.{nr_of, ready_frame, speak}
+use Rattle.std.proofs.Common.{◌≡◌, ℕ, ◌≤◌, ap, Bool, true, false, arith, refl, subst, Result, Ok, Err}
+use Rattle.link_account.proofs.Names.{BreakWord, BreakFault, word_in, LinkFault, Account, is_connected, trying, Said, frame_for, nr_of}
+use Rattle.link_account.proofs.Names.{ready_frame, speak}
 use Rattle.link_run.proofs.Names.{Releasing, Answer}
 use Rattle.break_signals.specs.Words.{spelled}
-use Rattle.turn_bound.proofs.Clock.{one_if}
-use Rattle.turn_bound.proofs.Value.{two_if, weight, frame_weight, word_weight, rnrs, frame_rnrs}
+use Rattle.turn_bound.proofs.Value.{one_if, two_if, weight, frame_weight, word_weight, rnrs, frame_rnrs}
 use Rattle.link_account.proofs.SpeakWays.{Steps, Ways, by-ways, linked-alike, tries-alike, retimed}
 use Rattle.link_account.specs.declared.answer.Answer.TheVariants as answers
 
@@ -20,8 +19,7 @@ none-most : (b : Bool) → 0 ≤ one_if b
 none-most b = omega arith
 
 two-most : (b : Bool) → two_if b ≤ 2
-two-most true = omega arith
-two-most false = omega arith
+two-most b = grind (arith)
 
 answer-light : (busy : Bool) (d : Answer) (a : Account) → (weight (frame_for d a) ≤ 2) × (rnrs (frame_for d a) ≤ one_if busy)
 answer-light busy answers.Adp a = (omega arith, none-most busy)
@@ -31,13 +29,10 @@ answer-light busy (answers.Dm pf) a = (omega arith, none-most busy)
 
 ready-light : (busy command pf : Bool) (nr : ℕ)
     → (frame_weight (ready_frame busy command nr pf) ≤ 2) × (frame_rnrs (ready_frame busy command nr pf) ≤ one_if busy)
-ready-light true command pf nr = (two-most (command && pf), omega arith)
-ready-light false command pf nr = (two-most (command && pf), omega arith)
+ready-light b command pf nr = grind (arith)
 
 word-light : (r : Result BreakWord BreakFault) → word_weight r ≤ 2
-word-light (Ok (Brk number length_octet)) = omega arith
-word-light (Ok (Ack number length_octet)) = omega arith
-word-light (Err fault) = omega arith
+word-light b = grind (arith)
 
 steps-light : (turn : ℕ) (special : Bool) (a : Account) → Steps (Light a.owes.busy) turn special a
 steps-light turn special a = record {

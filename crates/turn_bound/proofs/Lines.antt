@@ -2,11 +2,9 @@ use Rattle.std.proofs.Common.{◌≡◌, ℕ, ◌+◌, ◌-◌, ◌*◌, ◌<◌
 use Rattle.std.proofs.Common.{◌++◌, length, arith, refl}
 use Rattle.link_account.proofs.Names.{is_some, AllByRecursion, nat_tests, Sent, Arrived, Account, Slot, arrives}
 use Rattle.link_run.proofs.Names.{is_busy}
-use Rattle.turn_bound.proofs.Clock.{one_if, is_free}
-use Rattle.turn_bound.proofs.Value.{weight, rnrs, arrived_weight, arrived_rnrs, dues, two_if, four_if}
+use Rattle.turn_bound.proofs.Value.{one_if, is_free, weight, rnrs, arrived_weight, arrived_rnrs, dues, two_if, four_if}
 use Rattle.link_run.specs.End.{BusyLine, busy_left, busy_turns}
-use Rattle.turn_bound.proofs.Run.{arrival, left_on}
-use Rattle.turn_bound.proofs.Potential.{weights, rnrs_on}
+use Rattle.turn_bound.proofs.Run.{arrival, left_on, weights, rnrs_on}
 use Rattle.lapm_frames.specs.declared.sent.Sent.TheVariants as slots
 use Rattle.lapm_frames.specs.declared.arrived.Arrived.TheVariants as arrivals
 
@@ -76,16 +74,13 @@ weights-most [] h = omega arith
 weights-most (s ∷ line) h = omega (arith, h.0, weights-most line h.1)
 
 two-most : (b : Bool) → two_if b ≤ 2
-two-most true = omega arith
-two-most false = omega arith
+two-most b = grind (arith)
 
 four-most : (b : Bool) → four_if b ≤ 4
-four-most true = omega arith
-four-most false = omega arith
+four-most b = grind (arith)
 
 one-most : (b : Bool) → one_if b ≤ 1
-one-most true = omega arith
-one-most false = omega arith
+one-most b = grind (arith)
 
 pub dues-most : (total : ℕ) (a : Account) → dues total a ≤ 15
 dues-most total a =

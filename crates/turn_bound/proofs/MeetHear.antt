@@ -1,18 +1,13 @@
-use Rattle.std.proofs.Common.{◌≡◌, ℕ, ◌&&◌, ◌||◌, not, Bool, true, false, cond, refl, sym, ◌∙◌, ap, Option, Some, Ok, inl, inr}
-use Rattle.link_account.proofs.Names.{Originator, Answerer, Frame, Rr, Rnr, Rej, Outgoing, is_outstanding, resumed, Arrived}
-use Rattle.link_account.proofs.Names.{Account, is_originator, hear, without_adp}
-use Rattle.link_run.proofs.Names.{Phase, Detecting, Negotiating, Establishing, Connected, Releasing, Closed, Answer, is_closed, is_released}
+use Rattle.std.proofs.Common.{arith, ◌≡◌, ℕ, ◌&&◌, ◌||◌, not, Bool, true, false, cond, refl, sym, ◌∙◌, ap, Option, Ok, inl, inr}
+use Rattle.turn_bound.proofs.Truths.{or-first, or-true}
+use Rattle.link_account.proofs.Names.{Originator, Answerer, Frame, Rr, Rnr, Rej, Outgoing, is_outstanding, resumed, Arrived, Account}
+use Rattle.link_account.proofs.Names.{is_originator, hear, without_adp}
+use Rattle.link_run.proofs.Names.{Phase, Detecting, Negotiating, Establishing, Connected, Answer, is_closed, is_released}
 use Rattle.link_account.specs.Hear.{ends_wait}
 use Rattle.link_account.proofs.HearWays.{Ways, by-ways, acked, acked_back, numbers-alike}
 pub use Rattle.link_run.proofs.Meeting.{is_ua as frame_ua, is_disc as frame_disc, carries as of_frame, brings as of_arrived}
 pub use Rattle.link_run.proofs.Meeting.{owes_ua as is_ua_due}
-use Rattle.link_account.specs.declared.answer.Answer.TheVariants as answers
-
-abbrev pub is_begun : Phase → Bool
-is_begun Connected = true
-is_begun Releasing = true
-is_begun Closed = true
-is_begun p = false
+pub use Rattle.link_account.specs.Laws.{has_begun as is_begun}
 
 -- the answer to a poll
 abbrev pub frame_final : Frame → Bool
@@ -26,9 +21,6 @@ pub record OHeard (ua final : Bool) (a b : Account) : Type 0 where
   pub begins : is_begun b.phase ≡ true → is_begun a.phase || ua ≡ true
   pub released : is_released a.phase ≡ true → is_released b.phase ≡ true
   pub awaits : (a.phase ≡ Connected → a.outgoing.awaited ≡ true) → final ≡ false → b.phase ≡ Connected → b.outgoing.awaited ≡ true
-
-or-first : (b c : Bool) → b ≡ true → b || c ≡ true
-or-first b c e = rw e refl
 
 o-same : (ua final : Bool) (a b : Account) → b.phase ≡ a.phase → b.outgoing.awaited ≡ a.outgoing.awaited → OHeard ua final a b
 o-same ua final a b p w = record {
@@ -56,13 +48,7 @@ resumed-awaited o = by o.paused
 -- a number is heard: the wait goes on unless the answer came
 acked-awaits : (command pf final : Bool) (a : Account) (n : ℕ) → ends_wait command pf a ≡ final → pf && not command ≡ false
     → ((acked final a.outgoing n).awaited ≡ a.outgoing.awaited) × ((acked_back final a.outgoing n).awaited ≡ a.outgoing.awaited)
-acked-awaits command pf true a n e f = let wrong : true ≡ false = sym e ∙
-    (ap (λ x. a.outgoing.awaited && x) f ∙ none a.outgoing.awaited) in cc
-  where
-    none : (b : Bool) → b && false ≡ false
-    none true = refl
-    none false = refl
-acked-awaits command pf false a n e f = (refl, refl)
+acked-awaits command pf b a n e f = grind (arith)
 
 o-number : (ua final : Bool) (a b : Account) → a.phase ≡ Connected → b.phase ≡ Connected
     → (final ≡ false → b.outgoing.awaited ≡ a.outgoing.awaited) → OHeard ua final a b
@@ -100,7 +86,7 @@ o-ways turn a er = record {
     sabme_first = λ p r pf. never r;
     sabme = λ p r pf. never r;
     ua = λ p. record {
-      begins = λ h. or-second (is_begun a.phase);
+      begins = λ h. or-true (is_begun a.phase);
       released = λ h. let wrong : true ≡ false = sym h ∙ ap is_released p in cc;
       awaits = λ h f i. ap is_originator er;
     };
@@ -116,10 +102,6 @@ o-ways turn a er = record {
     never : {A : Type 0} → a.setup.role ≡ Answerer → A
     never r = let wrong : Originator ≡ Answerer = sym er ∙ r in cc
 
-    or-second : (b : Bool) → b || true ≡ true
-    or-second true = refl
-    or-second false = refl
-
 pub o-hears : (arrived : Arrived) (turn : ℕ) (a mid : Account) → a.setup.role ≡ Originator → hear turn arrived a ≡ Ok mid
     → OHeard (of_arrived frame_ua arrived) (of_arrived frame_final arrived) a mid
 o-hears arrived turn a mid er h = by-ways _ turn a (o-ways turn a er) arrived mid h
@@ -133,8 +115,7 @@ pub record AHeard (disc : Bool) (a b : Account) : Type 0 where
   pub numbered : a.numbered ≡ true → b.numbered ≡ true
 
 closed-released : (p : Phase) (c : Bool) → is_closed p ≡ true → is_released p || c ≡ true
-closed-released Closed c e = refl
-closed-released p c e = cc
+closed-released p c e = grind (arith)
 
 a-same : (disc : Bool) (a b : Account) → b.phase ≡ a.phase → (is_ua_due b.owes.answer ≡ true → is_ua_due a.owes.answer ≡ true)
     → b.owes.reply ≡ a.owes.reply → b.numbered ≡ a.numbered → AHeard disc a b
@@ -196,12 +177,7 @@ a-ways turn a er = record {
 }
   where
     less : (m : Option Answer) → is_ua_due (without_adp m) ≡ true → is_ua_due m ≡ true
-    less (Some (answers.Ua pf)) h = refl
-    less p h = cc
-
-    or-true : (b : Bool) → b || true ≡ true
-    or-true true = refl
-    or-true false = refl
+    less p h = grind (arith)
 
     never : {A : Type 0} → a.setup.role ≡ Originator → A
     never r = let wrong : Answerer ≡ Originator = sym er ∙ r in cc

@@ -1,15 +1,11 @@
-use Rattle.std.proofs.Common.{◌≡◌, ℕ, ◌+◌, ◌*◌, ◌≤◌, Bool, true, false, length, arith, sym, ◌∙◌, ap, subst, Result, Ok, Err, refl}
-use Rattle.link_account.proofs.Names.{Role, Arrived, LinkFault, Account, hear, Said, speak, other}
+use Rattle.std.proofs.Common.{◌≡◌, ℕ, ◌+◌, ◌*◌, ◌≤◌, Bool, true, false, length, arith, sym, ◌∙◌, ap, subst, Ok}
+use Rattle.link_account.proofs.Names.{Role, Arrived, Account, hear, Said, speak}
 use Rattle.link_run.proofs.Names.{Phase, User, is_busy, is_closed}
-use Rattle.turn_bound.proofs.Clock.{Rates, AreRates, ends, lasts}
-use Rattle.turn_bound.proofs.Value.{value, lives, IsOf, Stands, arrived_rnrs}
+use Rattle.turn_bound.proofs.Value.{Rates, AreRates, ends, lasts, value, lives, IsOf, Stands, arrived_rnrs}
 use Rattle.turn_bound.proofs.Run.{served_account}
-use Rattle.turn_bound.proofs.Hearing.{HeardAs, HearsWell}
-use Rattle.turn_bound.proofs.Phases.{hears-well}
-use Rattle.turn_bound.proofs.Serving.{serves-all, Served}
-use Rattle.turn_bound.proofs.Serves.{serves-well}
-use Rattle.turn_bound.proofs.Speaking.{SpeaksAs, SpeaksWell}
-use Rattle.turn_bound.proofs.Turning.{speaks-well}
+use Rattle.turn_bound.proofs.Hearing.{HeardAs, hears-well}
+use Rattle.turn_bound.proofs.Serving.{serves-all, Served, serves-well}
+use Rattle.turn_bound.proofs.Speaking.{SpeaksAs, speaks-well}
 
 -- what a whole turn makes of an end
 pub record TurnsAs (z : Rates) (total breaks turn more : ℕ) (role : Role) (p : Phase) (a mid : Account) (q : Phase)
@@ -27,18 +23,6 @@ pub record TurnsAs (z : Rates) (total breaks turn more : ℕ) (role : Role) (p :
 
 lasts-chain : (k : ℕ) (a b c d : Bool) → lasts k a d ≤ ends k a b + ends k b c + lasts k c d
 lasts-chain k a b c d = grind (arith)
-
-pub heard-ok : (z : Rates) (total breaks turn more : ℕ) (role : Role) (p : Phase) (a mid : Account) (r : Result Account LinkFault)
-    → r ≡ Ok mid → HearsWell z total breaks turn more role p a r → (q : Phase) × HeardAs z total breaks turn more role p a q mid
-heard-ok z total breaks turn more role p a mid (Err fault) e h = cc
-heard-ok z total breaks turn more role p a mid (Ok b) e h = let same : b ≡ mid = cc in
-    subst (λ c. (q : Phase) × HeardAs z total breaks turn more role p a q c) same h
-
-pub said-ok : (z : Rates) (total breaks turn : ℕ) (role : Role) (p : Phase) (a : Account) (said : Said) (r : Result Said LinkFault)
-    → r ≡ Ok said → SpeaksWell z total breaks turn role p a r → (q : Phase) × SpeaksAs z total breaks turn role p a q said.account
-said-ok z total breaks turn role p a said (Err fault) e h = cc
-said-ok z total breaks turn role p a said (Ok other) e h = let same : other ≡ said = cc in
-    subst (λ c. (q : Phase) × SpeaksAs z total breaks turn role p a q c.account) same h
 
 -- One end in a turn: a before it hears, mid once it has heard, b once it is served.
 pub record Hearing (z : Rates) (user : User) (turn : ℕ) (role : Role) (a : Account) (arrived : Arrived) (mid b : Account) : Type 0 where
@@ -62,8 +46,7 @@ pub hearing : {z : Rates} (user : User) {turn : ℕ} {role : Role} {arrived : Ar
 hearing {z} user {turn} {role} {arrived} {a} {mid} released y k h er hears =
     let breaks : ℕ = length user.breaks in
     let b : Account = served_account user turn released mid in
-    let first = heard-ok z (length a.outgoing.pieces) breaks turn (z.quota * arrived_rnrs arrived) role a.phase a mid (hear turn arrived a)
-    hears (hears-well z (length a.outgoing.pieces) breaks turn role a.phase arrived a y k h refl er (omega arith)) in
+    let first = hears-well z (length a.outgoing.pieces) breaks turn role arrived a mid y k h er (omega arith) hears in
     let s = serves-all user turn released mid in
     let setup = s.setup ∙ first.1.setup in
     record {
@@ -88,8 +71,8 @@ module _ {z : Rates} {user : User} {turn : ℕ} {role : Role} {a : Account} {arr
   -- what it says
   pub spoken-as : (total : ℕ) (release : Bool) {said : Said} → speak turn release b ≡ Ok said → length b.outgoing.pieces ≤ total
       → (q : Phase) × SpeaksAs z total (length user.breaks) turn role i.phase b q said.account
-  spoken-as total release {said} speaks all = said-ok z total (length user.breaks) turn role i.phase b said (speak turn release b) speaks
-      (speaks-well z total (length user.breaks) turn role i.phase release b i.rates i.b_is_of i.b_stands i.b_phase i.b_role all)
+  spoken-as total release {said} speaks all = speaks-well z total (length user.breaks) turn role i.phase release b said i.rates i.b_is_of
+      i.b_stands i.b_phase i.b_role all speaks
 
   -- the whole turn
   pub one-turn : (total : ℕ) (release : Bool) {said : Said} → speak turn release b ≡ Ok said → length b.outgoing.pieces ≤ total
@@ -99,9 +82,8 @@ module _ {z : Rates} {user : User} {turn : ℕ} {role : Role} {a : Account} {arr
       let breaks : ℕ = length user.breaks in
       let s = i.serves in
       let same-length : length mid.outgoing.pieces ≡ length a.outgoing.pieces = ap (λ l. length l) i.heard.pieces in
-      let heard = heard-ok z total breaks turn more role a.phase a mid (hear turn arrived a) i.hears
-      (hears-well z total breaks turn role a.phase arrived a i.rates i.is_of i.stands refl i.role_is
-      (omega (arith, same-length, s.longer.longer, all))) in
+      let heard = hears-well z total breaks turn role arrived a mid i.rates i.is_of i.stands i.role_is
+      (omega (arith, same-length, s.longer.longer, all)) i.hears in
       let same : heard.0 ≡ i.phase = sym heard.1.phase ∙ i.heard.phase in
       let serves = serves-well z total breaks turn (is_busy turn user.busy) role heard.0 mid b i.rates heard.1.stands heard.1.phase s in
       let spoke = subst (λ p. (q : Phase) × SpeaksAs z total breaks turn role p b q said.account) (sym same)

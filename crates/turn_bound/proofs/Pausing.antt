@@ -2,12 +2,12 @@
 use Rattle.std.proofs.Common.{◌≡◌, ℕ, Bool, true, false, arith, refl, sym, ◌∙◌, ap, subst, Option, Ok, inl, inr}
 use Rattle.link_account.proofs.Names.{Disc, Outgoing, Arrived, Account, is_connected, hear, on_nothing, trying, Said, speak}
 use Rattle.link_account.proofs.Names.{speak_releasing, Incoming, frame_for}
-use Rattle.link_run.proofs.Names.{Phase, Detecting, Connected, Releasing, Closed, Answer, is_released}
+use Rattle.link_run.proofs.Names.{Phase, Connected, Releasing, Answer, is_released}
 use Rattle.turn_bound.proofs.Value.{arrived_rnrs}
 use Rattle.link_account.proofs.HearWays.{numbered_with, acked, acked_back, resumed-unpaused}
 use Rattle.link_account.proofs.SpeakWays.{OnSaid, Steps, linked-alike, tries-alike, by-tries, retimed, next-keeps}
 use Rattle.turn_bound.proofs.MeetHear.{is_begun, of_frame}
-use Rattle.turn_bound.proofs.Credits.{frame_poll}
+use Rattle.turn_bound.proofs.Taking.{frame_poll}
 use Rattle.link_account.specs.declared.answer.Answer.TheVariants as answers
 use Rattle.link_account.proofs.HearWays as HearWays
 use Rattle.link_account.proofs.SpeakWays as SpeakWays
@@ -22,10 +22,7 @@ pub record Goes (a b : Account) : Type 0 where
   pub told : b.owes.busy_told ≡ a.owes.busy_told
 
 unbegun : (p : Phase) → is_begun p ≡ false → is_released p ≡ false
-unbegun Connected e = cc
-unbegun Releasing e = cc
-unbegun Closed e = cc
-unbegun p e = refl
+unbegun p e = grind (arith)
 
 -- from Connected
 linked-begun : (a : Account) → a.phase ≡ Connected → is_begun a.phase ≡ false → ⊥
@@ -59,8 +56,7 @@ early-goes a b e r p t =
     }
   where
     none : (q : Phase) → is_begun q ≡ false → is_released q ≡ true → ⊥
-    none Detecting f h = cc
-    none p f h = cc
+    none p f h = grind (arith)
 
 pub goes-on : (turn : ℕ) (arrived : Arrived) (a mid : Account) → arrived_rnrs arrived ≡ 0 → hear turn arrived a ≡ Ok mid → Goes a mid
 goes-on turn arrived a mid n e = HearWays.by-ways (λ x b. arrived_rnrs x ≡ 0 → Goes a b) turn a (record {

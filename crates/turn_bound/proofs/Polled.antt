@@ -1,109 +1,134 @@
--- How many polls an end sends: in a turn, and in the last turns of a run where no user is busy.
-use Rattle.std.proofs.Common.{◌≡◌, ℕ, ◌+◌, ◌*◌, ◌≤◌, ◌&&◌, Bool, true, false, cond, nat_eq, length, inl, inr, arith, refl, sym, ◌∙◌}
-use Rattle.std.proofs.Common.{ap, subst, Result, Ok, Err}
-use Rattle.link_account.proofs.Names.{Role, is_originator, Frame, Disc, Arrived, LinkFault, Account, is_connected, hear, trying, Said, says}
-use Rattle.link_account.proofs.Names.{spent, speak_linked, speak, speak_in, speak_releasing}
-use Rattle.link_run.proofs.Names.{Phase, Detecting, Negotiating, Establishing, Connected, Releasing, Closed, User, is_busy, is_released}
-use Rattle.link_account.specs.Speak.{says_frame, else_says, where_says, trying_again, tries_frame, u_try}
-use Rattle.turn_bound.proofs.Clock.{Rates, AreRates}
-use Rattle.turn_bound.proofs.Value.{IsOf, Linked, Stands, arrived_weight, arrived_rnrs}
-use Rattle.turn_bound.proofs.Run.{served_account}
-use Rattle.turn_bound.proofs.Serving.{Served, serves-all}
-use Rattle.turn_bound.proofs.Serves.{serves-well}
-use Rattle.turn_bound.proofs.Hearing.{HeardAs}
-use Rattle.turn_bound.proofs.Phases.{hears-well}
-use Rattle.turn_bound.proofs.OneTurn.{heard-ok}
-use Rattle.turn_bound.proofs.StillTurn.{linked-stand}
-use Rattle.turn_bound.proofs.MeetHear.{is_begun, of_arrived}
-use Rattle.turn_bound.proofs.MeetSpeak.{SaysSo, speaks-so}
-use Rattle.turn_bound.proofs.Credits.{frame_poll, poll_value, poll-most, timer_value}
-use Rattle.turn_bound.proofs.Taking.{takes}
-use Rattle.turn_bound.proofs.Polling.{nineteen_if, polls, heard-polls, linked-rated}
+-- An end's polls become due once in a whole period, and so once in nineteen turns.
+use Rattle.std.proofs.Common.{◌≡◌, ℕ, ◌+◌, ◌-◌, ◌≤◌, min, Bool, true, false, cond, nat_lt, inl, inr, arith, refl, ap, Option, Some, None}
+use Rattle.std.proofs.Common.{Ok, ◌&&◌, ◌∙◌, subst}
+use Rattle.link_account.proofs.Names.{Role, Outgoing, Sent, Account, Said, nr_of, ready_frame, speak_linked, frame_for, is_originator}
+use Rattle.link_account.proofs.Names.{Frame, Disc, Arrived, is_connected, trying, speak, speak_in, speak_releasing}
+use Rattle.link_run.proofs.Names.{Connected, Answer, Phase, Detecting, Negotiating, Establishing, Releasing, Closed, User, is_released}
+use Rattle.link_account.specs.Hear.{timer_after}
+use Rattle.link_account.specs.Speak.{running, u_try}
+use Rattle.turn_bound.proofs.Value.{Rates, AreRates, IsOf, Stands, arrived_weight, arrived_rnrs}
+use Rattle.link_account.proofs.SpeakWays.{Steps, steps-so, by-linked, polling_at, OnSaid, tries-alike, by-tries}
+use Rattle.turn_bound.proofs.MeetHear.{of_frame, is_begun, of_arrived}
+use Rattle.turn_bound.proofs.Taking.{frame_poll, timer_value, poll_value, TakesNumber, Takes, poll-most, takes}
+use Rattle.link_account.specs.declared.answer.Answer.TheVariants as answers
+use Rattle.turn_bound.proofs.OneTurn.{Hearing}
+use Rattle.turn_bound.proofs.Meeting.{SaysSo, speaks-so}
 use Rattle.turn_bound.proofs.Pausing.{Goes, goes-on, says-unpolled, releases-unpolled}
-use Rattle.lapm_frames.specs.declared.sent.Sent.TheVariants as slots
 
+abbrev pub nineteen_if : Bool → ℕ
+nineteen_if b = cond b 19 0
+
+abbrev pub polls : Sent → ℕ
+polls sent = nineteen_if (of_frame frame_poll sent)
+
+-- hearing sets a timer now, stops it or leaves it
+heard-timer : (turn : ℕ) (o new : Outgoing) (timer : Option ℕ) → timer_value turn (timer_after turn o new timer) ≤ timer_value turn timer
+heard-timer turn o new timer = go _ (nat_lt o.front new.front) _
+  where
+    go : (x y w : Bool) → timer_value turn (cond x None (cond y (cond w (Some turn) None) timer)) ≤ timer_value turn timer
+    go b y w = grind (arith)
+
+pub heard-polls : (turn : ℕ) (p : Bool) (a b : Account) → Takes turn p a b → poll_value turn Connected b ≤ poll_value turn Connected a
+heard-polls turn p a b t = omega (arith, ap nineteen_if t.poll, by t.number)
+  where
+    by : TakesNumber turn a b → timer_value turn b.wait.timer ≤ timer_value turn a.wait.timer
+    by (inl n) = omega (arith, ap (timer_value turn) n.1, heard-timer turn a.outgoing b.outgoing a.wait.timer)
+    by (inr n) = omega (arith, ap (timer_value turn) n.1)
+
+-- what is said of a Connected account whose timers are done
+abbrev pub Rated : ℕ → Account → Said → Type 0
+Rated turn a said = poll_value (turn + 1) Connected said.account + polls said.sent ≤ poll_value (turn + 1) Connected a
+
+ready-polls : (busy pf : Bool) (nr : ℕ) → frame_poll (ready_frame busy false nr pf) ≡ false
+ready-polls b pf nr = grind (arith)
+
+ready-most : (busy pf : Bool) (nr : ℕ) → nineteen_if (frame_poll (ready_frame busy true nr pf)) ≤ 19
+ready-most busy pf nr = go (frame_poll (ready_frame busy true nr pf))
+  where
+    go : (b : Bool) → nineteen_if b ≤ 19
+    go b = grind (arith)
+
+answer-rated : (turn : ℕ) (a b : Account) (d : Answer) → polls (frame_for d b) ≡ 0
+answer-rated turn a b answers.Adp = refl
+answer-rated turn a b answers.Xid = refl
+answer-rated turn a b (answers.Ua pf) = refl
+answer-rated turn a b (answers.Dm pf) = refl
+
+steps-rated : (turn : ℕ) (special : Bool) (a : Account) → Steps (Rated turn a) turn special a
+steps-rated turn special a = record {
+  answers = λ d e. omega (arith, answer-rated turn a a d);
+  final = λ n e. omega (arith, ap nineteen_if (ready-polls a.owes.busy true (nr_of a)));
+  poll = λ n r e. omega (arith, ap nineteen_if e, ready-most a.owes.busy true (nr_of a));
+  segment = λ b u n e. omega (arith, set a.wait.timer);
+  brkack = λ b s word e. omega arith;
+  brk = λ b s k word e. omega arith;
+  tell = λ b w e. omega (arith, ap nineteen_if (ready-polls a.owes.busy false (nr_of a)));
+  rej = λ b w n e. omega arith;
+  srej = λ b w s n e. omega arith;
+  flags = λ i. omega arith;
+}
+  where
+    set : (timer : Option ℕ) → timer_value (turn + 1) (running turn timer) ≤ timer_value (turn + 1) timer
+    set b = grind (arith)
+
+-- the timers come first: an expiry makes a poll due
+abbrev pub SaysRated : ℕ → Account → Said → Type 0
+SaysRated turn a said = poll_value (turn + 1) Connected said.account + polls said.sent ≤ poll_value turn Connected a + 1
+
+pub linked-rated : (z : Rates) (turn : ℕ) (role : Role) (a : Account) (said : Said) → AreRates z → IsOf z a.setup
+    → speak_linked turn a ≡ Ok said → SaysRated turn a said
+linked-rated z turn role a said y k e = by-linked (SaysRated turn a) turn a (record {
+  stands = λ x own t. steps-so _ _ turn a.special _ (λ s r. omega (arith, r, later a.wait.timer)) (steps-rated turn a.special _);
+  expires = λ set x own t. let long : 20 ≤ a.setup.period = omega (arith, k.period, y.period) in
+      let old : timer_value turn a.wait.timer ≡ min 19 (turn - (set + 1)) = ap (timer_value turn) x.timer in
+      steps-so _ _ turn a.special _ (λ s r. omega (arith, r, x.due, long, old)) (steps-rated turn a.special (polling_at turn a own));
+}) said e
+  where
+    later : (timer : Option ℕ) → timer_value (turn + 1) timer ≤ timer_value turn timer + 1
+    later b = grind (arith)
+
+-- How many polls an end sends: in a turn, and in the last turns of a run where no user is busy.
 late-none : (turn : ℕ) (p : Phase) (a : Account) → is_released p ≡ true → poll_value turn p a ≡ 0
-late-none turn Releasing a e = refl
-late-none turn Closed a e = refl
-late-none turn p a e = cc
+late-none turn p a e = grind (arith)
 
 begun-most : (turn : ℕ) (p : Phase) (a : Account) → is_begun p ≡ true → poll_value turn p a ≤ poll_value turn Connected a
-begun-most turn Connected a e = omega arith
-begun-most turn Releasing a e = omega arith
-begun-most turn Closed a e = omega arith
-begun-most turn p a e = cc
+begun-most turn p a e = grind (arith)
 
 same-polls : (turn : ℕ) (p : Phase) (b m : Account) → b.wait ≡ m.wait → poll_value turn p b ≡ poll_value turn p m
-same-polls turn Connected b m w = omega (arith, ap (λ x. nineteen_if x.poll) w, ap (λ x. timer_value turn x.timer) w)
-same-polls turn p b m w = refl
+same-polls turn p b m w = grind (arith)
 
-abbrev pub InPhase : Phase → Result Said LinkFault → Type 0
-InPhase p (Err fault) = Unit {0}
-InPhase p (Ok said) = said.account.phase ≡ p
-
-try-phase : (turn : ℕ) (frame : Frame) (a : Account) → InPhase a.phase (u_try turn frame a)
-try-phase turn frame a = go (nat_eq turn (a.wait.try_set + a.setup.period)) (nat_eq a.wait.try_count a.setup.tries)
-  where
-    by : (c : Account) → c.phase ≡ a.phase → (due : Bool)
-        → (else_says (where_says due (says_frame frame (record c { wait = record c.wait { try = false } })))
-        (says slots.Flags c)).account.phase ≡ a.phase
-    by c e true = e
-    by c e false = e
-
-    go : (due spent' : Bool)
-        → InPhase a.phase (cond due (cond spent' (Err (spent turn a)) (Ok (tries_frame frame (trying_again turn a))))
-        (Ok (tries_frame frame a)))
-    go false s = by a refl a.wait.try
-    go true true = tt
-    go true false = by (trying_again turn a) refl true
-
-phase-ok : (p : Phase) (said : Said) (r : Result Said LinkFault) → r ≡ Ok said → InPhase p r → said.account.phase ≡ p
-phase-ok p said (Err fault) e h = cc
-phase-ok p said (Ok other) e h = let same : other ≡ said = cc in subst (λ s. s.account.phase ≡ p) same h
+try-phase : (turn : ℕ) (frame : Frame) (a : Account) (said : Said) → u_try turn frame a ≡ Ok said → said.account.phase ≡ a.phase
+try-phase turn frame a said e = subst (OnSaid (λ s. s.account.phase ≡ a.phase)) e
+    (by-tries (λ s. s.account.phase ≡ a.phase) turn frame a (tries-alike _ turn frame a (λ w. refl) refl))
 
 -- One turn of one end.
-pub poll-turn : (z : Rates) (user : User) (turn : ℕ) (role : Role) (arrived : Arrived) (a mid : Account) (released release : Bool)
-    (said : Said)
-    → AreRates z → IsOf z a.setup → Stands z turn turn role a.phase a → a.setup.role ≡ role → arrived_weight arrived ≤ 2
-    → arrived_rnrs arrived ≡ 0
-    → hear turn arrived a ≡ Ok mid → speak turn release (served_account user turn released mid) ≡ Ok said
+pub poll-turn : {z : Rates} {user : User} {turn : ℕ} {role : Role} {a : Account} {arrived : Arrived} {mid b : Account}
+    → Hearing z user turn role a arrived mid b → (release : Bool) (said : Said) → arrived_weight arrived ≤ 2 → arrived_rnrs arrived ≡ 0
+    → speak turn release b ≡ Ok said
     → poll_value (turn + 1) said.account.phase said.account + polls said.sent ≤ poll_value turn a.phase a + 1
-poll-turn z user turn role arrived a mid released release said y k h er light quiet hears speaks =
+poll-turn {z} {user} {turn} {role} {a} {arrived} {mid} {b} i release said light quiet speaks =
     omega (arith, hearing a.phase refl, serving, speaking b.phase refl)
   where
-    b : Account
-    b = served_account user turn released mid
-
     g : Goes a mid
-    g = goes-on turn arrived a mid quiet hears
+    g = goes-on turn arrived a mid quiet i.hears
 
     hearing : (p : Phase) → a.phase ≡ p → poll_value turn mid.phase mid ≤ poll_value turn p a
     hearing Detecting e = poll-most turn mid.phase mid
     hearing Negotiating e = poll-most turn mid.phase mid
     hearing Establishing e = poll-most turn mid.phase mid
     hearing Connected e = elim
-        (takes z turn role a (linked-stand z turn turn role a (subst (λ q. Stands z turn turn role q a) e h)) e arrived mid light quiet
-        hears) [
+        (takes z turn role a (subst (λ q. Stands z turn turn role q a) e i.stands) e arrived mid light quiet i.hears) [
           | inl c ↦ omega (arith, late-none turn mid.phase mid (ap is_released c.phase))
           | inr t ↦ omega (arith, heard-polls turn (of_arrived frame_poll arrived) a mid t.1, ap (λ q. poll_value turn q mid) t.0)
         ]
     hearing Releasing e = omega (arith, late-none turn mid.phase mid (g.released (ap is_released e)))
     hearing Closed e = omega (arith, late-none turn mid.phase mid (g.released (ap is_released e)))
 
-    s : Served turn (length user.breaks) (is_busy turn user.busy) mid b
-    s = serves-all user turn released mid
-
     serving : poll_value turn b.phase b ≡ poll_value turn mid.phase mid
-    serving = ap (λ q. poll_value turn q b) s.phase ∙ same-polls turn mid.phase b mid s.wait
+    serving = ap (λ q. poll_value turn q b) i.serves.phase ∙ same-polls turn mid.phase b mid i.serves.wait
 
     so : SaysSo b said
     so = speaks-so turn release b said speaks
-
-    first : (q : Phase) × HeardAs z (length a.outgoing.pieces) (length user.breaks) turn
-        (z.quota * arrived_rnrs arrived) role a.phase a q mid
-    first = heard-ok z (length a.outgoing.pieces) (length user.breaks) turn (z.quota * arrived_rnrs arrived) role a.phase a mid
-        (hear turn arrived a) hears
-        (hears-well z (length a.outgoing.pieces) (length user.breaks) turn role a.phase arrived a y k h refl er (omega arith))
 
     nothing : is_connected b.phase ≡ false → polls said.sent ≡ 0
     nothing e = ap nineteen_if (says-unpolled turn release b said e speaks)
@@ -125,11 +150,10 @@ poll-turn z user turn role arrived a mid released release said y k h er light qu
               arith,
               ap nineteen_if (releases-unpolled turn (trying Releasing turn b) said f),
               late-none (turn + 1) said.account.phase said.account
-                  (ap is_released (phase-ok Releasing said (speak_releasing turn (trying Releasing turn b)) f
-                  (try-phase turn (Disc true) (trying Releasing turn b)))),
+                  (ap is_released (try-phase turn (Disc true) (trying Releasing turn b) said f)),
             )
         by false f = omega (
           arith,
-          linked-rated z turn role b said y (subst (IsOf z) (sym (s.setup ∙ first.1.setup)) k) f,
+          linked-rated z turn role b said i.rates i.b_is_of f,
           begun-most (turn + 1) said.account.phase said.account (so.begun ∙ ap is_begun e),
         )

@@ -1,12 +1,13 @@
 use Rattle.std.proofs.Common.{◌≡◌, ℕ, ◌+◌, ◌-◌, ◌*◌, ◌%◌, ◌<◌, ◌≤◌, ◌&&◌, ◌||◌, not, Bool, true, false, cond, nat_eq, nat_lt, nat_le, List}
 use Rattle.std.proofs.Common.{[], ◌∷◌, length, arith, refl, sym, ◌∙◌, ap, subst, Option, Some, None}
+use Rattle.turn_bound.proofs.Truths.{and-two}
 use Rattle.link_account.proofs.Names.{is_some, AllByRecursion, nat_tests, meant, Outgoing, is_outstanding, advanced, resumed, Account}
 use Rattle.lapm_sender.specs.Numbers.{with_number, from_number}
 use Rattle.lapm_sender.specs.Outgoing.{gone_back, wait_ended, paused_at}
 use Rattle.link_account.specs.Hear.{timer_after, ends_wait}
 use Rattle.link_account.proofs.HearWays.{acked, acked_back}
-use Rattle.turn_bound.proofs.Clock.{Rates, AreRates, Ticks, left, is_waiting, IsChosen, Sends, is_free, ends, sender_value}
-use Rattle.turn_bound.proofs.Arithmetic.{paid, cond-le, stopped, left-some, ticks-later, ticks-now}
+use Rattle.turn_bound.proofs.Value.{Rates, AreRates, Ticks, left, is_waiting, IsChosen, Sends, is_free, ends, sender_value, paid, cond-le}
+use Rattle.turn_bound.proofs.Value.{stopped, left-some, ticks-later, ticks-now}
 
 -- whether hearing ended what the clock ran for
 abbrev pub ended : Outgoing → Outgoing → Bool
@@ -74,9 +75,9 @@ pieces-same : (o new : Outgoing) → Heard o new → length new.pieces ≡ lengt
 pieces-same o new h = ap (λ l. length l) h.pieces
 
 heard-sends : (z : Rates) (turn : ℕ) (o new : Outgoing) (timer timer' : Option ℕ) → Sends z turn turn o timer → Heard o new
-    → is_some timer' ≡ is_waiting new → Ticks z (turn + 1) turn new.count timer'
-    → Sends z (turn + 1) turn new timer'
-heard-sends z turn o new timer timer' s h cause ticks = record {
+    → (paused : Bool) (count : ℕ) → is_some timer' ≡ (is_outstanding new || (new.awaited || paused)) → Ticks z (turn + 1) turn count timer'
+    → Sends z (turn + 1) turn (record new { paused = paused; count = count }) timer'
+heard-sends z turn o new timer timer' s h paused count cause ticks = record {
   front_from = h.front_from;
   from_high = h.from_high;
   high_pieces = omega (arith, pieces-same o new h, s.high_pieces, h.high);
@@ -103,8 +104,7 @@ worth-same z total o new h e = by new.front new.high (sym (outstanding-same o ne
 -- an advance pays for all
 falls-more : (q g w first rest rest' free free' old k : ℕ) (waits' : Bool) → rest' + q ≤ rest → free' ≤ g → q ≡ g + w + 1
     → rest' + free' + cond waits' (w + 1) 0 + ends k true waits' ≤ rest + free + old + 0
-falls-more q g w first rest rest' free free' old k true h f e = omega arith
-falls-more q g w first rest rest' free free' old k false h f e = omega arith
+falls-more q g w first rest rest' free free' old k b h f e = grind (arith)
 
 -- what is heard never makes a stopped clock run
 pub heard-well : (z : Rates) (total turn : ℕ) (o new : Outgoing) (timer : Option ℕ) → AreRates z → Sends z turn turn o timer → Heard o new
@@ -139,11 +139,11 @@ heard-well z total turn o new timer y s h all =
         → timer' ≡ cond waiting (cond advances (Some turn) timer) None → new.count ≡ cond waiting (cond advances 0 o.count) 0
         → HeardWell z total turn o timer new timer' 0
     go true e true w timer' t c = record {
-      sends = heard-sends z turn o new timer timer' s h (rw (t, w) refl) (rw (t, c) (ticks-now z turn));
+      sends = heard-sends z turn o new timer timer' s h new.paused new.count (rw (t, w) refl) (rw (t, c) (ticks-now z turn));
       falls = advanced-on true w e timer' (ap (λ r. left z turn new.count r) t ∙ ap (λ n. left z turn n (Some turn)) c ∙ now);
     }
     go true e false w timer' t c = record {
-      sends = heard-sends z turn o new timer timer' s h (rw (t, w) refl) (rw (t, c) refl);
+      sends = heard-sends z turn o new timer timer' s h new.paused new.count (rw (t, w) refl) (rw (t, c) refl);
       falls = advanced-on false w e timer' (ap (λ r. left z turn new.count r) t);
     }
     go false e true w timer' t c =
@@ -151,7 +151,7 @@ heard-well z total turn o new timer y s h all =
         let waits : is_waiting o ≡ true =
         waiting-less (is_outstanding o) o.awaited o.paused new.awaited new.paused h.awaited h.paused
         (ap (λ b. b || (new.awaited || new.paused)) same.0 ∙ w) in record {
-          sends = heard-sends z turn o new timer timer' s h (rw (t, w) (s.cause ∙ waits))
+          sends = heard-sends z turn o new timer timer' s h new.paused new.count (rw (t, w) (s.cause ∙ waits))
               (rw (t, c) (ticks-later z turn turn o.count timer s.ticks));
           falls = stays waits (ap (λ r. left z turn new.count r) t ∙ ap (λ n. left z turn n timer) c) same.1;
         }
@@ -161,7 +161,7 @@ heard-well z total turn o new timer y s h all =
         stays e' l front = omega (arith, worth-same z total o new h e, l, ends-is z.room (is_waiting o) (is_waiting new) true true e' w)
     go false e false w timer' t c =
         let same = outstanding-same o new h e in record {
-          sends = heard-sends z turn o new timer timer' s h (rw (t, w) refl) (rw (t, c) refl);
+          sends = heard-sends z turn o new timer timer' s h new.paused new.count (rw (t, w) refl) (rw (t, c) refl);
           falls = stops (is_waiting o) refl (ap (λ r. left z turn new.count r) t) same.1;
         }
       where
@@ -183,17 +183,7 @@ pub heard-busy : (z : Rates) (total turn : ℕ) (o new : Outgoing) (timer : Opti
     → length o.pieces ≤ total
     → HeardWell z total turn o timer (paused_at new) (Some turn) z.quota
 heard-busy z total turn o new timer y s h all = record {
-  sends = record {
-    front_from = h.front_from;
-    from_high = h.from_high;
-    high_pieces = omega (arith, pieces-same o new h, s.high_pieces, h.high);
-    high_window = omega (arith, h.front_low, h.high, h.window, s.high_window);
-    window = omega (arith, h.window, s.window);
-    chosen = h.chosen;
-    tries_are = h.tries ∙ s.tries_are;
-    cause = busy-waits (is_outstanding new) new.awaited;
-    ticks = ticks-now z turn;
-  };
+  sends = heard-sends z turn o new timer (Some turn) s h true 0 (busy-waits (is_outstanding new) new.awaited) (ticks-now z turn);
   falls = go (nat_lt o.front new.front) refl (is_waiting o) refl;
 }
   where
@@ -380,13 +370,9 @@ acked-heard z before turn a final command pf nr n s e m = go final e
     within : (a.outgoing.front ≤ n) × (n ≤ a.outgoing.high)
     within = meant-range a.outgoing.front a.outgoing.high nr n m
 
-    first : (b c : Bool) → b && c ≡ true → b ≡ true
-    first true c f = refl
-    first false c f = cc
-
     go : (b : Bool) → ends_wait command pf a ≡ b → Heard a.outgoing (acked b a.outgoing n) × Heard a.outgoing (acked_back b a.outgoing n)
     go true f = let k = heard-wait_ended z before turn a.outgoing a.wait.timer n s within.0 within.1
-        (first a.outgoing.awaited (pf && not command) f) in
+        (and-two a.outgoing.awaited (pf && not command) f).0 in
         (k, k)
     go false f = let k = heard-advanced z before turn a.outgoing a.wait.timer n s within.0 within.1 in
         (k, heard-gone_back a.outgoing (advanced a.outgoing n) k)

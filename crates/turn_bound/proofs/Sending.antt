@@ -1,10 +1,11 @@
 use Rattle.std.proofs.Common.{◌≡◌, ℕ, ◌+◌, ◌<◌, ◌≤◌, ◌&&◌, ◌||◌, not, max, Bool, true, false, cond, nat_eq, nat_lt, List, [], ◌∷◌, length}
-use Rattle.std.proofs.Common.{arith, refl, sym, ◌∙◌, ap, subst, Option, Some, None}
+use Rattle.std.proofs.Common.{arith, refl, sym, ◌∙◌, ap, subst, Option, Some, None, ◌-◌, ◌*◌, ◌%◌, nat_le, ◌++◌, length-append}
 use Rattle.link_account.proofs.Names.{is_some, AllByRecursion, nat_tests, Outgoing, is_outstanding, next_number}
 use Rattle.lapm_sender.specs.Outgoing.{next_among, sent_among, after_next}
 use Rattle.link_account.specs.Speak.{running}
-use Rattle.turn_bound.proofs.Clock.{Rates, AreRates, Ticks, left, is_waiting, IsChosen, Sends, is_free, one_if, sender_value}
-use Rattle.turn_bound.proofs.Arithmetic.{tries_fit, ticks-later, all_weaker}
+use Rattle.turn_bound.proofs.Value.{Rates, AreRates, Ticks, left, is_waiting, IsChosen, Sends, is_free, one_if, sender_value, tries_fit}
+use Rattle.turn_bound.proofs.Value.{ticks-later, all_weaker, Breaks, is_breaking, break_left, break_value, ends, paid}
+use Rattle.break_signals.specs.Breaks.{OwnBreaks, waits, after_ask, ticked, after_brk, after_answer}
 
 -- The turn goes on to the next one.
 
@@ -13,22 +14,28 @@ pub record WaitedWell (z : Rates) (total turn : ℕ) (o : Outgoing) (timer : Opt
   pub waits : is_waiting new ≡ is_waiting o
   pub falls : sender_value z total (turn + 1) new timer' + one_if (is_waiting o) ≤ sender_value z total turn o timer
 
+-- by another clock
+with-clock : {z : Rates} {before turn before' turn' : ℕ} {o : Outgoing} {timer timer' : Option ℕ} → Sends z before turn o timer
+    → (count : ℕ) (awaited : Bool) → is_some timer' ≡ (is_outstanding o || (awaited || o.paused)) → Ticks z before' turn' count timer'
+    → Sends z before' turn' (record o { count = count; awaited = awaited }) timer'
+with-clock s count awaited cause ticks = record {
+  front_from = s.front_from;
+  from_high = s.from_high;
+  high_pieces = s.high_pieces;
+  high_window = s.high_window;
+  window = s.window;
+  chosen = s.chosen;
+  tries_are = s.tries_are;
+  cause = cause;
+  ticks = ticks;
+}
+
 -- without an expiry
 pub waited-quiet : (z : Rates) (total turn : ℕ) (o : Outgoing) (timer : Option ℕ) → AreRates z → Sends z (turn + 1) turn o timer
     → ((set : ℕ) → timer ≡ Some set → nat_eq turn (set + z.period) ≡ false)
     → WaitedWell z total turn o timer o timer
 waited-quiet z total turn o timer y s quiet = record {
-  sends = record {
-    front_from = s.front_from;
-    from_high = s.from_high;
-    high_pieces = s.high_pieces;
-    high_window = s.high_window;
-    window = s.window;
-    chosen = s.chosen;
-    tries_are = s.tries_are;
-    cause = s.cause;
-    ticks = on timer refl s.ticks;
-  };
+  sends = with-clock s o.count o.awaited s.cause (on timer refl s.ticks);
   waits = refl;
   falls = falling timer refl s.ticks s.cause;
 }
@@ -45,8 +52,7 @@ waited-quiet z total turn o timer y s quiet = record {
 
     falling : (timer' : Option ℕ) → timer ≡ timer' → Ticks z (turn + 1) turn o.count timer' → is_some timer' ≡ is_waiting o
         → sender_value z total (turn + 1) o timer' + one_if (is_waiting o) ≤ sender_value z total turn o timer'
-    falling None e h c = rw (sym c) (omega arith)
-    falling (Some set) e h c = rw (sym c) (omega (arith, tries_fit z o.count y h.tried, h.within))
+    falling b e h c = grind (arith)
 
 -- and with one
 pub waited-expired : (z : Rates) (total turn : ℕ) (o : Outgoing) (set : ℕ) → AreRates z → Sends z (turn + 1) turn o (Some set)
@@ -56,22 +62,12 @@ waited-expired z total turn o set y s due more =
     let now : turn ≡ set + z.period = grind (arith, nat_tests) in
     let fewer : o.count < z.tries = grind (arith, nat_tests, s.ticks.tried, s.tries_are) in
     record {
-      sends = record {
-        front_from = s.front_from;
-        from_high = s.from_high;
-        high_pieces = s.high_pieces;
-        high_window = s.high_window;
-        window = s.window;
-        chosen = s.chosen;
-        tries_are = s.tries_are;
-        cause = polls (is_outstanding o) o.paused;
-        ticks = record {
-          tied = omega (arith, s.ticks.tied, now);
-          started = omega arith;
-          within = omega (arith, y.period);
-          tried = omega (arith, fewer);
-        };
-      };
+      sends = with-clock s (o.count + 1) true (polls (is_outstanding o) o.paused) (record {
+        tied = omega (arith, s.ticks.tied, now);
+        started = omega arith;
+        within = omega (arith, y.period);
+        tried = omega (arith, fewer);
+      });
       waits = sym (polls (is_outstanding o) o.paused) ∙ s.cause;
       falls = rw (sym s.cause) (omega (arith, tries_fit z (o.count + 1) y (omega (arith, fewer)), now));
     }
@@ -146,8 +142,7 @@ pub may-be : (b c : Bool) (m : Option ℕ) (n : ℕ) → cond (b || c) None m �
 may-be b c m n e = go (b || c) e
   where
     go : (d : Bool) → cond d None m ≡ Some n → (d ≡ false) × (m ≡ Some n)
-    go true e = cc
-    go false e = (refl, e)
+    go b e = grind (arith)
 
 pub sent-well : (z : Rates) (total turn : ℕ) (o : Outgoing) (timer : Option ℕ) (n : ℕ) → AreRates z → Sends z (turn + 1) (turn + 1) o timer
     → length o.pieces ≤ total → next_number o ≡ Some n
@@ -201,14 +196,204 @@ offered-sends z before turn o timer pieces ended s more = record {
 }
 
 pub later-sends : (z : Rates) (turn : ℕ) (o : Outgoing) (timer : Option ℕ) → Sends z turn turn o timer → Sends z (turn + 1) turn o timer
-later-sends z turn o timer s = record {
-  front_from = s.front_from;
-  from_high = s.from_high;
-  high_pieces = s.high_pieces;
-  high_window = s.high_window;
-  window = s.window;
-  chosen = s.chosen;
-  tries_are = s.tries_are;
-  cause = s.cause;
-  ticks = ticks-later z turn turn o.count timer s.ticks;
+later-sends z turn o timer s = with-clock s o.count o.awaited s.cause (ticks-later z turn turn o.count timer s.ticks)
+
+pub later-breaks : (z : Rates) (turn : ℕ) (b : OwnBreaks) → Breaks z turn turn b → Breaks z (turn + 1) turn b
+later-breaks z turn b s = record {
+  low = s.low;
+  high = s.high;
+  due = s.due;
+  clock = λ w. let r = s.clock w in record { tied = r.tied; started = omega (arith, r.started); within = r.within; tried = r.tried };
+  rests = omega (arith, s.rests);
 }
+
+-- within a turn
+pub record ChangedWell (z : Rates) (breaks turn : ℕ) (b c : OwnBreaks) : Type 0 where
+  pub sound : Breaks z (turn + 1) turn c
+  pub falls : break_value z breaks turn c + ends z.room (is_breaking turn b) (is_breaking turn c) ≤ break_value z breaks turn b
+
+pub ends-same : (k : ℕ) (b : Bool) → ends k b b ≡ 0
+ends-same k b = grind (arith)
+
+pub same-breaks : (z : Rates) (breaks turn : ℕ) (b : OwnBreaks) → Breaks z (turn + 1) turn b → ChangedWell z breaks turn b b
+same-breaks z breaks turn b s = record { sound = s; falls = omega (arith, ends-same z.room (is_breaking turn b)) }
+
+-- a BRKACK is heard
+pub answered-well : (z : Rates) (breaks turn number : ℕ) (b : OwnBreaks) → AreRates z → Breaks z turn turn b
+    → ChangedWell z breaks turn b (after_answer turn number b)
+answered-well z breaks turn number b y s = go (waits b) refl (nat_eq number (b.answered % 2))
+  where
+    answered : OwnBreaks
+    answered = record b { answered = b.answered + 1; brk = false; count = 0; rest = turn + 8 }
+
+    go : (w : Bool) → waits b ≡ w → (right : Bool)
+        → ChangedWell z breaks turn b
+        (cond (w && right) (record b { answered = b.answered + 1; brk = false; count = 0; rest = turn + 8 }) b)
+    go false e right = same-breaks z breaks turn b (later-breaks z turn b s)
+    go true e false = same-breaks z breaks turn b (later-breaks z turn b s)
+    go true e true =
+        let done : nat_lt (b.answered + 1) (length b.lengths) ≡ false = grind (arith, nat_tests, s.high) in
+        let more : b.answered < length b.lengths = grind (arith, nat_tests) in
+        let rests : nat_lt turn (turn + 8) ≡ true = grind (arith, nat_tests) in
+        let r = s.clock e in
+        let old : break_left z turn b ≡ b.set + z.whole + 9 - (b.count * z.period + turn) =
+        ap (λ w. cond w (b.set + z.whole + 9 - (b.count * z.period + turn)) (b.rest - turn)) e in
+        let new : cond (nat_lt (b.answered + 1) (length b.lengths)) (b.set + z.whole + 9 - (0 * z.period + turn))
+        (turn + 8 - turn) ≡ turn + 8 - turn = ap (λ w. cond w (b.set + z.whole + 9 - (0 * z.period + turn)) (turn + 8 - turn)) done in
+        let live : ends z.room (is_breaking turn b) (nat_lt (b.answered + 1) (length b.lengths) || nat_lt turn (turn + 8)) ≡ 0 =
+        rw (e, done, rests) refl in
+        record {
+          sound = record {
+            low = omega (arith, more);
+            high = omega (arith, s.high);
+            due = λ d. cc;
+            clock = λ w. cc;
+            rests = omega arith;
+          };
+          falls = omega (arith, old, new, live, tries_fit z b.count y r.tried, r.within);
+        }
+
+-- a break is asked for
+pub asked-well : (z : Rates) (breaks turn l : ℕ) (b : OwnBreaks) → AreRates z → Breaks z (turn + 1) turn b
+    → length (after_ask turn l b).lengths ≤ breaks → ChangedWell z breaks turn b (after_ask turn l b)
+asked-well z breaks turn l b y s = go (waits b) refl (nat_le b.rest turn) refl
+  where
+    go : (w : Bool) → waits b ≡ w → (rested : Bool) → nat_le b.rest turn ≡ rested
+        → length (cond (not w && rested) (record b { lengths = b.lengths ++ l ∷ []; brk = true; set = turn; count = 0 }) b).lengths ≤ breaks
+        → ChangedWell z breaks turn b
+        (cond (not w && rested) (record b { lengths = b.lengths ++ l ∷ []; brk = true; set = turn; count = 0 }) b)
+    go true e rested f fits = same-breaks z breaks turn b s
+    go false e false f fits = same-breaks z breaks turn b s
+    go false e true f fits =
+        let longer : length (b.lengths ++ l ∷ []) ≡ length b.lengths + 1 = omega (arith, length-append {A = ℕ}) in
+        let same : b.answered ≡ length b.lengths = grind (arith, nat_tests, s.low) in
+        let waiting : nat_lt b.answered (length (b.lengths ++ l ∷ [])) ≡ true = grind (arith, nat_tests) in
+        let rested : nat_lt turn b.rest ≡ false = grind (arith, nat_tests) in
+        let old : break_left z turn b ≡ b.rest - turn =
+        ap (λ w. cond w (b.set + z.whole + 9 - (b.count * z.period + turn)) (b.rest - turn)) e in
+        let new : cond (nat_lt b.answered (length (b.lengths ++ l ∷ []))) (turn + z.whole + 9 - (0 * z.period + turn))
+        (b.rest - turn) ≡ turn + z.whole + 9 - (0 * z.period + turn)
+        = ap (λ w. cond w (turn + z.whole + 9 - (0 * z.period + turn)) (b.rest - turn)) waiting in
+        let live : ends z.room (is_breaking turn b) (nat_lt b.answered (length (b.lengths ++ l ∷ [])) || nat_lt turn b.rest) ≡ z.room + 1 =
+        rw (e, rested, waiting) refl in
+        let pays : z.quota * (breaks - length (b.lengths ++ l ∷ [])) + z.quota ≤ z.quota * (breaks - length b.lengths) =
+        paid z.quota (breaks - length (b.lengths ++ l ∷ [])) (breaks - length b.lengths) (omega (arith, longer, fits)) in
+        record {
+          sound = record {
+            low = omega (arith, longer, same);
+            high = omega (arith, longer, same);
+            due = λ d. waiting;
+            clock = λ w. record { tied = omega arith; started = omega arith; within = omega arith; tried = omega arith };
+            rests = s.rests;
+          };
+          falls = omega (arith, old, new, live, pays, y.quota, y.first, tries_fit z 0 y (omega arith), y.period);
+        }
+
+pub counts : (l m : Bool) → l ≡ m → one_if l ≡ one_if m
+counts l m e = rw e refl
+
+pub or-false : (w a : Bool) → w ≡ false → w || a ≡ a
+or-false w a e = rw e refl
+
+-- the turn goes on to the next one
+pub record TickedWell (z : Rates) (breaks turn : ℕ) (b c : OwnBreaks) : Type 0 where
+  pub sound : Breaks z (turn + 1) (turn + 1) c
+  pub falls : break_value z breaks (turn + 1) c + one_if (is_breaking turn b) ≤ break_value z breaks turn b
+  pub lives : is_breaking turn b ≡ false → is_breaking (turn + 1) c ≡ false
+  pub lengths : c.lengths ≡ b.lengths
+  pub waiting : waits c ≡ waits b
+
+pub ticked-well : (z : Rates) (breaks turn : ℕ) (b c : OwnBreaks) → AreRates z → Breaks z (turn + 1) turn b
+    → ticked turn z.period z.tries b ≡ Some c → TickedWell z breaks turn b c
+ticked-well z breaks turn b c y s t = go (waits b) refl (nat_eq turn (b.set + z.period)) refl (nat_eq b.count z.tries) refl t
+  where
+    rest : (w : Bool) → waits b ≡ w → (w ≡ true → nat_eq turn (b.set + z.period) ≡ false) → TickedWell z breaks turn b b
+    rest true e due =
+        let r = s.clock e in
+        let later : turn + 1 ≤ b.set + z.period = let d = due refl in let d' : nat_eq turn (b.set + z.period) ≡ false = d in
+        grind (arith, nat_tests, r.within) in
+        let old : break_left z turn b ≡ b.set + z.whole + 9 - (b.count * z.period + turn) =
+        ap (λ w. cond w (b.set + z.whole + 9 - (b.count * z.period + turn)) (b.rest - turn)) e in
+        let new : break_left z (turn + 1) b ≡ b.set + z.whole + 9 - (b.count * z.period + (turn + 1)) =
+        ap (λ w. cond w (b.set + z.whole + 9 - (b.count * z.period + (turn + 1))) (b.rest - (turn + 1))) e in
+        let live : one_if (is_breaking turn b) ≡ 1 = rw e refl in
+        record {
+          sound = record {
+            low = s.low;
+            high = s.high;
+            due = s.due;
+            clock = λ w. record { tied = r.tied; started = r.started; within = later; tried = r.tried };
+            rests = s.rests;
+          };
+          falls = omega (arith, old, new, live, tries_fit z b.count y r.tried, r.within);
+          lives = λ f. let wrong : true ≡ false = sym (rw e refl) ∙ f in cc;
+          lengths = refl;
+          waiting = refl;
+        }
+    rest false e due = record {
+      sound = record { low = s.low; high = s.high; due = s.due; clock = λ w. cc; rests = s.rests };
+      falls = resting (nat_lt turn b.rest) refl;
+      lives = λ f. or-false (waits b) (nat_lt (turn + 1) b.rest) e ∙ rested (sym (or-false (waits b) (nat_lt turn b.rest) e) ∙ f);
+      lengths = refl;
+      waiting = refl;
+    }
+      where
+        rested : nat_lt turn b.rest ≡ false → nat_lt (turn + 1) b.rest ≡ false
+        rested f = grind (arith, nat_tests)
+
+        resting : (n : Bool) → nat_lt turn b.rest ≡ n
+            → break_value z breaks (turn + 1) b + one_if (is_breaking turn b) ≤ break_value z breaks turn b
+        resting true f =
+            let less : turn < b.rest = grind (arith, nat_tests) in
+            let live : one_if (is_breaking turn b) ≡ 1 = counts (is_breaking turn b) _ (or-false (waits b) (nat_lt turn b.rest) e ∙ f) in
+            let old : break_left z turn b ≡ b.rest - turn =
+            ap (λ w. cond w (b.set + z.whole + 9 - (b.count * z.period + turn)) (b.rest - turn)) e in
+            let new : break_left z (turn + 1) b ≡ b.rest - (turn + 1) =
+            ap (λ w. cond w (b.set + z.whole + 9 - (b.count * z.period + (turn + 1))) (b.rest - (turn + 1))) e in
+            omega (arith, old, new, live)
+        resting false f =
+            let live : one_if (is_breaking turn b) ≡ 0 = counts (is_breaking turn b) _ (or-false (waits b) (nat_lt turn b.rest) e ∙ f) in
+            let old : break_left z turn b ≡ b.rest - turn =
+            ap (λ w. cond w (b.set + z.whole + 9 - (b.count * z.period + turn)) (b.rest - turn)) e in
+            let new : break_left z (turn + 1) b ≡ b.rest - (turn + 1) =
+            ap (λ w. cond w (b.set + z.whole + 9 - (b.count * z.period + (turn + 1))) (b.rest - (turn + 1))) e in
+            omega (arith, old, new, live)
+
+    go : (w : Bool) → waits b ≡ w → (due : Bool) → nat_eq turn (b.set + z.period) ≡ due → (spent : Bool) → nat_eq b.count z.tries ≡ spent
+        → cond (w && due) (cond spent None (Some (record b { brk = true; set = turn; count = b.count + 1 }))) (Some b) ≡ Some c
+        → TickedWell z breaks turn b c
+    go true e true d true p f = cc
+    go true e true d false p f =
+        let same : record b { brk = true; set = turn; count = b.count + 1 } ≡ c = cc in
+        let r = s.clock e in
+        let now : turn ≡ b.set + z.period = grind (arith, nat_tests) in
+        let fewer : b.count < z.tries = grind (arith, nat_tests, r.tried) in
+        let old : break_left z turn b ≡ b.set + z.whole + 9 - (b.count * z.period + turn) =
+        ap (λ w. cond w (b.set + z.whole + 9 - (b.count * z.period + turn)) (b.rest - turn)) e in
+        let new : break_left z (turn + 1) (record b { brk = true; set = turn; count = b.count + 1 }) ≡ turn + z.whole + 9 -
+        ((b.count + 1) * z.period + (turn + 1))
+        = ap (λ w. cond w (turn + z.whole + 9 - ((b.count + 1) * z.period + (turn + 1))) (b.rest - (turn + 1))) e in
+        let live : one_if (is_breaking turn b) ≡ 1 = rw e refl in
+        subst (TickedWell z breaks turn b) same (record {
+          sound = record {
+            low = s.low;
+            high = s.high;
+            due = λ d. e;
+            clock = λ w. record {
+              tied = omega (arith, r.tied, now);
+              started = omega arith;
+              within = omega (arith, y.period);
+              tried = omega (arith, fewer);
+            };
+            rests = omega (arith, s.rests);
+          };
+          falls = omega (arith, old, new, live, tries_fit z (b.count + 1) y (omega (arith, fewer)), now);
+          lives = λ f. let wrong : true ≡ false = sym (rw e refl) ∙ f in cc;
+          lengths = refl;
+          waiting = refl;
+        })
+    go true e false d p q f = let same : b ≡ c = cc in subst (TickedWell z breaks turn b) same (rest true e (λ x. d))
+    go false e d g p q f = let same : b ≡ c = cc in subst (TickedWell z breaks turn b) same (rest false e (λ x. cc))
+
+pub brk-sent : (z : Rates) (before turn : ℕ) (b : OwnBreaks) → Breaks z before turn b → Breaks z before turn (after_brk b)
+brk-sent z before turn b s = record { low = s.low; high = s.high; due = λ d. cc; clock = s.clock; rests = s.rests }

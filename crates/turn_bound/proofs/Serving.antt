@@ -1,10 +1,16 @@
 use Rattle.std.proofs.Common.{◌≡◌, ℕ, zero, suc, ◌+◌, ◌<◌, ◌≤◌, ◌&&◌, ◌⊎◌, not, Bool, true, false, cond, nat_lt, nat_le, List, [], ◌∷◌}
-use Rattle.std.proofs.Common.{length, length-append, inl, inr, arith, refl, sym, ◌∙◌, ap, subst, Option, Some, None}
+use Rattle.std.proofs.Common.{length, length-append, inl, inr, arith, refl, sym, ◌∙◌, ap, subst, Option, Some, None, ◌-◌, ◌*◌, ◌++◌}
 use Rattle.link_account.proofs.Names.{slice_get, nat_tests, Outgoing, wanted, with_piece, after_ask, Account, is_connected, wants}
-use Rattle.link_account.proofs.Names.{piece_size, after_offer, after_given, after_busy, after_break_asked}
+use Rattle.link_account.proofs.Names.{piece_size, after_offer, after_given, after_busy, Role, Originator, Answerer, OwnBreaks, waits}
 use Rattle.link_run.proofs.Names.{User, BreakLine, delivered, piece_at, offered_at, offered_times, room_for, offered, is_busy, next_break}
+use Rattle.link_run.proofs.Names.{Phase, Detecting, Negotiating, Establishing, Connected, Releasing, Closed}
 use Rattle.turn_bound.proofs.Run.{served_account}
-use Rattle.link_run.specs.End.{asked_at}
+use Rattle.link_run.specs.End.{asked, asked_at}
+use Rattle.turn_bound.proofs.Value.{Rates, AreRates, is_waiting, Sends, ends, worth, sender_value, is_breaking, time_left, try_left, value}
+use Rattle.turn_bound.proofs.Value.{linked_lives, lives, Unlinked, IsAck, IsSilent, Linked, Tries, Stands}
+use Rattle.turn_bound.proofs.Sending.{offered-sends, ChangedWell, asked-well, same-breaks, ends-same}
+use Rattle.turn_bound.proofs.Sender.{ends-is}
+use Rattle.turn_bound.proofs.Hearing.{ends-both, same-unlinked}
 
 -- what a user's file may change in a sender's part
 pub record Longer (connected : Bool) (o new : Outgoing) : Type 0 where
@@ -142,139 +148,292 @@ pub record Served (turn breaks : ℕ) (busy : Bool) (a b : Account) : Type 0 whe
 abbrev pub before_asking : User → ℕ → Account → Account
 before_asking user turn a = after_busy (is_busy turn user.busy) (offered user.file (after_given (delivered a)))
 
-pub serves-first : (user : User) (turn breaks : ℕ) (a : Account) → Served turn breaks (is_busy turn user.busy) a (before_asking user turn a)
-serves-first user turn breaks a = go (is_connected a.phase) refl
-  where
-    by : (b : Account) → b.phase ≡ a.phase → b.setup ≡ a.setup → b.terms ≡ a.terms → b.numbered ≡ a.numbered → b.wait ≡ a.wait
-        → b.their_breaks ≡ a.their_breaks → b.special ≡ a.special → b.owes ≡ a.owes
-        → b.incoming.rej ≡ a.incoming.rej → b.incoming.gapped ≡ a.incoming.gapped → b.incoming.srej ≡ a.incoming.srej
-        → b.outgoing ≡ a.outgoing → b.own_breaks ≡ a.own_breaks → (c : Account) → Offers b c → wants c ≡ None
-        → Served turn breaks (is_busy turn user.busy) a (after_busy (is_busy turn user.busy) c)
-    by b phase setup terms numbered wait ack special owes rej gapped srej outgoing own c k none =
-        subst (λ d. wants d ≡ None → Served turn breaks (is_busy turn user.busy) a (after_busy (is_busy turn user.busy) d)) (sym k.only)
-        (λ w. final (is_connected b.phase) refl w) none
-      where
-        longer : Longer (is_connected a.phase) a.outgoing c.outgoing
-        longer = subst (λ o. Longer (is_connected a.phase) o c.outgoing) outgoing
-            (subst (λ p. Longer (is_connected p) b.outgoing c.outgoing) phase k.longer)
-
-        final : (x : Bool) → is_connected b.phase ≡ x → cond x (wanted c.outgoing) None ≡ None
-            → Served turn breaks (is_busy turn user.busy) a
-            (cond x (record b { outgoing = c.outgoing; owes = record b.owes { busy = is_busy turn user.busy } })
-            (record b { outgoing = c.outgoing }))
-        final true e w = record {
-          setup = setup;
-          phase = phase;
-          terms = terms;
-          numbered = numbered;
-          wait = wait;
-          ack = ack;
-          special = special;
-          answer = ap (λ o. o.answer) owes;
-          reply = ap (λ o. o.reply) owes;
-          busy_told = ap (λ o. o.busy_told) owes;
-          busy_now = λ f. refl;
-          rej = rej;
-          gapped = gapped;
-          srej = srej;
-          longer = longer;
-          wants_none = ap (λ x. cond x (wanted c.outgoing) None) e ∙ w;
-          own = inl own;
-        }
-        final false e w = record {
-          setup = setup;
-          phase = phase;
-          terms = terms;
-          numbered = numbered;
-          wait = wait;
-          ack = ack;
-          special = special;
-          answer = ap (λ o. o.answer) owes;
-          reply = ap (λ o. o.reply) owes;
-          busy_told = ap (λ o. o.busy_told) owes;
-          busy_now = λ f. let wrong : true ≡ false = sym f ∙ (ap is_connected (sym phase) ∙ e) in cc;
-          rej = rej;
-          gapped = gapped;
-          srej = srej;
-          longer = longer;
-          wants_none = ap (λ x. cond x (wanted c.outgoing) None) e ∙ w;
-          own = inl own;
-        }
-
-    go : (c : Bool) → is_connected a.phase ≡ c
-        → Served turn breaks (is_busy turn user.busy) a
-        (after_busy (is_busy turn user.busy)
-        (offered user.file (after_given (cond c (record a { incoming = record a.incoming { given = length a.incoming.taken } }) a))))
-    go true e = let b : Account = after_given (record a { incoming = record a.incoming { given = length a.incoming.taken } }) in let k =
-        offers-well user.file b in
-        by b refl refl refl refl refl refl refl refl refl refl refl refl refl (offered user.file b) k.0 k.1
-    go false e = let b : Account = after_given a in let k = offers-well user.file b in
-        by b refl refl refl refl refl refl refl refl refl refl refl refl refl (offered user.file b) k.0 k.1
-
 slice-some : (breaks : List BreakLine) (n : ℕ) (b : BreakLine) → slice_get breaks n ≡ Some b → n < length breaks
 slice-some [] n b e = cc
 slice-some (x ∷ xs) zero b e = omega arith
 slice-some (x ∷ xs) (suc n) b e = let k = slice-some xs n b e in omega (arith, k)
 
-pub serves-own : (user : User) (turn : ℕ) (a : Account) → (before_asking user turn a).own_breaks ≡ a.own_breaks
-serves-own user turn a =
-    busy (offered user.file (after_given (delivered a))) (is_connected (offered user.file (after_given (delivered a))).phase)
-    ∙ ap (λ b. b.own_breaks) (offers-well user.file (after_given (delivered a))).0.only ∙ given (is_connected a.phase)
-  where
-    busy : (b : Account) (c : Bool)
-        → (cond c (record b { owes = record b.owes { busy = is_busy turn user.busy } }) b).own_breaks ≡ b.own_breaks
-    busy b true = refl
-    busy b false = refl
+-- no break is taken, or the next one is
+abbrev pub AskedOwn : ℕ → ℕ → Account → OwnBreaks → Type 0
+AskedOwn turn breaks a own = (own ≡ a.own_breaks)
+    ⊎ ((l : ℕ) × (own ≡ after_ask turn l a.own_breaks) × (length a.own_breaks.lengths < breaks) × (is_connected a.phase ≡ true))
 
-    given : (c : Bool) → (after_given
-        (cond c (record a { incoming = record a.incoming { given = length a.incoming.taken } }) a)).own_breaks ≡ a.own_breaks
-    given true = refl
-    given false = refl
+-- the account with what changes in serving it
+abbrev served_as : Account → ℕ → ℕ → Outgoing → Bool → OwnBreaks → Account
+served_as a given told outgoing busy own = record a {
+  incoming = record a.incoming { given = given };
+  breaks_told = told;
+  outgoing = outgoing;
+  owes = record a.owes { busy = busy };
+  own_breaks = own;
+}
+
+-- What changes: what was delivered and told, pieces that are offered, whether the user is busy, and a break.
+pub record ServedBy (user : User) (turn : ℕ) (a b : Account) : Type 0 where
+  pub from : Account  -- once its user has what was delivered
+  pub from_is : from.outgoing ≡ a.outgoing
+  pub given : ℕ
+  pub told : ℕ
+  pub busy : Bool
+  pub own : OwnBreaks
+  pub is : b ≡ served_as a given told (offered user.file from).outgoing busy own
+  pub busy_now : is_connected a.phase ≡ true → busy ≡ is_busy turn user.busy
+  pub longer : Longer (is_connected a.phase) a.outgoing (offered user.file from).outgoing
+  pub none : cond (is_connected a.phase) (wanted (offered user.file from).outgoing) None ≡ None
+  pub own_is : AskedOwn turn (length user.breaks) a own
+
+abbrev with_busy : Bool → Account → Account
+with_busy busy b = record b { owes = record b.owes { busy = busy } }
+
+abbrev with_own : OwnBreaks → Account → Account
+with_own own b = record b { own_breaks = own }
+
+busy-is : (busy : Bool) (b : Account) → (y : Bool) × (after_busy busy b ≡ with_busy y b) × (is_connected b.phase ≡ true → y ≡ busy)
+busy-is busy b = go (is_connected b.phase) refl
+  where
+    go : (c : Bool) → is_connected b.phase ≡ c → (y : Bool)
+        × (cond c (with_busy busy b) b ≡ with_busy y b)
+        × (is_connected b.phase ≡ true → y ≡ busy)
+    go true e = (busy, refl, λ f. refl)
+    go false e = (b.owes.busy, refl, λ f. let wrong : true ≡ false = sym f ∙ e in cc)
+
+before-by : (user : User) (turn : ℕ) (a : Account)
+    → (s : ServedBy user turn a (before_asking user turn a)) × (s.own ≡ a.own_breaks)
+before-by user turn a = go (is_connected a.phase)
+  where
+    by : (given : ℕ) → (g : Account) → g ≡ record a { incoming = record a.incoming { given = given }; breaks_told = length a.their_breaks.lengths }
+        → (s : ServedBy user turn a (after_busy (is_busy turn user.busy) (offered user.file g))) × (s.own ≡ a.own_breaks)
+    by given g e =
+        let k = offers-well user.file g in
+        let f : Account = offered user.file g in
+        let x = busy-is (is_busy turn user.busy) f in
+        let phase : f.phase ≡ a.phase = ap (λ b. b.phase) (k.0.only ∙ ap (with_outgoing f.outgoing) e) in (
+          record {
+            from = g;
+            from_is = ap (λ b. b.outgoing) e;
+            given = given;
+            told = length a.their_breaks.lengths;
+            busy = x.0;
+            own = a.own_breaks;
+            is = x.1 ∙ ap (with_busy x.0) (k.0.only ∙ ap (with_outgoing f.outgoing) e);
+            busy_now = λ c. x.2 (ap is_connected phase ∙ c);
+            longer = subst (λ b. Longer (is_connected b.phase) b.outgoing f.outgoing) e k.0.longer;
+            none = ap (λ p. cond (is_connected p) (wanted f.outgoing) None) (sym phase) ∙ k.1;
+            own_is = inl refl;
+          },
+          refl,
+        )
+
+    go : (c : Bool) → (s : ServedBy user turn a (after_busy (is_busy turn user.busy)
+        (offered user.file (after_given (cond c (record a { incoming = record a.incoming { given = length a.incoming.taken } }) a)))))
+        × (s.own ≡ a.own_breaks)
+    go true = by (length a.incoming.taken) _ refl
+    go false = by a.incoming.given _ refl
+
+pub serves-own : (user : User) (turn : ℕ) (a : Account) → (before_asking user turn a).own_breaks ≡ a.own_breaks
+serves-own user turn a = let s = before-by user turn a in ap (λ b. b.own_breaks) s.0.is ∙ s.1
+
+pub serves-phase : (user : User) (turn : ℕ) (a : Account) → (before_asking user turn a).phase ≡ a.phase
+serves-phase user turn a = ap (λ b. b.phase) (before-by user turn a).0.is
+
+asked-own : (turn : ℕ) (released : Bool) (breaks : List BreakLine) (m : Account)
+    → (own : OwnBreaks) × (asked turn released breaks m ≡ with_own own m) × AskedOwn turn (length breaks) m own
+asked-own turn true breaks m = (m.own_breaks, refl, inl refl)
+asked-own turn false breaks m = by (next_break breaks m) refl
+  where
+    by : (n : Option BreakLine) → next_break breaks m ≡ n
+        → (own : OwnBreaks) × (asked_at turn n m ≡ with_own own m) × AskedOwn turn (length breaks) m own
+    by None e = (m.own_breaks, refl, inl refl)
+    by (Some b) e = on (nat_le b.turn turn) (is_connected m.phase) refl
+      where
+        on : (x c : Bool) → is_connected m.phase ≡ c → (own : OwnBreaks)
+            × (cond x (cond c (record m { own_breaks = after_ask turn b.length_octet m.own_breaks }) m) m ≡ with_own own m)
+            × AskedOwn turn (length breaks) m own
+        on false c f = (m.own_breaks, refl, inl refl)
+        on true false f = (m.own_breaks, refl, inl refl)
+        on true true f = (
+          after_ask turn b.length_octet m.own_breaks,
+          refl,
+          inr (b.length_octet, refl, slice-some breaks (length m.own_breaks.lengths) b e, f),
+        )
+
+pub served-by : (user : User) (turn : ℕ) (released : Bool) (a : Account) → ServedBy user turn a (served_account user turn released a)
+served-by user turn released a =
+    let s = (before-by user turn a).0 in
+    let own = serves-own user turn a in
+    let phase = serves-phase user turn a in
+    let x = asked-own turn released user.breaks (before_asking user turn a) in
+    record {
+      from = s.from;
+      from_is = s.from_is;
+      given = s.given;
+      told = s.told;
+      busy = s.busy;
+      own = x.0;
+      is = x.1 ∙ ap (with_own x.0) s.is;
+      busy_now = s.busy_now;
+      longer = s.longer;
+      none = s.none;
+      own_is = elim x.2 [
+        | inl q ↦ inl (q ∙ own)
+        | inr z ↦ inr (
+          z.0,
+          z.1 ∙ ap (after_ask turn z.0) own,
+          subst (λ o. length o.lengths < length user.breaks) own z.2,
+          ap is_connected (sym phase) ∙ z.3,
+        )
+      ];
+    }
 
 pub serves-all : (user : User) (turn : ℕ) (released : Bool) (a : Account)
     → Served turn (length user.breaks) (is_busy turn user.busy) a (served_account user turn released a)
-serves-all user turn released a = go released
+serves-all user turn released a =
+    let s = served-by user turn released a in
+    subst (Served turn (length user.breaks) (is_busy turn user.busy) a) (sym s.is) (record {
+      setup = refl;
+      phase = refl;
+      terms = refl;
+      numbered = refl;
+      wait = refl;
+      ack = refl;
+      special = refl;
+      answer = refl;
+      reply = refl;
+      busy_told = refl;
+      busy_now = s.busy_now;
+      rej = refl;
+      gapped = refl;
+      srej = refl;
+      longer = s.longer;
+      wants_none = s.none;
+      own = s.own_is;
+    })
+
+pub record ServesAs (z : Rates) (total breaks turn : ℕ) (role : Role) (p : Phase) (a b : Account) : Type 0 where
+  pub stands : Stands z (turn + 1) turn role p b
+  pub falls : value z total breaks turn role p b + ends z.room (lives turn role p a)
+      (lives turn role p b) ≤ value z total breaks turn role p a
+
+-- where the end isn't Connected
+pub record Unserved (a b : Account) : Type 0 where
+  pub terms : b.terms ≡ a.terms
+  pub wait : b.wait ≡ a.wait
+  pub ack : b.their_breaks ≡ a.their_breaks
+  pub outgoing : b.outgoing ≡ a.outgoing
+  pub own : b.own_breaks ≡ a.own_breaks
+
+unserved-unlinked : (a b : Account) → Unserved a b → Unlinked a → Unlinked b
+unserved-unlinked a b h u = same-unlinked a b u h.outgoing (ap (λ w. w.timer) h.wait) h.own (ap (λ t. t.ack) h.ack) h.terms
+
+unserved-tries : (z : Rates) (before turn : ℕ) (a b : Account) → Unserved a b → Tries z before turn a → Tries z before turn b
+unserved-tries z before turn a b h t =
+    subst (λ w. Tries z before turn (record a { wait = w })) (sym h.wait)
+    (record { tied = t.tied; started = t.started; within = t.within; tried = t.tried })
+
+unserved-try : (z : Rates) (turn : ℕ) (a b : Account) → Unserved a b → try_left z turn b ≡ try_left z turn a
+unserved-try z turn a b h = ap (λ w. try_left z turn (record a { wait = w })) h.wait
+
+unserved : (z : Rates) (turn : ℕ) (role : Role) (p : Phase) (a b : Account) → is_connected p ≡ false → Unserved a b
+    → Stands z (turn + 1) turn role p a
+    → Stands z (turn + 1) turn role p b × (lives turn role p b ≡ lives turn role p a)
+    × (time_left z turn role p b ≡ time_left z turn role p a)
+unserved z turn role Connected a b c h s = cc
+unserved z turn role Closed a b c h s = (tt, refl, refl)
+unserved z turn Originator Detecting a b c h s = (unserved-unlinked a b h s, refl, refl)
+unserved z turn Originator Negotiating a b c h s =
+    ((unserved-unlinked a b h s.0, unserved-tries z (turn + 1) turn a b h s.1), refl, unserved-try z turn a b h)
+unserved z turn Originator Establishing a b c h s =
+    ((unserved-unlinked a b h s.0, unserved-tries z (turn + 1) turn a b h s.1), refl, unserved-try z turn a b h)
+unserved z turn Originator Releasing a b c h s = (unserved-tries z (turn + 1) turn a b h s, refl, unserved-try z turn a b h)
+unserved z turn Answerer Detecting a b c h s = (unserved-unlinked a b h s, refl, refl)
+unserved z turn Answerer Negotiating a b c h s = (unserved-unlinked a b h s, refl, refl)
+unserved z turn Answerer p a b c h s = absurd s
+
+asked-length : (turn l breaks : ℕ) (b : OwnBreaks) → length b.lengths < breaks → length (after_ask turn l b).lengths ≤ breaks
+asked-length turn l breaks b h = go (not (waits b) && nat_le b.rest turn)
   where
-    m : Account
-    m = before_asking user turn a
+    go : (c : Bool) → length (cond c (record b { lengths = b.lengths ++ l ∷ []; brk = true; set = turn; count = 0 }) b).lengths ≤ breaks
+    go true = omega (arith, h, length-append {A = ℕ})
+    go false = omega (arith, h)
 
-    h : Served turn (length user.breaks) (is_busy turn user.busy) a m
-    h = serves-first user turn (length user.breaks) a
+-- where it is
+served-connected : (z : Rates) (total breaks turn : ℕ) (busy : Bool) (role : Role) (a b : Account) → AreRates z
+    → Linked z (turn + 1) turn role a → a.phase ≡ Connected → Served turn breaks busy a b
+    → ServesAs z total breaks turn role Connected a b
+served-connected z total breaks turn busy role a b y h e s = record {
+  stands = record { sends = sends; breaks = own.sound; ack = subst (λ t. IsAck t.ack) (sym s.ack) h.ack; silent = silent role h.silent };
+  falls = omega (arith, sender, own.falls, both);
+}
+  where
+    timer : b.wait.timer ≡ a.wait.timer
+    timer = ap (λ w. w.timer) s.wait
 
-    asks : (l : ℕ) → length a.own_breaks.lengths < length user.breaks → (x : Bool) → is_connected m.phase ≡ x
-        → Served turn (length user.breaks) (is_busy turn user.busy) a (cond x (record m { own_breaks = after_ask turn l m.own_breaks }) m)
-    asks l less false e = h
-    asks l less true e = record {
-      setup = h.setup;
-      phase = h.phase;
-      terms = h.terms;
-      numbered = h.numbered;
-      wait = h.wait;
-      ack = h.ack;
-      special = h.special;
-      answer = h.answer;
-      reply = h.reply;
-      busy_told = h.busy_told;
-      busy_now = h.busy_now;
-      rej = h.rej;
-      gapped = h.gapped;
-      srej = h.srej;
-      longer = h.longer;
-      wants_none = h.wants_none;
-      own = inr (l, ap (after_ask turn l) (serves-own user turn a), less, ap is_connected (sym h.phase) ∙ e);
-    }
+    sends : Sends z (turn + 1) turn b.outgoing b.wait.timer
+    sends = subst (λ r. Sends z (turn + 1) turn b.outgoing r) (sym timer)
+        (subst (λ o. Sends z (turn + 1) turn o a.wait.timer) (sym s.longer.outgoing)
+        (offered-sends z (turn + 1) turn a.outgoing a.wait.timer b.outgoing.pieces b.outgoing.ended h.sends s.longer.longer))
 
-    by : (n : Option BreakLine) → next_break user.breaks m ≡ n
-        → Served turn (length user.breaks) (is_busy turn user.busy) a (asked_at turn n m)
-    by None e = h
-    by (Some b) e = on (nat_le b.turn turn)
+    sender : sender_value z total turn b.outgoing b.wait.timer ≡ sender_value z total turn a.outgoing a.wait.timer
+    sender = ap (λ r. sender_value z total turn b.outgoing r) timer ∙ ap (λ o. sender_value z total turn o a.wait.timer) s.longer.outgoing
+
+    waiting : is_waiting b.outgoing ≡ is_waiting a.outgoing
+    waiting = ap is_waiting s.longer.outgoing
+
+    changed : (b.own_breaks ≡ a.own_breaks)
+        ⊎ ((l : ℕ) × (b.own_breaks ≡ after_ask turn l a.own_breaks) × (length a.own_breaks.lengths < breaks)
+        × (is_connected a.phase ≡ true)) → ChangedWell z breaks turn a.own_breaks b.own_breaks
+    changed (inl same) = subst (ChangedWell z breaks turn a.own_breaks) (sym same) (same-breaks z breaks turn a.own_breaks h.breaks)
+    changed (inr (l, same, less, linked)) =
+        subst (ChangedWell z breaks turn a.own_breaks) (sym same)
+        (asked-well z breaks turn l a.own_breaks y h.breaks (asked-length turn l breaks a.own_breaks less))
+
+    own : ChangedWell z breaks turn a.own_breaks b.own_breaks
+    own = changed s.own
+
+    both : ends z.room (linked_lives turn a) (linked_lives turn b) ≤ 0 + ends z.room (is_breaking turn a.own_breaks)
+        (is_breaking turn b.own_breaks)
+    both = omega (
+      arith,
+      ends-both z.room (is_waiting a.outgoing) (is_breaking turn a.own_breaks) (is_waiting b.outgoing) (is_breaking turn b.own_breaks),
+      ends-is z.room (is_waiting a.outgoing) (is_waiting b.outgoing) (is_waiting a.outgoing) (is_waiting a.outgoing) refl waiting,
+      ends-same z.room (is_waiting a.outgoing),
+    )
+
+    silent : (r : Role) → IsSilent r a.numbered a.outgoing.high a.wait.timer → IsSilent r b.numbered b.outgoing.high b.wait.timer
+    silent Originator i = tt
+    silent Answerer i = λ n. let k = i (sym s.numbered ∙ n) in (ap (λ o. o.high) s.longer.outgoing ∙ k.0, timer ∙ k.1)
+
+pub serves-well : (z : Rates) (total breaks turn : ℕ) (busy : Bool) (role : Role) (p : Phase) (a b : Account) → AreRates z
+    → Stands z (turn + 1) turn role p a → a.phase ≡ p → Served turn breaks busy a b
+    → ServesAs z total breaks turn role p a b
+serves-well z total breaks turn busy role p a b y h e s = go (is_connected p) refl
+  where
+    dead : is_connected p ≡ false
+        → (b.own_breaks ≡ a.own_breaks)
+        ⊎ ((l : ℕ) × (b.own_breaks ≡ after_ask turn l a.own_breaks) × (length a.own_breaks.lengths < breaks)
+        × (is_connected a.phase ≡ true)) → b.own_breaks ≡ a.own_breaks
+    dead c (inl same) = same
+    dead c (inr (l, same, less, linked)) = let wrong : true ≡ false = sym linked ∙ (ap is_connected e ∙ c) in cc
+
+    go : (c : Bool) → is_connected p ≡ c → ServesAs z total breaks turn role p a b
+    go false c =
+        let outgoing : b.outgoing ≡ a.outgoing = s.longer.unlinked (ap is_connected e ∙ c) in
+        let own = dead c s.own in
+        let u = unserved z turn role p a b c (record { terms = s.terms; wait = s.wait; ack = s.ack; outgoing = outgoing; own = own }) h in
+        record {
+          stands = u.0;
+          falls = omega (
+            arith,
+            u.2,
+            ap (worth z total) outgoing,
+            ap (λ o. z.quota * (breaks - length o.lengths)) own,
+            ends-is z.room (lives turn role p a) (lives turn role p b) (lives turn role p a) (lives turn role p a) refl u.1,
+            ends-same z.room (lives turn role p a),
+          );
+        }
+    go true c = connected p c h e
       where
-        on : (x : Bool) → Served turn (length user.breaks) (is_busy turn user.busy) a (cond x (after_break_asked turn b.length_octet m) m)
-        on false = h
-        on true = asks b.length_octet
-            (slice-some user.breaks (length a.own_breaks.lengths) b
-            (ap (λ o. slice_get user.breaks (length o.lengths)) (sym (serves-own user turn a)) ∙ e)) (is_connected m.phase) refl
-
-    go : (r : Bool) → Served turn (length user.breaks) (is_busy turn user.busy) a (cond r m (asked_at turn (next_break user.breaks m) m))
-    go true = h
-    go false = by (next_break user.breaks m) refl
+        connected : (q : Phase) → is_connected q ≡ true → Stands z (turn + 1) turn role q a → a.phase ≡ q
+            → ServesAs z total breaks turn role q a b
+        connected Connected c k f = served-connected z total breaks turn busy role a b y k f s
+        connected q c k f = cc

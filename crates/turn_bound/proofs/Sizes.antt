@@ -1,16 +1,15 @@
 use Rattle.std.proofs.Common.{take, drop, ◌++◌, length-take, length-drop, ◌≡◌, ℕ, ◌-◌, ◌&&◌, not, Bool, true, false, cond, refl, sym, ap}
-use Rattle.std.proofs.Common.{subst, Option, Some, None, Ok, ◌+◌, ◌*◌, nat_le, List, [], ◌∷◌, ◌⊎◌, inl, inr, length, arith, ◌<◌, ◌≤◌, zero}
-use Rattle.std.proofs.Common.{suc, nat_lt, length-append}
-use Rattle.link_account.proofs.Names.{Outgoing, Arrived, Account, is_connected, wants, after_offer, after_given, after_busy}
-use Rattle.link_account.proofs.Names.{after_break_asked, hear, after_ask, Said, speak}
-use Rattle.link_run.proofs.Names.{User, BreakLine, delivered, offered_at, offered_times, room_for, offered, is_busy, next_break}
-use Rattle.link_run.proofs.Names.{is_released}
+use Rattle.std.proofs.Common.{subst, Some, None, Ok, ◌+◌, ◌*◌, List, [], ◌∷◌, ◌⊎◌, inl, inr, length, arith, ◌<◌, ◌≤◌, zero, suc, nat_lt}
+use Rattle.std.proofs.Common.{length-append}
+use Rattle.turn_bound.proofs.Serving.{served-by}
+use Rattle.link_account.proofs.Names.{Outgoing, Arrived, Account, is_connected, wants, after_offer, hear, Said, speak, Role, Originator, Answerer, of}
+use Rattle.link_run.proofs.Names.{User, offered_at, offered_times, room_for, Link, Accounts, Turn, RunOf, arrival}
 use Rattle.link_run.proofs.Speaking.{speaks-pieces}
-use Rattle.turn_bound.proofs.Run.{served_account, Link, State, Turn, RunOf, start, arrival}
-use Rattle.link_run.specs.End.{asked_at, asked}
+use Rattle.turn_bound.proofs.Run.{served_account}
+use Rattle.turn_bound.proofs.CalmRuns.{said-speaks}
+use Rattle.link_run.specs.Run.{start}
 use Rattle.turn_bound.specs.Offered.{IsWithin}
 use Rattle.link_account.proofs.HearWays.{numbers-alike}
-use Rattle.turn_bound.proofs.Falls.{after-is}
 use Rattle.link_account.proofs.HearWays as HearWays
 
 -- the segments and their length, as hearing leaves them
@@ -85,44 +84,10 @@ offers-within (suc n) file a h = offers-within n file (offered_at file a (wants 
 
 served-within : (user : User) (turn : ℕ) (released : Bool) (a : Account) → IsCut user.file a
     → IsCut user.file (served_account user turn released a)
-served-within user turn released a h = asks released
-  where
-    given : (c : Bool) → IsCut user.file
-        (after_given (cond c (record a { incoming = record a.incoming { given = length a.incoming.taken } }) a))
-    given true = h
-    given false = h
-
-    first : Account
-    first = offered user.file (after_given (delivered a))
-
-    m : Account
-    m = after_busy (is_busy turn user.busy) first
-
-    k : IsCut user.file m
-    k = told (is_connected first.phase)
-      where
-        within : IsCut user.file first
-        within = offers-within (room_for (after_given (delivered a))) user.file (after_given (delivered a)) (given (is_connected a.phase))
-
-        told : (c : Bool) → IsCut user.file (cond c (record first { owes = record first.owes { busy = is_busy turn user.busy } }) first)
-        told true = within
-        told false = within
-
-    breaks : (l : ℕ) (c : Bool) → IsCut user.file (cond c (record m { own_breaks = after_ask turn l m.own_breaks }) m)
-    breaks l true = k
-    breaks l false = k
-
-    ready : (b : Option BreakLine) → IsCut user.file (asked_at turn b m)
-    ready None = k
-    ready (Some b) = by (nat_le b.turn turn)
-      where
-        by : (x : Bool) → IsCut user.file (cond x (after_break_asked turn b.length_octet m) m)
-        by true = breaks b.length_octet (is_connected m.phase)
-        by false = k
-
-    asks : (r : Bool) → IsCut user.file (asked turn r user.breaks m)
-    asks true = k
-    asks false = ready (next_break user.breaks m)
+served-within user turn released a h =
+    let s = served-by user turn released a in
+    subst (λ (b : Account). IsCut user.file b) (sym s.is)
+    (offers-within (room_for s.from) user.file s.from (subst (IsWithin user.file) (sym s.from_is) h))
 
 none-within : (file : List ℕ) (o : Outgoing) → length o.pieces ≡ 0 → IsWithin file o
 none-within file o none = record { sized = λ some. absurd (omega (arith, some, none)); last = λ some. absurd (omega (arith, some, none)) }
@@ -148,15 +113,16 @@ end-within user turn arrived a mid released release said hears speaks h =
     heard (inl none) = none-within user.file mid.outgoing (ap (λ l. length l) none)
     heard (inr same) = within-same user.file a.outgoing mid.outgoing same h
 
-pub within-run : (link : Link) (ts : List Turn) (s : State) → RunOf link ts s
-    → IsCut link.orig.user.file s.orig × IsCut link.answ.user.file s.answ
-within-run link [] s run = subst (λ x. IsCut link.orig.user.file x.orig × IsCut link.answ.user.file x.answ) (sym run)
-    (none-within link.orig.user.file (start link).orig.outgoing refl, none-within link.answ.user.file (start link).answ.outgoing refl)
-within-run link (t ∷ ts) s (before, run, g) =
-    let h = within-run link ts before run in
-    subst (λ x. IsCut link.orig.user.file x.orig × IsCut link.answ.user.file x.answ) (sym (after-is link (length ts) before t s g)) (
-      end-within link.orig.user (length ts) (arrival link.answ.delay t.orig_loses before.back) before.orig g.orig_mid
-          (is_released g.orig_mid.phase) _ g.orig_said g.orig_hears g.orig_says h.0,
-      end-within link.answ.user (length ts) (arrival link.orig.delay t.answ_loses before.forward) before.answ g.answ_mid
-          (is_released g.orig_mid.phase) false g.answ_said g.answ_hears g.answ_says h.1,
-    )
+pub within-run : (link : Link) (ts : List Turn) (ends : Accounts) (role : Role) → RunOf link ts ends
+    → IsCut (of role link).user.file (of role ends)
+within-run link [] ends role run = subst (λ (x : Accounts). IsCut (of role link).user.file (of role x)) (sym run) (by role)
+  where
+    by : (r : Role) → IsCut (of r link).user.file (of r (start link))
+    by Originator = none-within link.orig.user.file _ refl
+    by Answerer = none-within link.answ.user.file _ refl
+within-run link (t ∷ ts) ends role (before, run, g) =
+    let o = g.speaking role in
+    let sp = said-speaks link (length ts) g.mid role o.said o.says in
+    subst (IsCut (of role link).user.file) (sym o.after_is)
+    (end-within (of role link).user (length ts) (arrival (of role t).heard) (of role before) (of role g.mid) _ sp.0 o.said
+    (g.hearing role).hears sp.1 (within-run link ts before role run))

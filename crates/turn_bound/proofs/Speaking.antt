@@ -1,230 +1,211 @@
-use Rattle.std.proofs.Common.{◌≡◌, ℕ, ◌+◌, ◌-◌, ◌*◌, ◌≤◌, ◌||◌, Bool, true, false, cond, nat_eq, List, [], ◌∷◌, length, arith, refl, sym}
-use Rattle.std.proofs.Common.{◌∙◌, ap, subst, Option, Some, None, Result, Ok, Err}
-use Rattle.link_account.proofs.Names.{Role, Originator, Answerer, Outgoing, next_number, OwnBreaks, ticked, LinkFault, Account}
-use Rattle.link_account.proofs.Names.{is_connected, is_originator, Said, may_send, steps, speak_linked}
-use Rattle.link_run.proofs.Names.{Phase, Connected, is_closed}
-use Rattle.lapm_sender.specs.Outgoing.{after_next, sent_among, expired}
+use Rattle.std.proofs.Common.{◌≡◌, ℕ, ◌+◌, ◌-◌, ◌*◌, ◌≤◌, ◌||◌, Bool, true, false, cond, nat_eq, length, arith, refl, sym, ◌∙◌, ap, subst}
+use Rattle.std.proofs.Common.{Option, Some, None, Ok, ◌<◌, ◌&&◌, nat_le}
+use Rattle.link_account.proofs.Names.{nat_tests, Role, Originator, Answerer, Outgoing, next_number, BreakWord, OwnBreaks, ticked, Account}
+use Rattle.link_account.proofs.Names.{is_connected, is_originator, Said, may_send, speak_linked, Frame, Disc, trying, speak, speak_in}
+use Rattle.link_account.proofs.Names.{speak_releasing, is_some}
+use Rattle.link_run.proofs.Names.{Setup, Phase, Connected, is_closed, Detecting, Negotiating, Establishing, Releasing}
+use Rattle.lapm_sender.specs.Outgoing.{after_next}
 use Rattle.break_signals.specs.Breaks.{after_brk}
-use Rattle.link_account.specs.Speak.{polling, timer_expires, on_timer, breaking, on_break_timer, running, says_segment, after_timers}
-use Rattle.link_account.specs.Speak.{then_tries}
-use Rattle.link_account.proofs.SpeakWays.{AllSaid, by-steps}
-use Rattle.turn_bound.proofs.Clock.{Rates, AreRates, is_waiting, Sends, lasts, one_if, sender_value, Breaks, is_breaking, break_left}
-use Rattle.turn_bound.proofs.Value.{value, linked_lives, lives, IsOf, IsAck, IsSilent, Linked, Stands}
-use Rattle.turn_bound.proofs.Sending.{WaitedWell, waited-quiet, waited-expired, sent-well}
-use Rattle.turn_bound.proofs.Breaking.{TickedWell, ticked-well, brk-sent}
-
--- what no timer and no step changes
-pub record Same (a b : Account) : Type 0 where
-  pub setup : b.setup ≡ a.setup
-  pub phase : b.phase ≡ a.phase
-  pub numbered : b.numbered ≡ a.numbered
-  pub pieces : b.outgoing.pieces ≡ a.outgoing.pieces
-  pub ended : b.outgoing.ended ≡ a.outgoing.ended
-  pub lengths : b.own_breaks.lengths ≡ a.own_breaks.lengths
+use Rattle.link_account.specs.Speak.{timer_expires, breaking, running, says_segment}
+use Rattle.link_account.proofs.SpeakWays.{AllSaid, Steps, steps-so, polling_at, Expired, ConnectedWays, by-linked, next-keeps, OnSaid}
+use Rattle.link_account.proofs.SpeakWays.{Tries as TryWays, tries-alike, by-tries, linked-so, Ways, by-ways, answers_alone}
+use Rattle.turn_bound.proofs.Value.{Rates, AreRates, is_waiting, Sends, lasts, one_if, sender_value, Breaks, is_breaking, break_left, value}
+use Rattle.turn_bound.proofs.Value.{lives, IsOf, IsAck, IsSilent, LinkedIn, Linked, Stands, Runs, left, time_left, try_left, linked_lives}
+use Rattle.turn_bound.proofs.Value.{Tries, tries_fit}
+use Rattle.turn_bound.proofs.Sending.{WaitedWell, waited-quiet, waited-expired, sent-well, TickedWell, ticked-well, brk-sent}
+use Rattle.link_account.specs.declared.owes.Owes.{Owes}
+use Rattle.shared_terms.specs.Timer.{expires}
+use Rattle.turn_bound.proofs.Hearing.{tries-now}
 
 -- what the timers make of a Connected account
 pub record Timed (z : Rates) (total breaks turn : ℕ) (role : Role) (a b : Account) : Type 0 where
   pub waited : WaitedWell z total turn a.outgoing a.wait.timer b.outgoing b.wait.timer
   pub ticked : TickedWell z breaks turn a.own_breaks b.own_breaks
-  pub ack : IsAck b.their_breaks.ack
-  pub silent : IsSilent role b
-  pub same : Same a b
+  pub linked : Linked z (turn + 1) (turn + 1) role b
+  pub setup : b.setup ≡ a.setup
+  pub phase : b.phase ≡ a.phase
+  pub numbered : b.numbered ≡ a.numbered
+  pub pieces : b.outgoing.pieces ≡ a.outgoing.pieces
+  pub ended : b.outgoing.ended ≡ a.outgoing.ended
 
--- what a step makes of it
-pub record Stepped (z : Rates) (total breaks turn : ℕ) (role : Role) (a b : Account) : Type 0 where
-  pub sends : Sends z (turn + 1) (turn + 1) b.outgoing b.wait.timer
-  pub waits : is_waiting a.outgoing ≡ true → is_waiting b.outgoing ≡ true
-  pub falls : sender_value z total (turn + 1) b.outgoing b.wait.timer + cond (is_waiting a.outgoing) 0
-      (cond (is_waiting b.outgoing) (z.room + 1) 0) ≤ sender_value z total (turn + 1) a.outgoing a.wait.timer
-  pub own : Breaks z (turn + 1) (turn + 1) b.own_breaks
-  pub breaking : is_breaking (turn + 1) b.own_breaks ≡ is_breaking (turn + 1) a.own_breaks
-  pub left : break_left z (turn + 1) b.own_breaks ≡ break_left z (turn + 1) a.own_breaks
-  pub ack : IsAck b.their_breaks.ack
-  pub silent : IsSilent role b
-  pub same : Same a b
+-- what a step makes of it, by the parts that count
+pub record StepIn (z : Rates) (total breaks turn : ℕ) (role : Role) (a : Account) (s : Setup) (p : Phase) (n : Bool) (o : Outgoing)
+    (timer : Option ℕ) (b : OwnBreaks) (due : Option BreakWord) : Type 0 where
+  pub linked : LinkedIn z (turn + 1) (turn + 1) role n o timer b due
+  pub waits : is_waiting a.outgoing ≡ true → is_waiting o ≡ true
+  pub falls : sender_value z total (turn + 1) o timer + cond (is_waiting a.outgoing) 0 (cond (is_waiting o) (z.room + 1) 0)
+      ≤ sender_value z total (turn + 1) a.outgoing a.wait.timer
+  pub breaking : is_breaking (turn + 1) b ≡ is_breaking (turn + 1) a.own_breaks
+  pub left : break_left z (turn + 1) b ≡ break_left z (turn + 1) a.own_breaks
+  pub lengths : b.lengths ≡ a.own_breaks.lengths
+  pub setup : s ≡ a.setup
+  pub phase : p ≡ a.phase
+  pub numbered : n ≡ a.numbered
+  pub pieces : o.pieces ≡ a.outgoing.pieces
+  pub ended : o.ended ≡ a.outgoing.ended
+
+abbrev pub Stepped : Rates → ℕ → ℕ → ℕ → Role → Account → Account → Type 0
+Stepped z total breaks turn role a b =
+    StepIn z total breaks turn role a b.setup b.phase b.numbered b.outgoing b.wait.timer b.own_breaks b.their_breaks.ack
 
 nothing-falls : (v k : ℕ) (w : Bool) → v + cond w 0 (cond w (k + 1) 0) ≤ v
-nothing-falls v k true = omega arith
-nothing-falls v k false = omega arith
+nothing-falls v k b = grind (arith)
 
 -- The steps of a Connected end.
 module _ (z : Rates) (total breaks turn : ℕ) (role : Role) (a : Account) (y : AreRates z) (h : Linked z (turn + 1) (turn + 1) role a)
     (er : a.setup.role ≡ role) (all : length a.outgoing.pieces ≤ total) where
-  -- a frame that leaves the sender's part and the breaks as they are
-  quiet : (b : Account) → b.outgoing ≡ a.outgoing → b.wait.timer ≡ a.wait.timer → b.own_breaks ≡ a.own_breaks → IsAck b.their_breaks.ack
-      → b.numbered ≡ a.numbered → b.phase ≡ a.phase → b.setup ≡ a.setup → Stepped z total breaks turn role a b
-  quiet b outgoing timer own ack numbered phase setup = record {
-    sends = subst (λ o. Sends z (turn + 1) (turn + 1) o b.wait.timer) (sym outgoing)
-        (subst (Sends z (turn + 1) (turn + 1) a.outgoing) (sym timer) h.sends);
-    waits = λ w. ap is_waiting outgoing ∙ w;
-    falls = subst (λ o. sender_value z total (turn + 1) o b.wait.timer + cond (is_waiting a.outgoing) 0
-        (cond (is_waiting o) (z.room + 1) 0) ≤ sender_value z total (turn + 1) a.outgoing a.wait.timer) (sym outgoing)
-        (subst (λ r. sender_value z total (turn + 1) a.outgoing r + cond (is_waiting a.outgoing) 0
-        (cond (is_waiting a.outgoing) (z.room + 1) 0) ≤ sender_value z total (turn + 1) a.outgoing a.wait.timer) (sym timer)
-        (nothing-falls (sender_value z total (turn + 1) a.outgoing a.wait.timer) z.room (is_waiting a.outgoing)));
-    own = subst (Breaks z (turn + 1) (turn + 1)) (sym own) h.breaks;
-    breaking = ap (is_breaking (turn + 1)) own;
-    left = ap (break_left z (turn + 1)) own;
-    ack = ack;
-    silent = silent-same role h.silent;
-    same = record {
-      setup = setup;
-      phase = phase;
-      numbered = numbered;
-      pieces = ap (λ o. o.pieces) outgoing;
-      ended = ap (λ o. o.ended) outgoing;
-      lengths = ap (λ o. o.lengths) own;
-    };
+  -- a frame that leaves the sender's part as it is
+  leaves : (b : OwnBreaks) (due : Option BreakWord) → Breaks z (turn + 1) (turn + 1) b
+      → is_breaking (turn + 1) b ≡ is_breaking (turn + 1) a.own_breaks
+      → break_left z (turn + 1) b ≡ break_left z (turn + 1) a.own_breaks → b.lengths ≡ a.own_breaks.lengths → IsAck due
+      → StepIn z total breaks turn role a a.setup a.phase a.numbered a.outgoing a.wait.timer b due
+  leaves b due sound breaking left lengths ack = record {
+    linked = record { sends = h.sends; breaks = sound; ack = ack; silent = h.silent };
+    waits = λ w. w;
+    falls = nothing-falls (sender_value z total (turn + 1) a.outgoing a.wait.timer) z.room (is_waiting a.outgoing);
+    breaking = breaking;
+    left = left;
+    lengths = lengths;
+    setup = refl;
+    phase = refl;
+    numbered = refl;
+    pieces = refl;
+    ended = refl;
   }
-    where
-      silent-same : (r : Role) → IsSilent r a → IsSilent r b
-      silent-same Originator s = tt
-      silent-same Answerer s = λ n. let k = s (sym numbered ∙ n) in (ap (λ o. o.high) outgoing ∙ k.0, timer ∙ k.1)
+
+  -- and the breaks
+  same : (due : Option BreakWord) → IsAck due
+      → StepIn z total breaks turn role a a.setup a.phase a.numbered a.outgoing a.wait.timer a.own_breaks due
+  same due ack = leaves a.own_breaks due h.breaks refl refl refl ack
 
   -- an I frame
   segment : (n : ℕ) → may_send a ≡ Some n → AllSaid (λ s. Stepped z total breaks turn role a s.account) (says_segment turn (Some n) a)
   segment n e =
       let g = allowed (is_originator a.setup.role || a.numbered) refl e in
       let s = sent-well z total turn a.outgoing a.wait.timer n y h.sends all g.0 in
+      let keeps = next-keeps a.outgoing in
       record {
-        sends = s.sends;
+        linked = record { sends = s.sends; breaks = h.breaks; ack = h.ack; silent = heard-of role er g.1 _ _ };
         waits = λ w. s.waits;
         falls = subst (λ l. sender_value z total (turn + 1) (after_next a.outgoing) (running turn a.wait.timer) + cond
             (is_waiting a.outgoing) 0 (cond l (z.room + 1) 0) ≤ sender_value z total (turn + 1) a.outgoing a.wait.timer)
             (sym s.waits) s.falls;
-        own = h.breaks;
         breaking = refl;
         left = refl;
-        ack = h.ack;
-        silent = heard-of role er g.1 _ refl;
-        same = record {
-          setup = refl;
-          phase = refl;
-          numbered = refl;
-          pieces = (sent-pieces a.outgoing).0;
-          ended = (sent-pieces a.outgoing).1;
-          lengths = refl;
-        };
+        lengths = refl;
+        setup = refl;
+        phase = refl;
+        numbered = refl;
+        pieces = keeps.pieces;
+        ended = keeps.ended;
       }
     where
       allowed : (b : Bool) → is_originator a.setup.role || a.numbered ≡ b → cond b (next_number a.outgoing) None ≡ Some n
           → (next_number a.outgoing ≡ Some n) × (is_originator a.setup.role || a.numbered ≡ true)
-      allowed true f e = (e, f)
-      allowed false f e = cc
+      allowed b f e = grind (arith)
 
-      heard-of : (r : Role) → a.setup.role ≡ r → is_originator a.setup.role || a.numbered ≡ true → (b : Account) → b.numbered ≡ a.numbered
-          → IsSilent r b
-      heard-of Originator f g b e = tt
-      heard-of Answerer f g b e = λ n. let none : is_originator a.setup.role ≡ false = ap is_originator f in
+      heard-of : (r : Role) → a.setup.role ≡ r → is_originator a.setup.role || a.numbered ≡ true → (high : ℕ) (timer : Option ℕ)
+          → IsSilent r a.numbered high timer
+      heard-of Originator f g high timer = tt
+      heard-of Answerer f g high timer = λ n. let none : is_originator a.setup.role ≡ false = ap is_originator f in
           let wrong : false || false ≡ true =
-          subst (λ k. k || false ≡ true) none (subst (λ k. is_originator a.setup.role || k ≡ true) (sym e ∙ n) g) in cc
+          subst (λ k. k || false ≡ true) none (subst (λ k. is_originator a.setup.role || k ≡ true) n g) in cc
 
-      sent-pieces : (o : Outgoing) → ((after_next o).pieces ≡ o.pieces) × ((after_next o).ended ≡ o.ended)
-      sent-pieces o = by o.chosen
-        where
-          by : (l : List ℕ) → ((sent_among l o).pieces ≡ o.pieces) × ((sent_among l o).ended ≡ o.ended)
-          by [] = (refl, refl)
-          by (n ∷ l) = (refl, refl)
-
-  pub steps-well : (special : Bool) → Stepped z total breaks turn role a (steps turn special a).account
-  steps-well special = by-steps (λ s. Stepped z total breaks turn role a s.account) turn special a (record {
-    answers = λ d e. quiet _ refl refl refl h.ack refl refl refl;
-    final = λ n e. quiet _ refl refl refl h.ack refl refl refl;
-    poll = λ n r e. quiet _ refl refl refl h.ack refl refl refl;
+  pub steps-well : (special : Bool) → Steps (λ s. Stepped z total breaks turn role a s.account) turn special a
+  steps-well special = record {
+    answers = λ d e. same _ h.ack;
+    final = λ n e. same _ h.ack;
+    poll = λ n r e. same _ h.ack;
     segment = λ b u n e. segment n e;
-    brkack = λ b s word e. quiet _ refl refl refl tt refl refl refl;
-    brk = λ b s k word e. record {
-      sends = h.sends;
-      waits = λ w. w;
-      falls = nothing-falls (sender_value z total (turn + 1) a.outgoing a.wait.timer) z.room (is_waiting a.outgoing);
-      own = brk-sent z (turn + 1) (turn + 1) a.own_breaks h.breaks;
-      breaking = refl;
-      left = refl;
-      ack = h.ack;
-      silent = silent-same role h.silent;
-      same = record { setup = refl; phase = refl; numbered = refl; pieces = refl; ended = refl; lengths = refl };
-    };
-    tell = λ b w e. quiet _ refl refl refl h.ack refl refl refl;
-    rej = λ b w n k. quiet _ refl refl refl h.ack refl refl refl;
-    srej = λ b w s n k. quiet _ refl refl refl h.ack refl refl refl;
-    flags = λ i. quiet _ refl refl refl h.ack refl refl refl;
-  })
+    brkack = λ b s word e. same None tt;
+    brk = λ b s k word e.
+        leaves (after_brk a.own_breaks) _ (brk-sent z (turn + 1) (turn + 1) a.own_breaks h.breaks) refl refl refl h.ack;
+    tell = λ b w e. same _ h.ack;
+    rej = λ b w n k. same _ h.ack;
+    srej = λ b w s n k. same _ h.ack;
+    flags = λ i. same _ h.ack;
+  }
+
+-- The timers come first: the account that they leave, and what the step makes of it.
+pub record Spoke (z : Rates) (total breaks turn : ℕ) (role : Role) (a : Account) (said : Said) : Type 0 where
+  pub timed : Account
+  pub is_timed : Timed z total breaks turn role a timed
+  pub stepped : Stepped z total breaks turn role timed said.account
+
+module _ (z : Rates) (total breaks turn : ℕ) (role : Role) (a : Account) (y : AreRates z) (k : IsOf z a.setup)
+    (h : Linked z (turn + 1) turn role a) where
+  ticks : (own : OwnBreaks) → ticked turn a.setup.period a.setup.tries a.own_breaks ≡ Some own → TickedWell z breaks turn a.own_breaks own
+  ticks own t = ticked-well z breaks turn a.own_breaks own y h.breaks (ap (λ p. ticked turn p z.tries a.own_breaks) (sym k.period)
+      ∙ (ap (λ n. ticked turn a.setup.period n a.own_breaks) (sym k.tries) ∙ t))
+
+  stood : timer_expires turn a a.wait.timer ≡ false → (own : OwnBreaks) → ticked turn a.setup.period a.setup.tries a.own_breaks ≡ Some own
+      → Timed z total breaks turn role a (record a { own_breaks = own; special = false })
+  stood x own t =
+      let w = waited-quiet z total turn a.outgoing a.wait.timer y h.sends
+      (λ set e. ap (λ p. nat_eq turn (set + p)) (sym k.period) ∙ (ap (timer_expires turn a) (sym e) ∙ x)) in
+      let c = ticks own t in
+      record {
+        waited = w;
+        ticked = c;
+        linked = record { sends = w.sends; breaks = c.sound; ack = h.ack; silent = h.silent };
+        setup = refl;
+        phase = refl;
+        numbered = refl;
+        pieces = refl;
+        ended = refl;
+      }
+
+  expired : (set : ℕ) → Expired turn a set → (own : OwnBreaks) → ticked turn a.setup.period a.setup.tries a.own_breaks ≡ Some own
+      → Timed z total breaks turn role a (polling_at turn a own)
+  expired set x own t =
+      let w = subst (λ timer. WaitedWell z total turn a.outgoing timer
+      (record a.outgoing { count = a.outgoing.count + 1; awaited = true }) (Some turn)) (sym x.timer)
+      (waited-expired z total turn a.outgoing set y (subst (Sends z (turn + 1) turn a.outgoing) x.timer h.sends)
+      (due (omega (arith, x.due, k.period))) x.left) in
+      let c = ticks own t in
+      record {
+        waited = w;
+        ticked = c;
+        linked = record { sends = w.sends; breaks = c.sound; ack = h.ack; silent = loud role h.silent };
+        setup = refl;
+        phase = refl;
+        numbered = refl;
+        pieces = refl;
+        ended = refl;
+      }
     where
-      silent-same : (r : Role) → IsSilent r a → IsSilent r (record a { own_breaks = after_brk a.own_breaks; special = true })
-      silent-same Originator s = tt
-      silent-same Answerer s = s
+      due : turn ≡ set + z.period → nat_eq turn (set + z.period) ≡ true
+      due q = grind (arith, nat_tests, q)
 
--- The timers come first.
+      loud : (r : Role) → IsSilent r a.numbered a.outgoing.high a.wait.timer → IsSilent r a.numbered a.outgoing.high (Some turn)
+      loud Originator s = tt
+      loud Answerer s = λ n. let wrong : Some set ≡ None = sym x.timer ∙ (s n).1 in cc
 
-abbrev pub OnOk : {A : Type 0} → (A → Type 0) → Result A LinkFault → Type 0
-OnOk P (Err fault) = Unit {0}
-OnOk P (Ok b) = P b
+  pub spoke-ways : a.setup.role ≡ role → length a.outgoing.pieces ≤ total → ConnectedWays (Spoke z total breaks turn role a) turn a
+  spoke-ways er all = record {
+    stands = λ x own t. rows (record a { own_breaks = own; special = false }) (stood x own t);
+    expires = λ set x own t. rows (polling_at turn a own) (expired set x own t);
+  }
+    where
+      rows : (b : Account) → Timed z total breaks turn role a b → Steps (Spoke z total breaks turn role a) turn a.special b
+      rows b t = steps-so _ _ turn a.special b (λ s x. record { timed = b; is_timed = t; stepped = x })
+          (steps-well z total breaks turn role b y t.linked (ap (λ s. s.role) t.setup ∙ er)
+          (omega (arith, all, ap (λ l. length l) t.pieces)) a.special)
 
-break-timer : (z : Rates) (total breaks turn : ℕ) (role : Role) (a b : Account) → AreRates z → IsOf z a.setup
-    → Breaks z (turn + 1) turn a.own_breaks → WaitedWell z total turn a.outgoing a.wait.timer b.outgoing b.wait.timer
-    → b.own_breaks ≡ a.own_breaks → IsAck b.their_breaks.ack → IsSilent role b → b.setup ≡ a.setup → b.phase ≡ a.phase
-    → b.numbered ≡ a.numbered → b.outgoing.pieces ≡ a.outgoing.pieces → b.outgoing.ended ≡ a.outgoing.ended
-    → OnOk (Timed z total breaks turn role a) (on_break_timer turn b)
-break-timer z total breaks turn role a b y k h w own ack silent setup phase numbered pieces ended =
-    go (ticked turn b.setup.period b.setup.tries b.own_breaks) refl
-  where
-    ticks : ticked turn b.setup.period b.setup.tries b.own_breaks ≡ ticked turn z.period z.tries a.own_breaks
-    ticks = ap (λ p. ticked turn p b.setup.tries b.own_breaks) (ap (λ s. s.period) setup ∙ k.period)
-        ∙ ap (λ n. ticked turn z.period n b.own_breaks) (ap (λ s. s.tries) setup ∙ k.tries) ∙ ap (ticked turn z.period z.tries) own
+  pub spoke : a.setup.role ≡ role → length a.outgoing.pieces ≤ total → (said : Said) → speak_linked turn a ≡ Ok said
+      → Spoke z total breaks turn role a said
+  spoke er all = by-linked (Spoke z total breaks turn role a) turn a (spoke-ways er all)
 
-    silent-same : (r : Role) (c : OwnBreaks) → IsSilent r b → IsSilent r (record b { own_breaks = c })
-    silent-same Originator c s = tt
-    silent-same Answerer c s = s
-
-    go : (m : Option OwnBreaks) → ticked turn b.setup.period b.setup.tries b.own_breaks ≡ m
-        → OnOk (Timed z total breaks turn role a) (breaking turn m b)
-    go None e = tt
-    go (Some c) e =
-        let t = ticked-well z breaks turn a.own_breaks c y h (sym ticks ∙ e) in
-        record {
-          waited = w;
-          ticked = t;
-          ack = ack;
-          silent = silent-same role c silent;
-          same = record { setup = setup; phase = phase; numbered = numbered; pieces = pieces; ended = ended; lengths = t.lengths };
-        }
-
-pub timers-well : (z : Rates) (total breaks turn : ℕ) (role : Role) (a : Account) → AreRates z → IsOf z a.setup
-    → Linked z (turn + 1) turn role a → OnOk (Timed z total breaks turn role a) (then_tries turn (on_timer turn a))
-timers-well z total breaks turn role a y k h = go a.wait.timer refl
-  where
-    quiet : ((set : ℕ) → a.wait.timer ≡ Some set → nat_eq turn (set + z.period) ≡ false)
-        → OnOk (Timed z total breaks turn role a) (on_break_timer turn a)
-    quiet q = break-timer z total breaks turn role a a y k h.breaks
-        (waited-quiet z total turn a.outgoing a.wait.timer y h.sends q) refl h.ack h.silent refl refl refl refl refl
-
-    loud : (r : Role) (set : ℕ) (c : Account) → IsSilent r a → a.wait.timer ≡ Some set → c.numbered ≡ a.numbered → IsSilent r c
-    loud Originator set c s e n = tt
-    loud Answerer set c s e n = λ f. let wrong : Some set ≡ None = sym e ∙ (s (sym n ∙ f)).1 in cc
-
-    go : (timer : Option ℕ) → a.wait.timer ≡ timer
-        → OnOk (Timed z total breaks turn role a)
-        (then_tries turn (cond (timer_expires turn a timer) (polling turn (expired a.outgoing) a) (Ok a)))
-    go None e = quiet (λ set f. let wrong : None ≡ Some set = sym e ∙ f in cc)
-    go (Some set) e = by (nat_eq turn (set + a.setup.period)) refl (nat_eq a.outgoing.count a.outgoing.tries) refl
-      where
-        due-is : nat_eq turn (set + a.setup.period) ≡ nat_eq turn (set + z.period)
-        due-is = ap (λ p. nat_eq turn (set + p)) k.period
-
-        by : (due : Bool) → nat_eq turn (set + a.setup.period) ≡ due → (spent : Bool) → nat_eq a.outgoing.count a.outgoing.tries ≡ spent
-            → OnOk (Timed z total breaks turn role a)
-            (then_tries turn (cond due
-            (polling turn (cond spent None (Some (record a.outgoing { count = a.outgoing.count + 1; awaited = true }))) a) (Ok a)))
-        by false d n f = quiet
-            (λ other g. let same : Some other ≡ Some set = sym g ∙ e in let same' : other ≡ set = cc in
-            subst (λ x. nat_eq turn (x + z.period) ≡ false) (sym same') (sym due-is ∙ d))
-        by true d true f = tt
-        by true d false f =
-            break-timer z total breaks turn role a _ y k h.breaks
-            (subst (λ timer. WaitedWell z total turn a.outgoing timer (record a.outgoing { count = a.outgoing.count + 1; awaited = true })
-            (Some turn)) (sym e)
-            (waited-expired z total turn a.outgoing set y (subst (Sends z (turn + 1) turn a.outgoing) e h.sends) (sym due-is ∙ d) f))
-            refl h.ack (loud role set _ h.silent e refl) refl refl refl refl refl
+  -- where the segments' clock doesn't run that of the break alone can expire
+  pub untimed : (P : Said → Type 0) → a.wait.timer ≡ None
+      → ((own : OwnBreaks) → ticked turn a.setup.period a.setup.tries a.own_breaks ≡ Some own
+      → Linked z (turn + 1) (turn + 1) role (record a { own_breaks = own; special = false })
+      → Steps P turn a.special (record a { own_breaks = own; special = false }))
+      → (said : Said) → speak_linked turn a ≡ Ok said → P said
+  untimed P none rows = by-linked P turn a (record {
+    stands = λ x own t. rows own t (stood x own t).linked;
+    expires = λ set x. let wrong : None ≡ Some set = sym none ∙ x.timer in cc;
+  })
 
 -- what speaking makes of an end
 pub record SpeaksAs (z : Rates) (total breaks turn : ℕ) (role : Role) (p : Phase) (a : Account) (q : Phase) (b : Account) : Type 0 where
@@ -239,76 +220,198 @@ pub record SpeaksAs (z : Rates) (total breaks turn : ℕ) (role : Role) (p : Pha
   pub falls : value z total breaks (turn + 1) role q b + lasts z.room (lives turn role p a)
       (lives (turn + 1) role q b) ≤ value z total breaks turn role p a
 
-abbrev pub SpeaksWell : Rates → ℕ → ℕ → ℕ → Role → Phase → Account → Result Said LinkFault → Type 0
-SpeaksWell z total breaks turn role p a (Err fault) = Unit {0}
-SpeaksWell z total breaks turn role p a (Ok said) = (q : Phase) × SpeaksAs z total breaks turn role p a q said.account
-
 lasts-both : (k : ℕ) (w b w' b' : Bool) → (b ≡ false → b' ≡ false)
     → lasts k (w || b) (w' || b') ≤ one_if w + cond w 0 (cond w' (k + 1) 0) + one_if b
 lasts-both k w b w' b' h = grind (arith)
 
-pub linked-step : (z : Rates) (total breaks turn : ℕ) (role : Role) (a b c : Account) → a.phase ≡ Connected
-    → Timed z total breaks turn role a b → Stepped z total breaks turn role (record b { special = false }) c
-    → SpeaksAs z total breaks turn role Connected a Connected c
-linked-step z total breaks turn role a b c e t s = go role s.silent
-  where
-    bools : lasts z.room (linked_lives turn a) (linked_lives (turn + 1) c) ≤ one_if (is_waiting a.outgoing) + cond (is_waiting a.outgoing) 0
-        (cond (is_waiting c.outgoing) (z.room + 1) 0) + one_if (is_breaking turn a.own_breaks)
-    bools = lasts-both z.room (is_waiting a.outgoing) (is_breaking turn a.own_breaks) (is_waiting c.outgoing)
-        (is_breaking (turn + 1) c.own_breaks) (λ f. s.breaking ∙ t.ticked.lives f)
+pub spoken-linked : (z : Rates) (total breaks turn : ℕ) (role : Role) (a : Account) (said : Said) → a.phase ≡ Connected
+    → Spoke z total breaks turn role a said → SpeaksAs z total breaks turn role Connected a Connected said.account
+spoken-linked z total breaks turn role a said e x = let t = x.is_timed in let s = x.stepped in let c = said.account in record {
+  phase = s.phase ∙ (t.phase ∙ e);
+  keeps = λ f. refl;
+  opens = λ f. refl;
+  stands = s.linked;
+  setup = s.setup ∙ t.setup;
+  pieces = s.pieces ∙ t.pieces;
+  ended = s.ended ∙ t.ended;
+  lengths = s.lengths ∙ t.ticked.lengths;
+  falls = omega (
+    arith,
+    t.waited.falls,
+    t.ticked.falls,
+    s.falls,
+    s.left,
+    lasts-both z.room (is_waiting a.outgoing) (is_breaking turn a.own_breaks) (is_waiting c.outgoing)
+        (is_breaking (turn + 1) c.own_breaks) (λ f. s.breaking ∙ t.ticked.lives f),
+    ap (λ w. cond w 0 (cond (is_waiting c.outgoing) (z.room + 1) 0)) t.waited.waits,
+    ap (λ l. z.quota * (breaks - length l)) s.lengths,
+  );
+}
 
-    same : cond (is_waiting b.outgoing) 0 (cond (is_waiting c.outgoing) (z.room + 1) 0) ≡ cond (is_waiting a.outgoing) 0
-        (cond (is_waiting c.outgoing) (z.room + 1) 0)
-    same = ap (λ w. cond w 0 (cond (is_waiting c.outgoing) (z.room + 1) 0)) t.waited.waits
+-- A U try goes on, with this in its account's wait.
+module _ (z : Rates) (turn : ℕ) (frame : Frame) (a : Account) (y : AreRates z) (k : IsOf z a.setup) (h : Tries z (turn + 1) turn a)
+    (Q : Account → Type 0) (goes : (try : Bool) (set count : ℕ) → Runs z (turn + 1) (turn + 1) count set
+    → left z (turn + 1) count (Some set) + 1 ≤ try_left z turn a
+    → Q (record a { wait = record a.wait { try = try; try_set = set; try_count = count } })) where
+  try-stood : expires a.wait.try_set a.setup.period turn ≡ false → (try : Bool) → Q (record a { wait = record a.wait { try = try } })
+  try-stood x try =
+      let f : nat_eq turn (a.wait.try_set + z.period) ≡ false = ap (λ p. nat_eq turn (a.wait.try_set + p)) (sym k.period) ∙ x in
+      let later : turn + 1 ≤ a.wait.try_set + z.period = grind (arith, nat_tests, h.within) in
+      goes try a.wait.try_set a.wait.try_count (record { tied = h.tied; started = h.started; within = later; tried = h.tried })
+      (omega (arith, tries_fit z a.wait.try_count y h.tried, h.within))
 
-    same-length : z.quota * (breaks - length c.own_breaks.lengths) ≡ z.quota * (breaks - length b.own_breaks.lengths)
-    same-length = ap (λ l. z.quota * (breaks - length l)) s.same.lengths
+  pub tries-well : TryWays (λ s. Q s.account) turn frame a
+  tries-well = record {
+    sent = λ x e. try-stood x false;
+    again = λ x n.
+        let f : nat_eq turn (a.wait.try_set + z.period) ≡ true = ap (λ p. nat_eq turn (a.wait.try_set + p)) (sym k.period) ∙ x in
+        let now : turn ≡ a.wait.try_set + z.period = grind (arith, nat_tests) in
+        let g : nat_eq a.wait.try_count z.tries ≡ false = ap (nat_eq a.wait.try_count) (sym k.tries) ∙ n in
+        let fewer : a.wait.try_count < z.tries = grind (arith, nat_tests, h.tried) in
+        goes false turn (a.wait.try_count + 1) (record {
+          tied = omega (arith, h.tied, now);
+          started = omega arith;
+          within = omega (arith, y.period);
+          tried = omega (arith, fewer);
+        }) (omega (arith, tries_fit z (a.wait.try_count + 1) y (omega (arith, fewer)), now));
+    flags = λ x e. try-stood x a.wait.try;
+  }
 
-    go : (r : Role) → IsSilent r c → SpeaksAs z total breaks turn r Connected a Connected c
-    go Originator silent = record {
-      phase = s.same.phase ∙ (t.same.phase ∙ e);
+-- Speaking: whatever the role and the phase.
+module _ (z : Rates) (total breaks turn : ℕ) (release : Bool) (role : Role) (a : Account) (y : AreRates z) (k : IsOf z a.setup)
+    (st : (p : Phase) → a.phase ≡ p → Stands z (turn + 1) turn role p a) (er : a.setup.role ≡ role)
+    (all : length a.outgoing.pieces ≤ total) where
+  abbrev P : Account → Type 0
+  P b = (q : Phase) × SpeaksAs z total breaks turn role a.phase a q b
+
+  -- in this phase
+  now : (p : Phase) → a.phase ≡ p → (q : Phase) (b : Account) → SpeaksAs z total breaks turn role p a q b → P b
+  now p e q b w = (q, subst (λ p. SpeaksAs z total breaks turn role p a q b) (sym e) w)
+
+  alone : (o : Owes) → answers_alone a.phase a.setup.role ≡ true → P (record a { owes = o })
+  alone o t = let r = rests role a.phase (ap (answers_alone a.phase) (sym er) ∙ t) (st a.phase refl) in (
+    a.phase,
+    record {
+      phase = refl;
       keeps = λ x. refl;
-      opens = λ x. refl;
-      stands = record { sends = s.sends; breaks = s.own; ack = s.ack; silent = silent };
-      setup = s.same.setup ∙ t.same.setup;
-      pieces = s.same.pieces ∙ t.same.pieces;
-      ended = s.same.ended ∙ t.same.ended;
-      lengths = s.same.lengths ∙ t.same.lengths;
-      falls = omega (arith, t.waited.falls, t.ticked.falls, s.falls, s.left, bools, same, same-length);
-    }
-    go Answerer silent = record {
-      phase = s.same.phase ∙ (t.same.phase ∙ e);
-      keeps = λ x. refl;
-      opens = λ x. refl;
-      stands = record { sends = s.sends; breaks = s.own; ack = s.ack; silent = silent };
-      setup = s.same.setup ∙ t.same.setup;
-      pieces = s.same.pieces ∙ t.same.pieces;
-      ended = s.same.ended ∙ t.same.ended;
-      lengths = s.same.lengths ∙ t.same.lengths;
-      falls = omega (arith, t.waited.falls, t.ticked.falls, s.falls, s.left, bools, same, same-length);
-    }
+      opens = λ x. x;
+      stands = r.0;
+      setup = refl;
+      pieces = refl;
+      ended = refl;
+      lengths = refl;
+      falls = omega (arith, r.1, r.2);
+    },
+  )
+    where
+      rests : (r : Role) (p : Phase) → answers_alone p r ≡ true → Stands z (turn + 1) turn r p a
+          → Stands z (turn + 1) (turn + 1) r p (record a { owes = o }) × (time_left z (turn + 1) r p (record a { owes = o }) ≡ 0)
+          × (lasts z.room (lives turn r p a) (lives (turn + 1) r p (record a { owes = o })) ≡ 0)
+      rests r p e s = grind (arith)
 
-pub timed-linked : (z : Rates) (total breaks turn : ℕ) (role : Role) (a b : Account) → Timed z total breaks turn role a b
-    → Linked z (turn + 1) (turn + 1) role (record b { special = false })
-timed-linked z total breaks turn role a b t =
-    record { sends = t.waited.sends; breaks = t.ticked.sound; ack = t.ack; silent = silent-same role t.silent }
-  where
-    silent-same : (r : Role) → IsSilent r b → IsSilent r (record b { special = false })
-    silent-same Originator s = tt
-    silent-same Answerer s = s
+  linked : a.phase ≡ Connected → ConnectedWays (λ s. P s.account) turn a
+  linked e = linked-so _ _ turn a (λ s x. now Connected e Connected s.account (spoken-linked z total breaks turn role a s e x))
+      (spoke-ways z total breaks turn role a y k (st Connected e) er all)
 
-pub speaks-linked : (z : Rates) (total breaks turn : ℕ) (role : Role) (a : Account) → AreRates z → IsOf z a.setup
-    → Linked z (turn + 1) turn role a → a.phase ≡ Connected → a.setup.role ≡ role → length a.outgoing.pieces ≤ total
-    → SpeaksWell z total breaks turn role Connected a (speak_linked turn a)
-speaks-linked z total breaks turn role a y k h e er all =
-    go (then_tries turn (on_timer turn a)) (timers-well z total breaks turn role a y k h)
+module _ (z : Rates) (total breaks turn : ℕ) (release : Bool) (a : Account) (y : AreRates z) (k : IsOf z a.setup)
+    (st : (p : Phase) → a.phase ≡ p → Stands z (turn + 1) turn Originator p a) (er : a.setup.role ≡ Originator)
+    (all : length a.outgoing.pieces ≤ total) where
+  -- an originator in a U try, also one that is told to release now
+  tried : (p : Phase) → a.phase ≡ p → (q : Phase) (b : Account) → b.phase ≡ q → (is_connected p ≡ false → q ≡ p) → is_closed q ≡ false
+      → Stands z (turn + 1) (turn + 1) Originator q b → b.setup ≡ a.setup → b.outgoing ≡ a.outgoing → b.own_breaks ≡ a.own_breaks
+      → value z total breaks (turn + 1) Originator q b + lasts z.room (lives turn Originator p a) (lives (turn + 1) Originator q b)
+      ≤ value z total breaks turn Originator p a
+      → P z total breaks turn release Originator a y k st er all b
+  tried p e q b phase keeps opens stands setup outgoing own falls = now z total breaks turn release Originator a y k st er all p e q b (record {
+    phase = phase;
+    keeps = keeps;
+    opens = λ x. opens;
+    stands = stands;
+    setup = setup;
+    pieces = ap (λ o. o.pieces) outgoing;
+    ended = ap (λ o. o.ended) outgoing;
+    lengths = ap (λ o. o.lengths) own;
+    falls = falls;
+  })
+
+  o-ways : Ways (λ s. P z total breaks turn release Originator a y k st er all s.account) turn release a
+  o-ways = record {
+    answers = λ t d e. alone z total breaks turn release Originator a y k st er all _ t;
+    flags = λ t e. alone z total breaks turn release Originator a y k st er all a.owes t;
+    mark = λ p r e. let wrong : Originator ≡ Answerer = sym er ∙ r in cc;
+    odp = λ p r l. let less = before l in tried Detecting p Detecting a p (λ x. refl) refl (st Detecting p) refl refl refl
+        (omega (arith, less));
+    xid = λ p r. tries-well z turn _ a y k (st Negotiating p).1 _ (λ try set count runs falls.
+        tried Negotiating p Negotiating _ p (λ x. refl) refl ((st Negotiating p).0, runs) refl refl refl (omega (arith, falls)));
+    sabme = λ p. tries-well z turn _ a y k (st Establishing p).1 _ (λ try set count runs falls.
+        tried Establishing p Establishing _ p (λ x. refl) refl ((st Establishing p).0, runs) refl refl refl (omega (arith, falls)));
+    linked = λ p r. linked z total breaks turn release Originator a y k st er all p;
+    releases = λ p r. tries-well z turn _ (trying Releasing turn a) y k (tries-now z turn Releasing a) _ (λ try set count runs falls.
+        tried Connected p Releasing _ refl (λ x. cc) refl runs refl refl refl
+        (omega (arith, falls, y.quota, y.first, lasts-most (linked_lives turn a))));
+    disc = λ p. tries-well z turn _ a y k (st Releasing p) _ (λ try set count runs falls.
+        tried Releasing p Releasing _ p (λ x. refl) refl runs refl refl refl (omega (arith, falls)));
+  }
+    where
+      lasts-most : (l : Bool) → lasts z.room l true ≤ z.room + 1
+      lasts-most b = grind (arith)
+
+      before : nat_le ((a.setup.tries + 1) * a.setup.period) turn ≡ false → turn < z.whole
+      before l =
+          let f : nat_le z.whole turn ≡ false = ap (λ w. nat_le w turn) (sym (ap (λ n. (n + 1) * a.setup.period) k.tries
+          ∙ ap (λ p. (z.tries + 1) * p) k.period ∙ sym y.whole)) ∙ l in
+          grind (arith, nat_tests)
+
+module _ (z : Rates) (total breaks turn : ℕ) (release : Bool) (a : Account) (y : AreRates z) (k : IsOf z a.setup)
+    (st : (p : Phase) → a.phase ≡ p → Stands z (turn + 1) turn Answerer p a) (er : a.setup.role ≡ Answerer)
+    (all : length a.outgoing.pieces ≤ total) where
+  a-ways : Ways (λ s. P z total breaks turn release Answerer a y k st er all s.account) turn release a
+  a-ways = record {
+    answers = λ t d e. alone z total breaks turn release Answerer a y k st er all _ t;
+    flags = λ t e. alone z total breaks turn release Answerer a y k st er all a.owes t;
+    mark = λ p r e. alone z total breaks turn release Answerer a y k st er all a.owes (rw (p, r) refl);
+    odp = λ p r. wrong r;
+    xid = λ p r. wrong r;
+    sabme = λ p. absurd (st Establishing p);
+    linked = λ p r. linked z total breaks turn release Answerer a y k st er all p;
+    releases = λ p r. wrong (originates a.setup.role release r);
+    disc = λ p. absurd (st Releasing p);
+  }
+    where
+      wrong : {A : Type 0} → a.setup.role ≡ Originator → A
+      wrong r = let other-role : Answerer ≡ Originator = sym er ∙ r in cc
+
+      originates : (r : Role) (b : Bool) → (b && is_originator r) ≡ true → r ≡ Originator
+      originates c b x = grind (arith)
+
+pub speaks-well : (z : Rates) (total breaks turn : ℕ) (role : Role) (p : Phase) (release : Bool) (a : Account) (said : Said) → AreRates z
+    → IsOf z a.setup → Stands z (turn + 1) turn role p a → a.phase ≡ p → a.setup.role ≡ role → length a.outgoing.pieces ≤ total
+    → speak turn release a ≡ Ok said → (q : Phase) × SpeaksAs z total breaks turn role p a q said.account
+speaks-well z total breaks turn role p release a said y k h e er all f =
+    subst (λ p. (q : Phase) × SpeaksAs z total breaks turn role p a q said.account) e (go role er (λ p g.
+    subst (λ p. Stands z (turn + 1) turn role p a) (sym e ∙ g) h))
   where
-    go : (r : Result Account LinkFault) → OnOk (Timed z total breaks turn role a) r
-        → SpeaksWell z total breaks turn role Connected a (after_timers turn a.special r)
-    go (Err fault) t = tt
-    go (Ok b) t = (
-      Connected,
-      linked-step z total breaks turn role a b _ e t
-          (steps-well z total breaks turn role (record b { special = false }) y (timed-linked z total breaks turn role a b t)
-          (ap (λ s. s.role) t.same.setup ∙ er) (omega (arith, all, ap (λ l. length l) t.same.pieces)) a.special),
-    )
+    go : (r : Role) → a.setup.role ≡ r → ((p : Phase) → a.phase ≡ p → Stands z (turn + 1) turn r p a)
+        → (q : Phase) × SpeaksAs z total breaks turn r a.phase a q said.account
+    go Originator er st = by-ways _ turn release a (o-ways z total breaks turn release a y k st er all) said f
+    go Answerer er st = by-ways _ turn release a (a-ways z total breaks turn release a y k st er all) said f
+
+pub stopped : (m : Option ℕ) → is_some m ≡ false → m ≡ None
+stopped b e = grind (arith)
+
+released-says : (turn : ℕ) (a : Account) (said : Said) → speak_releasing turn (trying Releasing turn a) ≡ Ok said
+    → is_connected said.account.phase ≡ false
+released-says turn a said h = subst (OnSaid P) h
+    (by-tries P turn (Disc true) (trying Releasing turn a) (tries-alike P turn (Disc true) (trying Releasing turn a) (λ w. refl) refl))
+  where
+    P : Said → Type 0
+    P s = is_connected s.account.phase ≡ false
+
+-- an end that stays Connected isn't told to release
+pub linked-says : (turn : ℕ) (release : Bool) (a : Account) (said : Said) → a.phase ≡ Connected → is_connected said.account.phase ≡ true
+    → speak turn release a ≡ Ok said → (speak_linked turn a ≡ Ok said) × (release && is_originator a.setup.role ≡ false)
+linked-says turn release a said e c h = go (release && is_originator a.setup.role) (sym (ap (λ p. speak_in p turn release a) e) ∙ h)
+  where
+    go : (x : Bool) → cond x (speak_releasing turn (trying Releasing turn a)) (speak_linked turn a) ≡ Ok said
+        → (speak_linked turn a ≡ Ok said) × (x ≡ false)
+    go b q = grind (arith)

@@ -1,79 +1,345 @@
-use Rattle.std.proofs.Common.{◌≡◌, ℕ, ◌+◌, ◌<◌, ◌≤◌, ◌&&◌, ◌||◌, not, Bool, true, false, cond, nat_eq, nat_lt, nat_le, [], ◌∷◌, ◌++◌}
-use Rattle.std.proofs.Common.{length, length-append, arith, refl, sym, ◌∙◌, ap, subst, Option, Some, None, Result, Ok, Err}
-use Rattle.link_account.proofs.Names.{is_some, nat_tests, Role, Originator, Answerer, Outgoing, is_outstanding, wanted, OwnBreaks}
-use Rattle.link_account.proofs.Names.{after_ask, waits, Arrived, LinkFault, Account, is_connected, after_break_asked, is_originator, trying}
-use Rattle.link_account.proofs.Names.{Disc, Said, speak, speak_linked, steps, speak_in, speak_releasing, other}
-use Rattle.link_run.proofs.Names.{Phase, Connected, Releasing, User, BreakLine, is_busy, has_finished, next_break}
-use Rattle.lapm_sender.specs.Outgoing.{expired, is_whole}
+use Rattle.std.proofs.Common.{◌≡◌, ℕ, ◌+◌, ◌%◌, ◌≤◌, ◌&&◌, ◌||◌, not, Bool, true, false, cond, nat_eq, nat_lt, List, arith, refl, sym, ◌∙◌}
+use Rattle.std.proofs.Common.{ap, Option, Some, None, Ok, ◌-◌, ◌<◌, [], ◌∷◌, ◌++◌, length, slice_index_or, subst, inl, inr, Err, nat_le}
+use Rattle.std.proofs.Common.{length-append}
+use Rattle.turn_bound.proofs.Truths.{neither-first, and-second, is-true, or-false-both, not-true}
+use Rattle.link_account.proofs.Names.{is_some, nat_tests, Role, Outgoing, is_outstanding, Incoming, after_kind, kind_of, offset, Took}
+use Rattle.link_account.proofs.Names.{InOrder, Kept, Repeat, Gap, OwnBreaks, after_answer, waits, Arrived, Account, hear, without_adp}
+use Rattle.link_account.proofs.Names.{next_number, BreakWord, Brk, Ack, is_originator, Said, frame_for, nr_of, may_send, ready_frame}
+use Rattle.link_account.proofs.Names.{AllByRecursion, wanted, after_ask, is_connected, after_break_asked, speak, speak_linked, ticked}
+use Rattle.link_run.proofs.Names.{Connected, Answer, User, BreakLine, is_busy, has_finished, next_break}
+use Rattle.turn_bound.proofs.Value.{Rates, is_waiting, Sends, is_free, one_if, Linked, two_if, dues, frame_weight, word_weight}
+use Rattle.turn_bound.proofs.Value.{arrived_weight, AreRates, IsChosen, four_if, weight, IsAck, connected-is, linked_lives, IsOf, Stands}
+use Rattle.turn_bound.proofs.Value.{Breaks, is_breaking}
+use Rattle.turn_bound.proofs.Sender.{Heard, meant-range, heard-advanced, heard-resumed, acked-heard}
+use Rattle.link_account.proofs.HearWays.{ConnectedWays, numbered_with, acked, by-linked}
+use Rattle.link_account.specs.declared.answer.Answer.TheVariants as answers
+use Rattle.lapm_sender.specs.Outgoing.{next_among, is_whole}
+use Rattle.lapm_receiver.specs.Held.{first_outside, missing_from}
+use Rattle.lapm_receiver.specs.Incoming.{asks}
+use Rattle.break_signals.specs.declared.fault.BreakFault.TheVariants.{Number}
+use Rattle.link_account.specs.Speak.{says_segment, tells, differs, says_word, breaking}
+use Rattle.turn_bound.proofs.Sending.{sent-well}
+use Rattle.break_signals.specs.Breaks.{after_ack}
+use Rattle.link_account.proofs.SpeakWays.{AllSaid, Steps}
 use Rattle.link_account.specs.Account.{is_done, break_waits}
-use Rattle.link_account.specs.Speak.{then_tries, on_timer, after_timers, timer_expires, polling, breaking, u_try}
-use Rattle.turn_bound.proofs.Clock.{Rates, AreRates, is_waiting, is_free, one_if, Breaks, is_breaking}
-use Rattle.turn_bound.proofs.Value.{two_if, four_if, linked_lives, IsOf, Linked, Stands, dues, weight, arrived_weight}
 use Rattle.turn_bound.proofs.Run.{served_account}
 use Rattle.link_run.specs.End.{asked_at, is_ready}
-use Rattle.turn_bound.proofs.Serving.{Served, serves-first, serves-own, before_asking}
-use Rattle.turn_bound.proofs.Speaking.{OnOk, Timed, Stepped, timers-well, steps-well, timed-linked}
-use Rattle.turn_bound.proofs.Turning.{tries-well, Tried, OnSaid}
-use Rattle.turn_bound.proofs.Still.{still-hears}
-use Rattle.turn_bound.proofs.SpeakStill.{steps-pay}
+use Rattle.turn_bound.proofs.Serving.{Served, serves-phase, serves-own, before_asking}
+use Rattle.turn_bound.proofs.Speaking.{Spoke, spoke, untimed, linked-says, stopped}
 use Rattle.turn_bound.proofs.OneTurn.{Hearing, spoken-as}
-use Rattle.turn_bound.proofs.Tied.{tied}
 
-pub or-false-both : (b c : Bool) → b || c ≡ false → (b ≡ false) × (c ≡ false)
-or-false-both true c e = cc
-or-false-both false c e = (refl, e)
-
-pub not-true : (b : Bool) → (b ≡ true → ⊥) → b ≡ false
-not-true true f = absurd (f refl)
-not-true false f = refl
-
--- an end that stays Connected isn't told to release
-pub linked-of : (z : Rates) (turn : ℕ) (release : Bool) (b : Account) (said : Said) → AreRates z → IsOf z b.setup → b.phase ≡ Connected
-    → speak turn release b ≡ Ok said → said.account.phase ≡ Connected
-    → (speak_linked turn b ≡ Ok said) × (release && is_originator b.setup.role ≡ false)
-linked-of z turn release b said y k e speaks after =
-    go (release && is_originator b.setup.role) (subst (λ p. speak_in p turn release b ≡ Ok said) e speaks)
+-- where nothing is outstanding, what is heard leaves the front where it is
+free-same : (z : Rates) (total before turn : ℕ) (o new : Outgoing) (timer : Option ℕ) → Sends z before turn o timer → is_waiting o ≡ false
+    → Heard o new → is_free total new ≡ is_free total o
+free-same z total before turn o new timer s e h =
+    let idle : nat_lt o.front o.high ≡ false = neither-first (nat_lt o.front o.high) (o.awaited || o.paused) e in
+    let same : new.front ≡ o.front = grind (arith, nat_tests, h.front_low, h.front_from, h.from_high, h.high, s.front_from, s.from_high) in
+    by new.front new.high same h.high
   where
-    releasing : (r : Result Said LinkFault) → OnSaid (Tried z turn (trying Releasing turn b)) r → r ≡ Ok said → ⊥
-    releasing (Err fault) t f = cc
-    releasing (Ok other) t f = let same : other ≡ said = cc in let wrong : Releasing ≡ Connected =
-        sym t.phase ∙ (ap (λ s. s.account.phase) same ∙ after) in cc
+    by : (front high : ℕ) → front ≡ o.front → high ≡ o.high → not (nat_lt front high) && nat_lt front total ≡ is_free total o
+    by front high e f = rw (e, f) refl
 
-    go : (x : Bool) → cond x (speak_releasing turn (trying Releasing turn b)) (speak_linked turn b) ≡ Ok said
-        → (speak_linked turn b ≡ Ok said) × (x ≡ false)
-    go true f = absurd (releasing (u_try turn (Disc true) (trying Releasing turn b))
-        (tries-well z turn (Disc true) (trying Releasing turn b) y k
-        (record { tied = omega arith; started = omega arith; within = omega arith; tried = omega arith })) f)
-    go false f = (f, refl)
+or-two : (a b : Bool) → two_if (a || b) ≤ two_if a + two_if b
+or-two c b = grind (arith)
 
--- the timers and the step of a Connected end
-pub record Spoke (z : Rates) (total breaks turn : ℕ) (role : Role) (b : Account) (said : Said) : Type 0 where
-  pub timed : Account
-  pub is_timed : Timed z total breaks turn role b timed
-  pub timers : then_tries turn (on_timer turn b) ≡ Ok timed
-  pub said_is : steps turn b.special (record timed { special = false }) ≡ said
-  pub stepped : Stepped z total breaks turn role (record timed { special = false }) said.account
-
-pub spoke : (z : Rates) (total breaks turn : ℕ) (role : Role) (b : Account) (said : Said) → AreRates z → IsOf z b.setup
-    → Linked z (turn + 1) turn role b → b.setup.role ≡ role → length b.outgoing.pieces ≤ total → speak_linked turn b ≡ Ok said
-    → Spoke z total breaks turn role b said
-spoke z total breaks turn role b said y k h er all e =
-    go (then_tries turn (on_timer turn b)) refl (timers-well z total breaks turn role b y k h) e
+take-rej : (k : Took) (n : ℕ) (info : List ℕ) (i : Incoming) → two_if (after_kind k n info i).rej ≤ two_if i.rej + 2
+take-rej InOrder n info i = omega arith
+take-rej Kept n info i = omega arith
+take-rej Repeat n info i = omega arith
+take-rej Gap n info i = go i.rej (not i.gapped)
   where
-    go : (r : Result Account LinkFault) → then_tries turn (on_timer turn b) ≡ r → OnOk (Timed z total breaks turn role b) r
-        → after_timers turn b.special r ≡ Ok said → Spoke z total breaks turn role b said
-    go (Err fault) f t g = cc
-    go (Ok c) f t g =
-        let same : steps turn b.special (record c { special = false }) ≡ said = cc in
-        record {
-          timed = c;
-          is_timed = t;
-          timers = f;
-          said_is = same;
-          stepped = subst (λ s. Stepped z total breaks turn role (record c { special = false }) s.account) same
-              (steps-well z total breaks turn role (record c { special = false }) y (timed-linked z total breaks turn role b c t)
-              (ap (λ s. s.role) t.same.setup ∙ er) (omega (arith, all, ap (λ l. length l) t.same.pieces)) b.special);
-        }
+    go : (a b : Bool) → two_if (a || b) ≤ two_if a + 2
+    go true b = omega arith
+    go false true = omega arith
+    go false false = omega arith
+
+-- what hearing leaves due, where nothing is waited for before and after it
+pub record HeardStill (total more : ℕ) (a b : Account) : Type 0 where
+  pub dues : dues total b ≤ dues total a + more
+  pub free : is_free total b.outgoing ≡ is_free total a.outgoing
+  pub numbered : a.numbered ≡ true → b.numbered ≡ true
+  pub phase : b.phase ≡ Connected
+  pub own : waits a.own_breaks ≡ false → b.own_breaks ≡ a.own_breaks
+
+free-one : (f g s : Bool) → f ≡ g → one_if (f && not s) ≡ one_if (g && not s)
+free-one f g s e = rw e refl
+
+some-two : (b : Bool) → two_if true ≤ two_if b + 2
+some-two b = grind (arith)
+
+unanswered : (turn number : ℕ) (b : OwnBreaks) → waits b ≡ false → after_answer turn number b ≡ b
+unanswered turn number b e = go (waits b) (nat_eq number (b.answered % 2)) e
+  where
+    go : (w n : Bool) → w ≡ false → cond (w && n) (record b { answered = b.answered + 1; brk = false; count = 0; rest = turn + 8 }) b ≡ b
+    go true n e = cc
+    go false n e = refl
+
+-- Hearing, where nothing is waited for before and after it.
+module _ (z : Rates) (total turn : ℕ) (role : Role) (a : Account) (h : Linked z turn turn role a) (e : is_waiting a.outgoing ≡ false) where
+  abbrev P : Arrived → Account → Type 0
+  P x b = is_waiting b.outgoing ≡ false → b.phase ≡ Connected → HeardStill total (arrived_weight x) a b
+
+  number : (more : ℕ) (new : Outgoing) (incoming : Incoming) (timer : Option ℕ) (asks urgent : Bool) → Heard a.outgoing new
+      → two_if incoming.rej + two_if asks ≤ two_if a.incoming.rej + more → a.phase ≡ Connected
+      → HeardStill total more a (numbered_with a new incoming timer (a.owes.reply || asks) urgent)
+  number more new incoming timer asks urgent k less p =
+      let free = free-same z total turn turn a.outgoing new a.wait.timer h.sends e k in
+      record {
+        dues = omega (
+          arith,
+          or-two a.owes.reply asks,
+          less,
+          free-one (is_free total new) (is_free total a.outgoing) a.special free,
+        );
+        free = free;
+        numbered = λ n. refl;
+        phase = p;
+        own = λ x. refl;
+      }
+
+  same : (more : ℕ) → a.phase ≡ Connected → HeardStill total more a a
+  same more p = record { dues = omega arith; free = refl; numbered = λ n. n; phase = p; own = λ x. refl }
+
+  -- RNR starts the clock
+  busy : (out awaited : Bool) → out || (awaited || true) ≡ false → ⊥
+  busy b awaited e = grind (arith)
+
+  less : (m : Option Answer)
+      → dues total (record a { owes = record a.owes { answer = without_adp m } }) ≤ dues total
+      (record a { owes = record a.owes { answer = m } }) + 0
+  less b = grind (arith)
+
+  still-ways : ConnectedWays P turn a
+  still-ways = record {
+    pattern = λ seen w p. same 0 p;
+    plain = λ frame k w p. same (frame_weight frame) p;
+    numbers = record {
+      i = λ ns nr pf info n m w p. let r = meant-range a.outgoing.front a.outgoing.high nr n m in
+          number (2 + two_if pf) _ _ _ pf _ (heard-advanced z turn turn a.outgoing a.wait.timer n h.sends r.0 r.1)
+          (omega (arith, take-rej (kind_of ns a.incoming) (offset a.incoming ns) info a.incoming)) p;
+      rr = λ command pf nr n final g m w p. number (two_if (command && pf)) _ _ _ (command && pf) _
+          (heard-resumed a.outgoing _ (acked-heard z turn turn a final command pf nr n h.sends g m).0) (omega arith) p;
+      rej = λ command pf nr n final g m w p. number (two_if (command && pf)) _ _ _ (command && pf) _
+          (heard-resumed a.outgoing _ (acked-heard z turn turn a final command pf nr n h.sends g m).1) (omega arith) p;
+      rnr = λ command pf nr n final g m w p. let o = acked final a.outgoing n in absurd (busy (is_outstanding o) o.awaited w);
+      srej = λ command pf nr n g m w p. let wrong : true ≡ false = sym (rw g refl) ∙ e in cc;
+    };
+    sabme = λ pf n r w p. record {
+      dues = omega (arith, some-two (is_some a.owes.answer));
+      free = refl;
+      numbered = λ n. n;
+      phase = p;
+      own = λ x. refl;
+    };
+    disc = λ pf r w p. cc;
+    brk = λ command pf info number length_octet q w p. record {
+      dues = omega (arith, some-two (is_some a.their_breaks.ack), ap word_weight q);
+      free = refl;
+      numbered = λ n. n;
+      phase = p;
+      own = λ x. refl;
+    };
+    brkack = λ command pf info number length_octet q w p. record {
+      dues = omega arith;
+      free = refl;
+      numbered = λ n. n;
+      phase = p;
+      own = unanswered turn number a.own_breaks;
+    };
+  }
+
+  pub still-hears : (arrived : Arrived) (mid : Account) → a.phase ≡ Connected → hear turn arrived a ≡ Ok mid → P arrived mid
+  still-hears arrived mid p f = by-linked P turn a still-ways
+      (λ w p. record { dues = less a.owes.answer; free = refl; numbered = λ n. n; phase = p; own = λ x. refl }) arrived mid p f
+
+-- what is due but for a segment
+abbrev pub base : Account → ℕ
+base a = two_if (is_some a.owes.answer) + two_if a.owes.reply + two_if
+    (is_some a.their_breaks.ack) + two_if a.incoming.rej + four_if a.wait.poll + two_if a.owes.busy_told
+
+-- A Connected account whose timers are done, with nothing waited for.
+pub record Idle (z : Rates) (total turn : ℕ) (role : Role) (a : Account) : Type 0 where
+  pub linked : Linked z (turn + 1) (turn + 1) role a
+  pub idle : is_waiting a.outgoing ≡ false
+  pub brk : a.own_breaks.brk ≡ false
+  pub busy : a.owes.busy ≡ false
+  pub may : is_originator a.setup.role || a.numbered ≡ true
+  pub more : a.outgoing.front < total → a.outgoing.front < length a.outgoing.pieces
+  pub all : length a.outgoing.pieces ≤ total
+
+-- what is said pays for it
+abbrev pub Pays : ℕ → Account → Bool → Said → Type 0
+Pays total a special said =
+    is_waiting said.account.outgoing ≡ false
+    → dues total said.account + weight said.sent + one_if (is_free total a.outgoing) ≤ base a + one_if
+    (is_free total a.outgoing && not special)
+
+one-most : (b : Bool) → one_if b ≤ 1
+one-most b = grind (arith)
+
+one-less : (b c : Bool) → one_if (b && c) ≤ one_if b
+one-less b c = grind (arith)
+
+one-all : (b : Bool) → one_if (b && true) ≡ one_if b
+one-all b = grind (arith)
+
+one-none : (b : Bool) → one_if (b && false) ≡ 0
+one-none b = grind (arith)
+
+ready-weight : (b command pf : Bool) (nr : ℕ) → frame_weight (ready_frame b command nr pf) ≡ two_if (command && pf)
+ready-weight b command pf nr = grind (arith)
+
+-- with nothing to wait for and none chosen the next one goes, where there is one and the window has room
+pub front-next : (o : Outgoing) → o.awaited || o.paused ≡ false → o.chosen ≡ [] → o.from < length o.pieces → o.from < o.front + o.window
+    → next_number o ≡ Some o.from
+front-next o w c below within =
+    let one : nat_lt o.from (length o.pieces) ≡ true = grind (arith, nat_tests, below) in
+    let two : nat_lt o.from (o.front + o.window) ≡ true = grind (arith, nat_tests, within) in
+    ap (λ b. cond b None (next_among o.chosen o)) w ∙ (ap (λ l. next_among l o) c ∙ rw (one, two) refl)
+
+pub idle-next : {z : Rates} {before turn : ℕ} {o : Outgoing} {timer : Option ℕ} → Sends z before turn o timer → is_waiting o ≡ false
+    → o.front < length o.pieces → next_number o ≡ Some o.from
+idle-next {z} {before} {turn} {o} {timer} s idle more = front-next o parts.1 (nothing-chosen o.chosen s.chosen)
+    (omega (arith, s.front_from, s.from_high, le, more)) (omega (arith, s.front_from, s.from_high, le, s.window))
+  where
+    split : (out awaited paused : Bool) → out || (awaited || paused) ≡ false → (out ≡ false) × (awaited || paused ≡ false)
+    split b awaited paused e = grind (arith)
+
+    parts : (is_outstanding o ≡ false) × (o.awaited || o.paused ≡ false)
+    parts = split (is_outstanding o) o.awaited o.paused idle
+
+    le : o.high ≤ o.front
+    le = let t : nat_lt o.front o.high ≡ false = parts.0 in grind (arith, nat_tests)
+
+    nothing-chosen : (l : List ℕ) → AllByRecursion (IsChosen o.front o.high) l → l ≡ []
+    nothing-chosen [] k = refl
+    nothing-chosen (n ∷ l) k = let wrong : o.front < o.front = omega (arith, k.0.0, k.0.1, le) in absurd (omega (arith, wrong))
+
+-- where none can be sent nothing is free
+none-free : (z : Rates) (total turn : ℕ) (role : Role) (a : Account) → Idle z total turn role a → may_send a ≡ None
+    → is_free total a.outgoing ≡ false
+none-free z total turn role a h e = go (is_free total a.outgoing) refl
+  where
+    o : Outgoing
+    o = a.outgoing
+
+    go : (b : Bool) → is_free total o ≡ b → is_free total o ≡ false
+    go false f = f
+    go true f =
+        let less : o.front < total = let t = and-second (not (is_outstanding o)) (nat_lt o.front total) f in grind (arith, nat_tests, t) in
+        let wrong : None ≡ Some o.from = sym e
+        ∙ (ap (λ b. cond b (next_number o) None) h.may ∙ idle-next h.linked.sends h.idle (h.more less)) in cc
+
+pub asks-rej : (i : Incoming) (n : ℕ) → i.srej ≡ false → asks i ≡ Some n → i.rej ≡ true
+asks-rej i n e g = by i.srej e i.rej g
+  where
+    by : (b : Bool) → b ≡ false → (r : Bool)
+        → cond b (first_outside i.asked (missing_from (length i.taken) i.held)) (cond r (Some (length i.taken)) None) ≡ Some n
+        → r ≡ true
+    by b e r g = grind (arith)
+
+rej-after : (i : Incoming) (n : ℕ) (b : Bool)
+    → (cond b (record i { asked = i.asked ++ n ∷ [] }) (record i { rej = false })).rej ≡ cond b i.rej false
+rej-after i n b = grind (arith)
+
+-- Whatever is said pays for itself, and for a segment that is held up.
+module _ (z : Rates) (total turn : ℕ) (role : Role) (a : Account) (special : Bool) (y : AreRates z) (h : Idle z total turn role a) where
+  pays-tells : (b : Account) (command pf : Bool) → b.owes.busy ≡ a.owes.busy → b.outgoing ≡ a.outgoing
+      → base (record b { owes = record b.owes { busy_told = false } }) + two_if (command && pf) + 2 ≤ base a
+      → Pays total a special (tells command pf b)
+  pays-tells b command pf g o less = λ w.
+      omega (
+        arith,
+        less,
+        ready-weight b.owes.busy command pf (nr_of b),
+        one-less (is_free total b.outgoing) (not b.special),
+        one-most (is_free total b.outgoing),
+        ap two_if (g ∙ h.busy),
+        ap (λ x. one_if (is_free total x)) o,
+      )
+
+  light : (answer : Answer) → weight (frame_for answer a) ≡ 0
+  light answers.Adp = refl
+  light answers.Xid = refl
+  light (answers.Ua pf) = refl
+  light (answers.Dm pf) = refl
+
+  -- a segment makes the end wait
+  sends : (n : ℕ) → may_send a ≡ Some n → AllSaid (Pays total a special) (says_segment turn (Some n) a)
+  sends n e = λ w. let s = sent-well z total turn a.outgoing a.wait.timer n y h.linked.sends h.all
+      (sym (ap (λ b. cond b (next_number a.outgoing) None) h.may) ∙ e) in
+      let wrong : true ≡ false = sym s.waits ∙ w in cc
+
+  acknowledges : (word : BreakWord) → a.their_breaks.ack ≡ Some word → Pays total a special
+      (says_word (length a.their_breaks.lengths - 1) word (record a { their_breaks = after_ack a.their_breaks }))
+  acknowledges (Brk number length_octet) e = absurd (subst IsAck e h.linked.ack)
+  acknowledges (Ack number length_octet) e = λ w.
+      omega (
+        arith,
+        ack-weight (nat_lt number 2),
+        ap (λ m. two_if (is_some m)) e,
+        one-none (is_free total a.outgoing),
+        one-most (is_free total a.outgoing),
+      )
+    where
+      ack-weight : (b : Bool) → word_weight (cond b (Ok (Ack number length_octet)) (Err (Number number))) ≡ 0
+      ack-weight true = refl
+      ack-weight false = refl
+
+  none-due : (b : Bool) (word : BreakWord) → b ≡ false
+      → cond b (Some (Brk (a.own_breaks.answered % 2) (slice_index_or a.own_breaks.lengths a.own_breaks.answered 0))) None ≡ Some word → ⊥
+  none-due b word e f = grind (arith)
+
+  told : (busy busy_told may' : Bool) → busy ≡ false → differs busy busy_told && may' ≡ true → busy_told ≡ true
+  told b busy_told may' e g = grind (arith)
+
+  pub steps-pay : Steps (Pays total a special) turn special a
+  steps-pay = record {
+    answers = λ d e w. omega (
+      arith,
+      light d,
+      ap (λ m. two_if (is_some m)) e,
+      one-less (is_free total a.outgoing) (not a.special),
+      one-most (is_free total a.outgoing),
+    );
+    final = λ n e. pays-tells (record a { owes = record a.owes { reply = false } }) false true refl refl (omega (arith, ap two_if e));
+    poll = λ n r e. pays-tells (record a { wait = record a.wait { poll = false } }) true true refl refl (omega (arith, ap four_if e));
+    segment = λ b u n e. sends n e;
+    brkack = λ b s word e. acknowledges word e;
+    brk = λ b s k word e. absurd (none-due a.own_breaks.brk word h.brk e);
+    tell = λ b w e. elim e [
+      | inl n ↦ pays-tells a false false refl refl
+          (omega (arith, ap two_if (told a.owes.busy a.owes.busy_told (is_originator a.setup.role || a.numbered) h.busy n)))
+      | inr o ↦ λ v. omega (
+        arith,
+        ready-weight a.owes.busy false false (nr_of a),
+        ap two_if h.busy,
+        ap two_if o.1,
+        ap one_if (none-free z total turn role a h o.0),
+        one-less (is_free total a.outgoing) (not a.special),
+      )
+    ];
+    rej = λ b w n k v. omega (
+      arith,
+      ap two_if (asks-rej a.incoming n k.kind k.number),
+      ap two_if (rej-after a.incoming n a.incoming.srej ∙ ap (λ b. cond b a.incoming.rej false) k.kind),
+      one-less (is_free total a.outgoing) (not a.special),
+      one-most (is_free total a.outgoing),
+    );
+    srej = λ b w s n k v. omega (
+      arith,
+      ap two_if (rej-after a.incoming n a.incoming.srej ∙ ap (λ b. cond b a.incoming.rej false) k.kind),
+      one-none (is_free total a.outgoing),
+      one-all (is_free total a.outgoing),
+      ap (λ b. one_if (is_free total a.outgoing && not b)) s,
+    );
+    flags = λ i w. omega (
+      arith,
+      ap one_if (none-free z total turn role a h i.segment),
+      one-less (is_free total a.outgoing)
+          (not a.special),
+    );
+  }
 
 -- what waits goes on waiting
 pub keeps-waiting : (z : Rates) (total breaks turn : ℕ) (role : Role) (b : Account) (said : Said) → Spoke z total breaks turn role b said
@@ -88,23 +354,6 @@ keeps-waiting z total breaks turn role b said s dead =
           let wrong : true ≡ false = sym lives ∙ parts.1 in cc),
     )
 
--- with nothing to wait for no timer expires
-no-timer : (z : Rates) (turn : ℕ) (role : Role) (b : Account) → Linked z (turn + 1) turn role b → is_waiting b.outgoing ≡ false
-    → waits b.own_breaks ≡ false → then_tries turn (on_timer turn b) ≡ Ok b
-no-timer z turn role b h e f = go b.wait.timer (h.sends.cause ∙ e)
-  where
-    quiet : (w : Bool) → w ≡ false
-        → breaking turn (cond (w && nat_eq turn (b.own_breaks.set + b.setup.period))
-        (cond (nat_eq b.own_breaks.count b.setup.tries) None
-        (Some (record b.own_breaks { brk = true; set = turn; count = b.own_breaks.count + 1 }))) (Some b.own_breaks)) b ≡ Ok b
-    quiet true e = cc
-    quiet false e = refl
-
-    go : (timer : Option ℕ) → is_some timer ≡ false
-        → then_tries turn (cond (timer_expires turn b timer) (polling turn (expired b.outgoing) b) (Ok b)) ≡ Ok b
-    go None g = quiet (waits b.own_breaks) f
-    go (Some set) g = cc
-
 -- Speaking, where nothing lives after it.
 pub speaks-still : (z : Rates) (total breaks turn : ℕ) (role : Role) (b : Account) (said : Said) → AreRates z → IsOf z b.setup
     → Linked z (turn + 1) turn role b → b.setup.role ≡ role → length b.outgoing.pieces ≤ total
@@ -112,28 +361,36 @@ pub speaks-still : (z : Rates) (total breaks turn : ℕ) (role : Role) (b : Acco
     → is_originator b.setup.role || b.numbered ≡ true → (b.outgoing.front < total → b.outgoing.front < length b.outgoing.pieces)
     → dues total said.account + weight said.sent + one_if (is_free total b.outgoing) ≤ dues total b
 speaks-still z total breaks turn role b said y k h er all e dead busy may more =
-    let s = spoke z total breaks turn role b said y k h er all e in
-    let idle = keeps-waiting z total breaks turn role b said s dead in
-    let same : s.timed ≡ b = let both : Ok s.timed ≡ Ok b = sym s.timers ∙ no-timer z turn role b h idle.0 idle.1 in cc in
-    let t : Timed z total breaks turn role b b = subst (Timed z total breaks turn role b) same s.is_timed in
-    let said_is : steps turn b.special (record b { special = false }) ≡ said =
-    subst (λ c. steps turn b.special (record c { special = false }) ≡ said) same s.said_is in
-    subst (λ x. is_waiting x.account.outgoing ≡ false
-    → dues total x.account + weight x.sent + one_if (is_free total b.outgoing) ≤ dues total b) said_is
-    (steps-pay z total turn role (record b { special = false }) b.special y (record {
-      linked = timed-linked z total breaks turn role b b t;
-      idle = idle.0;
-      brk = not-true b.own_breaks.brk (λ d. let wrong : true ≡ false = sym (h.breaks.due d) ∙ idle.1 in cc);
-      busy = busy;
-      may = may;
-      more = more;
-      all = all;
-    }))
+    let idle = keeps-waiting z total breaks turn role b said (spoke z total breaks turn role b y k h er all said e) dead in
+    untimed z total breaks turn role b y k h P (stopped b.wait.timer (h.sends.cause ∙ idle.0)) (rows idle.0 idle.1) said e
     (or-false-both (is_waiting said.account.outgoing) (is_breaking (turn + 1) said.account.own_breaks) dead).0
+  where
+    P : Said → Type 0
+    P x = is_waiting x.account.outgoing ≡ false
+        → dues total x.account + weight x.sent + one_if (is_free total b.outgoing) ≤ dues total b
 
-pub only-connected : (p : Phase) → is_connected p ≡ true → p ≡ Connected
-only-connected Connected e = refl
-only-connected p e = cc
+    unticked : (own : OwnBreaks) (w : Bool) → w ≡ false → (due spent : Bool) → cond (w && due)
+        (cond spent None (Some (record b.own_breaks { brk = true; set = turn; count = b.own_breaks.count + 1 }))) (Some b.own_breaks)
+        ≡ Some own → b.own_breaks ≡ own
+    unticked own b f due spent g = grind (arith)
+
+    rows : is_waiting b.outgoing ≡ false → waits b.own_breaks ≡ false → (own : OwnBreaks)
+        → ticked turn b.setup.period b.setup.tries b.own_breaks ≡ Some own
+        → Linked z (turn + 1) (turn + 1) role (record b { own_breaks = own; special = false })
+        → Steps P turn b.special (record b { own_breaks = own; special = false })
+    rows waiting breaking own t l =
+        let same : b.own_breaks ≡ own = unticked own (waits b.own_breaks) breaking (nat_eq turn (b.own_breaks.set + b.setup.period))
+        (nat_eq b.own_breaks.count b.setup.tries) t in
+        subst (λ o. Steps P turn b.special (record b { own_breaks = o; special = false })) same
+        (steps-pay z total turn role (record b { special = false }) b.special y (record {
+          linked = subst (λ o. Linked z (turn + 1) (turn + 1) role (record b { own_breaks = o; special = false })) (sym same) l;
+          idle = waiting;
+          brk = not-true b.own_breaks.brk (λ d. let wrong : true ≡ false = sym (h.breaks.due d) ∙ breaking in cc);
+          busy = busy;
+          may = may;
+          more = more;
+          all = all;
+        }))
 
 -- A turn of an end that stays Connected.
 pub record Stays (z : Rates) (turn : ℕ) (user : User) (role : Role) (a mid b : Account) (release : Bool) (said : Said) : Type 0 where
@@ -145,11 +402,6 @@ pub record Stays (z : Rates) (turn : ℕ) (user : User) (role : Role) (a mid b :
   pub unreleased : release && is_originator b.setup.role ≡ false
   pub serves : Served turn (length user.breaks) (is_busy turn user.busy) mid b
 
-pub linked-stand : (z : Rates) (before turn : ℕ) (role : Role) (a : Account) → Stands z before turn role Connected a
-    → Linked z before turn role a
-linked-stand z before turn Originator a h = h
-linked-stand z before turn Answerer a h = h
-
 module _ {z : Rates} {user : User} {turn : ℕ} {role : Role} {a : Account} {arrived : Arrived} {mid b : Account}
     (i : Hearing z user turn role a arrived mid b) where
   pub stays : a.phase ≡ Connected → (release : Bool) {said : Said} → speak turn release b ≡ Ok said → said.account.phase ≡ Connected
@@ -157,25 +409,21 @@ module _ {z : Rates} {user : User} {turn : ℕ} {role : Role} {a : Account} {arr
   stays e release {said} speaks after =
       let spoke = spoken-as i (length b.outgoing.pieces) release speaks (omega arith) in
       let linked : i.phase ≡ Connected =
-      only-connected i.phase
-      (not-false (is_connected i.phase)
+      connected-is i.phase
+      (is-true (is_connected i.phase)
       (λ f. let same : Connected ≡ i.phase = sym after ∙ (spoke.1.phase ∙ spoke.1.keeps f) in let wrong : true ≡ false =
       ap is_connected same ∙ f in cc)) in
       let phase : b.phase ≡ Connected = i.b_phase ∙ linked in
-      let says = linked-of z turn release b said i.rates i.b_is_of phase speaks after in
+      let says = linked-says turn release b said phase (ap is_connected after) speaks in
       record {
         mid_phase = i.heard.phase ∙ linked;
         phase = phase;
-        linked = linked-stand z (turn + 1) turn role b (subst (λ q. Stands z (turn + 1) turn role q b) linked i.b_stands);
+        linked = subst (λ q. Stands z (turn + 1) turn role q b) linked i.b_stands;
         setup = i.b_setup;
         says = says.0;
         unreleased = says.1;
         serves = i.serves;
       }
-    where
-      not-false : (x : Bool) → (x ≡ false → ⊥) → x ≡ true
-      not-false true f = refl
-      not-false false f = absurd (f refl)
 
 served-dues : (turn breaks total : ℕ) (busy : Bool) (m c : Account) → Served turn breaks busy m c
     → is_free total c.outgoing ≡ is_free total m.outgoing → dues total c ≡ dues total m
@@ -214,7 +462,7 @@ module _ {z : Rates} {user : User} {turn : ℕ} {role : Role} {a : Account} {arr
       → Stilled z total turn a mid b said (arrived_weight arrived)
   stilled total {release} {said} h e s all dead dead' busy may more =
       let idle = keeps-waiting z total (length user.breaks) turn role b said
-      (spoke z total (length user.breaks) turn role b said i.rates i.b_is_of s.linked i.b_role all s.says) dead' in
+      (spoke z total (length user.breaks) turn role b i.rates i.b_is_of s.linked i.b_role all said s.says) dead' in
       let before = or-false-both (is_waiting a.outgoing) (is_breaking turn a.own_breaks) dead in
       let waits-a : waits a.own_breaks ≡ false = (or-false-both (waits a.own_breaks) (nat_lt turn a.own_breaks.rest) before.1).0 in
       let same : is_waiting b.outgoing ≡ is_waiting mid.outgoing = ap is_waiting s.serves.longer.outgoing in
@@ -245,9 +493,7 @@ waits-then turn l b low w r =
   where
     go : (x : Bool) → x ≡ false → (y : Bool) → y ≡ true → nat_lt b.answered (length (b.lengths ++ l ∷ [])) ≡ true
         → waits (cond (not x && y) (record b { lengths = b.lengths ++ l ∷ []; brk = true; set = turn; count = 0 }) b) ≡ true
-    go true e y f t = cc
-    go false e false f t = cc
-    go false e true f t = t
+    go b e y f t = grind (arith)
 
 unready : (user : User) (turn : ℕ) (mid : Account) → mid.phase ≡ Connected → mid.own_breaks.answered ≤ length mid.own_breaks.lengths
     → waits mid.own_breaks ≡ false → nat_lt turn mid.own_breaks.rest ≡ false
@@ -270,7 +516,7 @@ unready user turn mid e low w r after = go (next_break user.breaks m) refl after
       where
         by : (x : Bool) → nat_le br.turn turn ≡ x → waits (cond x (after_break_asked turn br.length_octet m) m).own_breaks ≡ false
             → is_ready turn (next_break user.breaks (cond x (after_break_asked turn br.length_octet m) m)) ≡ false
-        by true h k = absurd (asks br.length_octet (is_connected m.phase) (ap is_connected ((serves-first user turn 0 mid).phase ∙ e)) k)
+        by true h k = absurd (asks br.length_octet (is_connected m.phase) (ap is_connected (serves-phase user turn mid ∙ e)) k)
         by false h k = ap (is_ready turn) f ∙ h
 
 -- An end with nothing outstanding and nothing free has finished, unless a break is ready: that would be asked for.
@@ -305,9 +551,7 @@ finished {z} {total} {more} {user} {turn} {role} {a} {mid} s t own all dead none
     room = let w = s.linked.sends.window in let f = whole-front in grind (arith, nat_tests)
 
     has-ended : (x y : Bool) → y ≡ true → cond (not x && y) (Some (length o.pieces)) None ≡ None → x ≡ true
-    has-ended true y e f = refl
-    has-ended false true e f = cc
-    has-ended false false e f = cc
+    has-ended b y e f = grind (arith)
 
     done : is_done b ≡ true
     done = let same : nat_eq o.front (length o.pieces) ≡ true = let f = whole-front in grind (arith, nat_tests) in

@@ -1,22 +1,90 @@
--- What a Connected end makes of what it hears, as far as it may hold up a segment.
-use Rattle.std.proofs.Common.{◌≡◌, ℕ, ◌+◌, ◌-◌, ◌%◌, ◌<◌, ◌≤◌, ◌&&◌, ◌||◌, ◌⊎◌, not, min, Bool, true, false, cond, nat_eq, nat_lt, List}
-use Rattle.std.proofs.Common.{length, inl, inr, arith, refl, sym, ◌∙◌, ap, subst, Option, Some, None, Ok}
-use Rattle.link_account.proofs.Names.{is_some, nat_tests, Role, Answerer, is_originator, Frame, I, meant, Outgoing, is_outstanding}
-use Rattle.link_account.proofs.Names.{advanced, Incoming, after_kind, kind_of, offset, Took, InOrder, Kept, Repeat, Gap, BreakWord}
-use Rattle.link_account.proofs.Names.{OwnBreaks, after_answer, waits, Arrived, Account, hear, without_adp, after_take, on_nothing}
-use Rattle.link_run.proofs.Names.{Connected, Closed}
+-- What an end may be held up by before it sends a segment, as a number that each turn in which it is held up lowers by three, but for a
+-- poll
+-- that is heard in it. A poll of the other end has a value too: one becomes due in nineteen turns at most.
+use Rattle.std.proofs.Common.{ℕ, ◌+◌, ◌-◌, ◌≤◌, ◌&&◌, min, Bool, true, false, cond, arith, Option, Some, None, ◌≡◌, ◌%◌, ◌<◌, ◌||◌, ◌⊎◌}
+use Rattle.std.proofs.Common.{not, nat_eq, nat_lt, List, length, inl, inr, refl, sym, ◌∙◌, ap, subst, Ok, nat_le, [], ◌∷◌, ◌++◌}
+use Rattle.std.proofs.Common.{length-append}
+use Rattle.turn_bound.proofs.Truths.{or-false}
+use Rattle.link_account.proofs.Names.{is_some, Frame, Rr, Rnr, Rej, Incoming, BreakWord, OwnBreaks, waits, Account, nat_tests, Role}
+use Rattle.link_account.proofs.Names.{Answerer, is_originator, I, meant, Outgoing, is_outstanding, advanced, after_kind, kind_of, offset}
+use Rattle.link_account.proofs.Names.{Took, InOrder, Kept, Repeat, Gap, after_answer, Arrived, hear, without_adp, after_take, on_nothing}
+use Rattle.link_account.proofs.Names.{after_ask}
+use Rattle.link_run.proofs.Names.{Phase, Detecting, Negotiating, Establishing, Connected, Releasing, Closed}
 use Rattle.lapm_sender.specs.Numbers.{with_number}
 use Rattle.link_account.specs.Hear.{timer_after}
-use Rattle.turn_bound.proofs.Clock.{Rates, Breaks}
-use Rattle.turn_bound.proofs.Value.{Linked, frame_weight, arrived_weight, arrived_rnrs}
-use Rattle.link_account.proofs.HearWays.{ConnectedWays, by-linked, numbered_with, Plain, IsUa, IsXid, IsTest, IsNoWord}
+use Rattle.turn_bound.proofs.Value.{Rates, Breaks, Linked, frame_weight, arrived_weight, arrived_rnrs}
+use Rattle.link_account.proofs.HearWays.{ConnectedWays, by-linked, numbered_with, Plain}
 use Rattle.turn_bound.proofs.Sender.{acked-heard, Heard, meant-range, heard-advanced, heard-resumed, heard-selected}
 use Rattle.turn_bound.proofs.MeetHear.{of_arrived}
-use Rattle.turn_bound.proofs.Credits.{own_value, frame_poll}
-use Rattle.turn_bound.proofs.Credits as credits
+use Rattle.turn_bound.proofs.Serving.{Served}
 
+-- REJ that is due, or may become due with the next segment; and a break's answer
+abbrev pub owing : Incoming → Option BreakWord → ℕ
+owing i ack = cond i.srej 0 (cond i.rej 16 0 + cond i.gapped 0 8) + cond (is_some ack) 8 0
+
+-- an own break: one becomes due eight turns after the last one at the soonest
+abbrev pub own_value : ℕ → OwnBreaks → ℕ
+own_value turn b = cond b.brk 8 0 + cond (waits b) (min 8 (turn - b.set)) (8 - (b.rest - turn))
+
+abbrev pub held_value : ℕ → Account → ℕ
+held_value turn a = owing a.incoming a.their_breaks.ack + cond a.special 0 4 + own_value turn a.own_breaks + cond a.wait.poll 16 0
+
+pub held-most : (turn : ℕ) (a : Account) → held_value turn a ≤ 68
+held-most turn a = go a.incoming.srej a.incoming.rej a.incoming.gapped (is_some a.their_breaks.ack) a.special a.own_breaks.brk
+    (waits a.own_breaks) a.wait.poll (turn - a.own_breaks.set) (a.own_breaks.rest - turn)
+  where
+    if-most : (b : Bool) (n : ℕ) → (cond b n 0 ≤ n) × (cond b 0 n ≤ n)
+    if-most b n = grind (arith)
+
+    either-most : (b : Bool) (m n k : ℕ) → m ≤ k → n ≤ k → cond b m n ≤ k
+    either-most b m n k h1 h2 = grind (arith)
+
+    go : (srej rej gapped ack special brk w poll : Bool) (s r : ℕ)
+        → cond srej 0 (cond rej 16 0 + cond gapped 0 8) + cond ack 8 0 + cond special 0 4 +
+        (cond brk 8 0 + cond w (min 8 s) (8 - r)) + cond poll 16 0 ≤ 68
+    go srej rej gapped ack special brk w poll s r =
+        let first : cond srej 0 (cond rej 16 0 + cond gapped 0 8) ≤ 24 =
+        either-most srej 0 (cond rej 16 0 + cond gapped 0 8) 24 (omega arith)
+        (omega (arith, (if-most rej 16).0, (if-most gapped 8).1)) in
+        let last : cond w (min 8 s) (8 - r) ≤ 8 = either-most w (min 8 s) (8 - r) 8 (omega arith) (omega arith) in
+        omega (arith, first, (if-most ack 8).0, (if-most special 4).1, (if-most brk 8).0, last, (if-most poll 16).0)
+
+-- a command that asks for an answer at once
+abbrev pub frame_poll : Frame → Bool
+frame_poll (Rr command nr pf) = command && pf
+frame_poll (Rnr command nr pf) = command && pf
+frame_poll (Rej command nr pf) = command && pf
+frame_poll frame = false
+
+-- the whole turns since a timer was set, up to nineteen
+abbrev pub timer_value : ℕ → Option ℕ → ℕ
+timer_value turn None = 0
+timer_value turn (Some set) = min 19 (turn - (set + 1))
+
+abbrev pub poll_value : ℕ → Phase → Account → ℕ
+poll_value turn Connected a = cond a.wait.poll 19 0 + timer_value turn a.wait.timer
+poll_value turn Releasing a = 0
+poll_value turn Closed a = 0
+poll_value turn p a = 38
+
+timer-most : (turn : ℕ) (timer : Option ℕ) → timer_value turn timer ≤ 19
+timer-most turn b = grind (arith)
+
+pub poll-most : (turn : ℕ) (p : Phase) (a : Account) → poll_value turn p a ≤ 38
+poll-most turn Detecting a = omega arith
+poll-most turn Negotiating a = omega arith
+poll-most turn Establishing a = omega arith
+poll-most turn Connected a = go a.wait.poll
+  where
+    go : (b : Bool) → cond b 19 0 + timer_value turn a.wait.timer ≤ 38
+    go true = omega (arith, timer-most turn a.wait.timer)
+    go false = omega (arith, timer-most turn a.wait.timer)
+poll-most turn Releasing a = omega arith
+poll-most turn Closed a = omega arith
+
+-- What a Connected end makes of what it hears, as far as it may hold up a segment.
 abbrev pub owed_by : Account → ℕ
-owed_by a = credits.owing a.incoming a.their_breaks.ack
+owed_by a = owing a.incoming a.their_breaks.ack
 
 -- what it makes of the sender's part and its timer
 abbrev pub TakesNumber : ℕ → Account → Account → Type 0
@@ -52,8 +120,8 @@ abbrev pub TakesSo : ℕ → Bool → Account → Account → Type 0
 TakesSo turn polls a b = Closes a b ⊎ ((b.phase ≡ Connected) × Takes turn polls a b)
 
 take-owes : (k : Took) (n : ℕ) (info : List ℕ) (i : Incoming) (ack : Option BreakWord)
-    → ((after_kind k n info i).srej ≡ i.srej) × (credits.owing (after_kind k n info i) ack ≤ credits.owing i ack + 8)
-    × (i.srej ≡ true → credits.owing (after_kind k n info i) ack ≤ credits.owing i ack)
+    → ((after_kind k n info i).srej ≡ i.srej) × (owing (after_kind k n info i) ack ≤ owing i ack + 8)
+    × (i.srej ≡ true → owing (after_kind k n info i) ack ≤ owing i ack)
 take-owes Kept n info i ack = (refl, omega arith, λ e. omega arith)
 take-owes Repeat n info i ack = (refl, omega arith, λ e. omega arith)
 take-owes InOrder n info i ack = (refl, go i.srej i.rej i.gapped, λ e. by i.srej i.rej i.gapped e)
@@ -62,27 +130,20 @@ take-owes InOrder n info i ack = (refl, go i.srej i.rej i.gapped, λ e. by i.sre
     x = cond (is_some ack) 8 0
 
     go : (s r g : Bool) → cond s 0 (cond r 16 0 + cond false 0 8) + x ≤ cond s 0 (cond r 16 0 + cond g 0 8) + x + 8
-    go true r g = omega arith
-    go false r true = omega arith
-    go false r false = omega arith
+    go b r g = grind (arith)
 
     by : (s r g : Bool) → s ≡ true → cond s 0 (cond r 16 0 + cond false 0 8) + x ≤ cond s 0 (cond r 16 0 + cond g 0 8) + x
-    by true r g e = omega arith
-    by false r g e = cc
+    by b r g e = grind (arith)
 take-owes Gap n info i ack = (refl, go i.srej i.rej i.gapped, λ e. by i.srej i.rej i.gapped e)
   where
     x : ℕ
     x = cond (is_some ack) 8 0
 
     go : (s r g : Bool) → cond s 0 (cond (r || not g) 16 0 + cond true 0 8) + x ≤ cond s 0 (cond r 16 0 + cond g 0 8) + x + 8
-    go true r g = omega arith
-    go false true g = omega arith
-    go false false true = omega arith
-    go false false false = omega arith
+    go b r g = grind (arith)
 
     by : (s r g : Bool) → s ≡ true → cond s 0 (cond (r || not g) 16 0 + cond true 0 8) + x ≤ cond s 0 (cond r 16 0 + cond g 0 8) + x
-    by true r g e = omega arith
-    by false r g e = cc
+    by b r g e = grind (arith)
 
 -- a frame that leaves all but an N(R) and a reply as it is
 number-takes : (turn : ℕ) (polls : Bool) (a b : Account) → TakesNumber turn a b → b.setup ≡ a.setup → b.phase ≡ Connected
@@ -108,11 +169,10 @@ number-takes turn polls a b number setup phase incoming special poll told answer
 )
   where
     same : owed_by b ≡ owed_by a
-    same = ap (λ i. credits.owing i b.their_breaks.ack) incoming ∙ ap (λ t. credits.owing a.incoming t.ack) their
+    same = ap (λ i. owing i b.their_breaks.ack) incoming ∙ ap (λ t. owing a.incoming t.ack) their
 
     polled : (r p : Bool) → r ≡ false → r || p ≡ true → p ≡ true
-    polled true p e f = cc
-    polled false p e f = f
+    polled b p e f = grind (arith)
 
 same-takes : (turn : ℕ) (a : Account) → a.phase ≡ Connected → (b : Account) → b.outgoing ≡ a.outgoing → b.wait ≡ a.wait → b.setup ≡ a.setup
     → b.phase ≡ a.phase → b.incoming ≡ a.incoming → b.special ≡ a.special → b.owes ≡ a.owes → b.numbered ≡ a.numbered
@@ -120,11 +180,7 @@ same-takes : (turn : ℕ) (a : Account) → a.phase ≡ Connected → (b : Accou
 same-takes turn a e b outgoing wait setup phase incoming special owes numbered own their =
     inr (number-takes turn false a b (inr (outgoing, ap (λ w. w.timer) wait)) setup (phase ∙ e) incoming special (ap (λ w. w.poll) wait)
     (ap (λ o. o.busy_told) owes) (ap (λ o. o.answer) owes) (λ x. numbered ∙ x) own their
-    (ap (λ o. o.reply) owes ∙ plain a.owes.reply))
-  where
-    plain : (r : Bool) → r ≡ r || false
-    plain true = refl
-    plain false = refl
+    (ap (λ o. o.reply) owes ∙ sym (or-false a.owes.reply)))
 
 answered-own : (z : Rates) (turn number : ℕ) (b : OwnBreaks) → Breaks z turn turn b
     → own_value turn (after_answer turn number b) ≤ own_value turn b
@@ -139,9 +195,7 @@ answered-own z turn number b s = go (waits b) (nat_eq number (b.answered % 2))
     go : (w right : Bool)
         → own_value turn (cond (w && right) (record b { answered = b.answered + 1; brk = false; count = 0; rest = turn + 8 }) b) ≤ own_value
         turn b
-    go false right = omega arith
-    go true false = omega arith
-    go true true = omega (arith, new)
+    go b right = grind (arith)
 
 -- nothing but this changes
 module _ (z : Rates) (turn : ℕ) (role : Role) (a : Account) (h : Linked z turn turn role a) (e : a.phase ≡ Connected) where
@@ -177,8 +231,7 @@ module _ (z : Rates) (turn : ℕ) (role : Role) (a : Account) (h : Linked z turn
   )
 
   one-more : (b : Bool) → 8 ≤ cond b 8 0 + 8
-  one-more true = omega arith
-  one-more false = omega arith
+  one-more b = grind (arith)
 
   taken : (ns nr n : ℕ) (info : List ℕ) → meant a.outgoing.front a.outgoing.high nr ≡ Some n
       → TakesSo turn false a (numbered_with a (advanced a.outgoing n) (after_take ns info a.incoming)
@@ -205,17 +258,13 @@ module _ (z : Rates) (turn : ℕ) (role : Role) (a : Account) (h : Linked z turn
       )
     where
       none : (r : Bool) → r ≡ false → r || false ≡ true → ⊥
-      none true f g = cc
-      none false f g = cc
+      none b f g = grind (arith)
 
   plain : (frame : Frame) → Plain frame → TakesSo turn (frame_poll frame) a a
   plain frame p = subst (λ b. TakesSo turn b a a) (sym (kind p)) same
     where
       kind : Plain frame → frame_poll frame ≡ false
-      kind (IsUa pf q) = ap frame_poll q
-      kind (IsXid command pf info q) = ap frame_poll q
-      kind (IsTest command pf info q) = ap frame_poll q
-      kind (IsNoWord command pf info fault w q) = ap frame_poll q
+      kind b = grind (arith)
 
   -- an own frame is heard: of no weight above two, and no RNR
   ways : ConnectedWays (λ x b. arrived_weight x ≤ 2 → arrived_rnrs x ≡ 0 → TakesSo turn (of_arrived frame_poll x) a b) turn a
@@ -249,10 +298,6 @@ module _ (z : Rates) (turn : ℕ) (role : Role) (a : Account) (h : Linked z turn
       unpolled ns nr true info n f w = absurd (omega (arith, w))
       unpolled ns nr false info n f w = taken ns nr n info f
 
-      plain-or : (r : Bool) → r || false ≡ r
-      plain-or true = refl
-      plain-or false = refl
-
       chosen : (nr n : ℕ) → is_outstanding a.outgoing ≡ true → meant a.outgoing.front (a.outgoing.high - 1) nr ≡ Some n
           → TakesSo turn false a (numbered_with a (record a.outgoing { chosen = with_number n a.outgoing.chosen }) a.incoming
           (timer_after turn a.outgoing (record a.outgoing
@@ -262,10 +307,47 @@ module _ (z : Rates) (turn : ℕ) (role : Role) (a : Account) (h : Linked z turn
           let out : a.outgoing.front < a.outgoing.high = grind (arith, nat_tests, f) in
           inr (number-takes turn false a _
           (inl (heard-selected z turn turn a.outgoing a.wait.timer n h.sends range.0 (omega (arith, range.1, out)), refl)) refl e refl
-          refl refl refl refl (λ x. refl) refl refl (sym (plain-or a.owes.reply)))
+          refl refl refl refl (λ x. refl) refl refl (sym (or-false a.owes.reply)))
 
   pub takes : (arrived : Arrived) (mid : Account) → arrived_weight arrived ≤ 2 → arrived_rnrs arrived ≡ 0 → hear turn arrived a ≡ Ok mid
       → TakesSo turn (of_arrived frame_poll arrived) a mid
   takes arrived mid w n f = by-linked _ turn a ways
       (λ w n. other (on_nothing a) refl refl refl refl refl refl refl refl refl (λ x y. ap without_adp x) (omega arith) (omega arith)
       (λ x. omega arith)) arrived mid e f w n
+
+-- What serving an end makes of what may hold up a segment.
+
+-- a break is asked for
+asked-own : (z : Rates) (turn l : ℕ) (b : OwnBreaks) → Breaks z (turn + 1) turn b → own_value turn (after_ask turn l b) ≤ own_value turn b
+asked-own z turn l b s = go (waits b) refl (nat_le b.rest turn) refl
+  where
+    go : (w : Bool) → waits b ≡ w → (rested : Bool) → nat_le b.rest turn ≡ rested
+        → own_value turn (cond (not w && rested)
+        (record b { lengths = b.lengths ++ l ∷ []; brk = true; set = turn; count = 0 }) b) ≤ own_value turn b
+    go true e rested f = omega arith
+    go false e false f = omega arith
+    go false e true f =
+        let longer : length (b.lengths ++ l ∷ []) ≡ length b.lengths + 1 = omega (arith, length-append {A = ℕ}) in
+        let low : b.answered ≤ length b.lengths = s.low in
+        let waiting : nat_lt b.answered (length (b.lengths ++ l ∷ [])) ≡ true = grind (arith, nat_tests, longer, low) in
+        let rested : b.rest ≤ turn = grind (arith, nat_tests) in
+        let new : cond (nat_lt b.answered (length (b.lengths ++ l ∷ []))) (min 8 (turn - turn)) (8 - (b.rest - turn)) ≡ min 8
+        (turn - turn) = ap (λ w. cond w (min 8 (turn - turn)) (8 - (b.rest - turn))) waiting in
+        let old : cond (waits b) (min 8 (turn - b.set)) (8 - (b.rest - turn)) ≡ 8 - (b.rest - turn) =
+        ap (λ w. cond w (min 8 (turn - b.set)) (8 - (b.rest - turn))) e in
+        let any : 0 ≤ cond b.brk 8 0 = omega arith in
+        omega (arith, new, old, rested, any)
+
+pub served-own : (z : Rates) (turn breaks : ℕ) (busy : Bool) (a b : Account) → Breaks z (turn + 1) turn a.own_breaks
+    → Served turn breaks busy a b → own_value turn b.own_breaks ≤ own_value turn a.own_breaks
+served-own z turn breaks busy a b h s = elim s.own [
+  | inl e ↦ omega (arith, ap (own_value turn) e)
+  | inr x ↦ omega (arith, ap (own_value turn) x.1, asked-own z turn x.0 a.own_breaks h)
+]
+
+pub served-owes : (turn breaks : ℕ) (busy : Bool) (a b : Account) → Served turn breaks busy a b → owed_by b ≡ owed_by a
+served-owes turn breaks busy a b s = by b.incoming.srej b.incoming.rej b.incoming.gapped s.srej s.rej s.gapped
+  where
+    by : (srej rej gapped : Bool) → srej ≡ a.incoming.srej → rej ≡ a.incoming.rej → gapped ≡ a.incoming.gapped
+        → cond srej 0 (cond rej 16 0 + cond gapped 0 8) + cond (is_some b.their_breaks.ack) 8 0 ≡ owed_by a
+    by srej rej gapped e f g = rw (e, f, g, s.ack) refl

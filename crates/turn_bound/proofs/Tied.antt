@@ -7,8 +7,7 @@ use Rattle.link_run.proofs.Names.{is_released, Link, Accounts, Spoken, Turn, Goi
 use Rattle.link_run.proofs.Names.{sent_ago}
 use Rattle.link_run.specs.Carried.{HasDelays, has_message}
 use Rattle.turn_bound.specs.Time.{KeepsTime}
-use Rattle.turn_bound.proofs.Run.{arrival, left_on, slot_of, served_account, State}
-use Rattle.turn_bound.proofs.Potential.{Keeps}
+use Rattle.turn_bound.proofs.Run.{arrival, left_on, slot_of, served_account, State, Keeps}
 use Rattle.lapm_frames.specs.declared.sent.Sent.TheVariants as slots
 use Rattle.lapm_frames.specs.declared.arrived.Arrived.TheVariants as arrivals
 use Rattle.link_run.specs.Run as runs
@@ -73,9 +72,7 @@ silent slots.Flags e = refl
 silent p e = cc
 
 pub none-heard : (m : Option Spoken) (heard : Heard) → m ≡ None → Crosses m heard → arrivals.Nothing ≡ runs.arrival heard
-none-heard None Nothing e c = refl
-none-heard (Some slot) heard e c = cc
-none-heard None p e c = absurd c
+none-heard b heard e c = grind (arith)
 
 pub one-heard : (m : Option Spoken) (sent : Sent) (heard : Heard) → sent_of m ≡ Some sent → Crosses m heard
     → cond (is_lost heard) arrivals.Nothing (arrives sent) ≡ runs.arrival heard
@@ -85,10 +82,7 @@ one-heard (Some slot) sent heard e c =
     subst (λ s. cond (is_lost heard) arrivals.Nothing (arrives s) ≡ runs.arrival heard) same (by heard c)
   where
     by : (h : Heard) → Crosses (Some slot) h → cond (is_lost h) arrivals.Nothing (arrives slot.sent) ≡ runs.arrival h
-    by Nothing c = silent slot.sent c
-    by (Passed s) c = ap arrives (sym c.0)
-    by (Lost s) c = refl
-    by Chance c = absurd c
+    by b c = grind (arith)
 
 map-snoc : (line : List Slot) (slot : Slot) → map in_slot (line ++ slot ∷ []) ≡ map in_slot line ++ Some slot.sent ∷ []
 map-snoc [] slot = refl

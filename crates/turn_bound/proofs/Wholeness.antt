@@ -1,6 +1,7 @@
 -- An end that is whole stays so, and the link is released once both ends are.
 use Rattle.std.proofs.Common.{◌≡◌, ℕ, ◌+◌, ◌≤◌, ◌&&◌, ◌⊎◌, nat_eq, Bool, true, false, cond, List, [], ◌∷◌, map, length, inl, inr, arith}
 use Rattle.std.proofs.Common.{refl, sym, ◌∙◌, ap, subst, Ok}
+use Rattle.turn_bound.proofs.Truths.{and-two}
 use Rattle.link_account.proofs.Names.{nat_tests, Role, Originator, Answerer, is_originator, of, Outgoing, Arrived, Account, is_connected}
 use Rattle.link_account.proofs.Names.{trying, Said, speak, speak_in, speak_linked, speak_releasing}
 use Rattle.link_run.proofs.Names.{Phase, Detecting, Negotiating, Establishing, Connected, Releasing, Closed, User, is_busy, is_released}
@@ -10,13 +11,11 @@ use Rattle.link_account.specs.Account.{is_done}
 use Rattle.link_run.specs.Run.{finished_at, served_ends}
 use Rattle.turn_bound.specs.Time.{KeepsTime}
 use Rattle.turn_bound.specs.Advance.{NeverBusy}
-use Rattle.turn_bound.proofs.Clock.{Rates, rates, AreRates}
-use Rattle.turn_bound.proofs.Value.{IsOf, Unlinked, Linked, Stands, arrived_weight, arrived_rnrs}
+use Rattle.turn_bound.proofs.Value.{Rates, rates, AreRates, IsOf, Linked, Stands, arrived_weight, arrived_rnrs, unlinked-of, connected-is}
 use Rattle.turn_bound.proofs.Run.{served_account}
-use Rattle.turn_bound.proofs.StillTurn.{linked-stand, only-connected, spoke}
+use Rattle.turn_bound.proofs.Speaking.{spoke}
 use Rattle.turn_bound.proofs.MeetHear.{is_begun, of_arrived}
-use Rattle.turn_bound.proofs.Credits.{frame_poll}
-use Rattle.turn_bound.proofs.Taking.{TakesNumber, Takes, Closes, takes}
+use Rattle.turn_bound.proofs.Taking.{frame_poll, TakesNumber, Takes, Closes, takes}
 use Rattle.turn_bound.proofs.Pausing.{goes-on, says-calm}
 use Rattle.turn_bound.proofs.Ending.{fits}
 use Rattle.turn_bound.proofs.Tied.{keeps, Tied, tied, link_of, turn_of, state_of}
@@ -32,24 +31,10 @@ pub whole-is : (o : Outgoing) → is_whole o ≡ true → IsWhole o
 whole-is o e = go o.ended refl (nat_eq o.front (length o.pieces)) refl e
   where
     go : (d : Bool) → o.ended ≡ d → (n : Bool) → nat_eq o.front (length o.pieces) ≡ n → d && n ≡ true → IsWhole o
-    go true f true g h = (f, grind (arith, nat_tests))
-    go true f false g h = cc
-    go false f n g h = cc
+    go b f n g h = grind (arith)
 
 pub is-whole : (o : Outgoing) → IsWhole o → is_whole o ≡ true
 is-whole o (e, f) = let same : nat_eq o.front (length o.pieces) ≡ true = grind (arith, nat_tests, f) in rw (e, same) refl
-
-unlinked-of : (z : Rates) (before turn : ℕ) (role : Role) (p : Phase) (a : Account) → Stands z before turn role p a → is_begun p ≡ false
-    → Unlinked a
-unlinked-of z before turn Originator Detecting a h e = h
-unlinked-of z before turn Originator Negotiating a h e = h.0
-unlinked-of z before turn Originator Establishing a h e = h.0
-unlinked-of z before turn Answerer Detecting a h e = h
-unlinked-of z before turn Answerer Negotiating a h e = h
-unlinked-of z before turn Answerer Establishing a h e = absurd h
-unlinked-of z before turn r Connected a h e = cc
-unlinked-of z before turn r Releasing a h e = cc
-unlinked-of z before turn r Closed a h e = cc
 
 -- what is served and what is said of it
 pub record Spoken (z : Rates) (turn : ℕ) (role : Role) (b : Account) (said : Said) : Type 0 where
@@ -109,7 +94,7 @@ module _ {z : Rates} {user : User} {turn : ℕ} {role : Role} {a : Account} {arr
       hearing-so Connected e = by (takes z turn role a linked e arrived mid light quiet i.hears)
         where
           linked : Linked z turn turn role a
-          linked = linked-stand z turn turn role a (subst (λ q. Stands z turn turn role q a) e i.stands)
+          linked = subst (λ q. Stands z turn turn role q a) e i.stands
 
           number : TakesNumber turn a mid → IsWhole mid.outgoing
           number (inl n) = (
@@ -136,41 +121,26 @@ pub told-now : (z : Rates) (turn : ℕ) (role : Role) (release : Bool) (b : Acco
     → speak turn release b ≡ Ok said → is_released b.phase ≡ false → is_released said.account.phase ≡ true → release ≡ true
 told-now z turn role release b said y s e open_ told = go (is_connected b.phase) refl
   where
-    first-true : (x o : Bool) → x && o ≡ true → x ≡ true
-    first-true true o h = refl
-    first-true false o h = cc
-
     go : (c : Bool) → is_connected b.phase ≡ c → release ≡ true
     go false h = let wrong : true ≡ false = sym told ∙ (ap is_released (s.keeps h) ∙ open_) in cc
     go true h = by (release && is_originator b.setup.role) refl (subst (λ q. speak_in q turn release b ≡ Ok said) linked e)
       where
         linked : b.phase ≡ Connected
-        linked = only-connected b.phase h
+        linked = connected-is b.phase h
 
         by : (x : Bool) → release && is_originator b.setup.role ≡ x
             → cond x (speak_releasing turn (trying Releasing turn b)) (speak_linked turn b) ≡ Ok said → release ≡ true
-        by true f g = first-true release (is_originator b.setup.role) f
+        by true f g = (and-two release (is_originator b.setup.role) f).0
         by false f g =
-            let p = spoke z (length b.outgoing.pieces) 0 turn role b said y s.is_of
-            (linked-stand z (turn + 1) turn role b (subst (λ q. Stands z (turn + 1) turn role q b) linked s.stands)) s.role_is
-            (omega arith) g in
-            let wrong : true ≡ false = sym told ∙ ap is_released (p.stepped.same.phase ∙ (p.is_timed.same.phase ∙ linked)) in cc
+            let p = spoke z (length b.outgoing.pieces) 0 turn role b y s.is_of
+            (subst (λ q. Stands z (turn + 1) turn role q b) linked s.stands) s.role_is (omega arith) said g in
+            let wrong : true ≡ false = sym told ∙ ap is_released (p.stepped.phase ∙ (p.is_timed.phase ∙ linked)) in cc
 
 finished-whole : (user : User) (turn : ℕ) (a : Account) → has_finished user turn a ≡ true → IsWhole a.outgoing
-finished-whole user turn a e = whole-is a.outgoing (by (is_connected a.phase) (first-true (is_done a) _ e))
+finished-whole user turn a e = whole-is a.outgoing (by (is_connected a.phase) (and-two (is_done a) _ e).0)
   where
-    first-true : (x y : Bool) → x && y ≡ true → x ≡ true
-    first-true true y h = refl
-    first-true false y h = cc
-
     by : (c : Bool) → cond c (is_whole a.outgoing) false ≡ true → is_whole a.outgoing ≡ true
-    by true h = h
-    by false h = cc
-
-and-both : (x y : Bool) → x && y ≡ true → (x ≡ true) × (y ≡ true)
-and-both true true h = (refl, refl)
-and-both true false h = cc
-and-both false y h = cc
+    by b h = grind (arith)
 
 -- Once the originator is told to release both ends are whole.
 pub released-whole : (tries period : ℕ) (delay : Role → ℕ) (link : Link) (ts : List Turn) (ends : Accounts)
@@ -208,7 +178,7 @@ released-whole tries period delay link (t ∷ ts) ends k n (before, run, g) c e 
       where
         b : (finished_at link turn (served_ends link turn g.mid) Originator ≡ true) ×
             (finished_at link turn (served_ends link turn g.mid) Answerer ≡ true)
-        b = and-both (finished_at link turn (served_ends link turn g.mid) Originator)
+        b = and-two (finished_at link turn (served_ends link turn g.mid) Originator)
             (finished_at link turn (served_ends link turn g.mid) Answerer) told
 
         of-both : (q : Role) → has_finished (of q link).user turn
@@ -242,8 +212,7 @@ released-whole tries period delay link (t ∷ ts) ends k n (before, run, g) c e 
         heard-open Closed h = let wrong : true ≡ false = sym (ap is_released h) ∙ open_ in cc
         heard-open Connected h = elim
             (takes (rates tries period) turn Originator before.orig
-            (linked-stand (rates tries period) turn turn Originator before.orig
-            (subst (λ q. Stands (rates tries period) turn turn Originator q before.orig) h x.stands)) h
+            (subst (λ q. Stands (rates tries period) turn turn Originator q before.orig) h x.stands) h
             (arrival t.orig.heard) g.mid.orig light.0 light.1 x.hears) [
               | inl q ↦ (let wrong : Originator ≡ Answerer = sym x.role_is ∙ q.answers in cc)
               | inr q ↦ ap is_released q.0

@@ -1,15 +1,12 @@
 -- What an end sends at the answer to its poll is acknowledged, where no line is lost.
 use Rattle.std.proofs.Common.{◌⊎◌, inl, inr, ◌≡◌, ℕ, ◌+◌, ◌-◌, ◌%◌, ◌<◌, ◌≤◌, ◌&&◌, Bool, true, false, cond, nat_lt, nat_le, length, arith}
 use Rattle.std.proofs.Common.{refl, sym, ◌∙◌, ap, Option, Some, None}
-use Rattle.link_account.proofs.Names.{is_some, cases_lt, nat_tests, Frame, I, Rr, Rnr, Rej, meant, Sent, Arrived, is_connected, arrives}
-use Rattle.turn_losses.proofs.KeepsPolls.{Answers}
-use Rattle.turn_losses.proofs.NumberHear.{frame_nr, nr_heard, ns_heard, nr_sent, ns_sent, NumbersHeard}
+use Rattle.link_account.proofs.Names.{is_some, cases_lt, nat_tests, Frame, meant, Sent, Arrived, is_connected, arrives}
+use Rattle.turn_losses.proofs.PeriodLaws.{Answers, reply-matches, awaits-on, NoneLost, StayConnected, connected-since}
+use Rattle.turn_losses.proofs.NumberHear.{frame_nr, nr_heard, ns_heard, nr_sent, ns_sent, NumbersHeard, Room}
 use Rattle.turn_losses.proofs.NumberTurn.{NumberTurn}
-use Rattle.turn_losses.proofs.Room.{Room}
-use Rattle.turn_losses.proofs.PollLaws.{reply-matches}
-use Rattle.turn_losses.proofs.PeriodLaws.{awaits-on, NoneLost, StayConnected, connected-since}
 use Rattle.turn_losses.proofs.Names.{of_arrived, is_final, is_linked, EndRun, ArrivesLate, TwoEnds, hears_final}
-use Rattle.turn_losses.proofs.Truths.{clash}
+use Rattle.turn_bound.proofs.Truths.{clash}
 use Rattle.turn_losses.proofs.Kept.{kept-in}
 use Rattle.lapm_frames.specs.declared.sent.Sent.TheVariants as slots
 use Rattle.lapm_frames.specs.declared.arrived.Arrived.TheVariants as arrivals
@@ -65,8 +62,7 @@ told-from g k w delay turn loses f arrived h n e = elim (cases_lt turn delay) [
 ]
   where
     by : (b : Bool) → g (cond b arrivals.Nothing (arrives (f (turn - delay)))) ≡ Some n → k (f (turn - delay)) ≡ Some n
-    by true q = let wrong : None ≡ Some n = sym w.nothing ∙ q in cc
-    by false q = sym (w.same (f (turn - delay))) ∙ q
+    by b q = grind (arith)
 
 told-to : (g : Arrived → Option ℕ) (k : Sent → Option ℕ) → Told g k → (delay turn : ℕ) (loses : Bool) (f : ℕ → Sent) (arrived : Arrived)
     → ArrivesLate delay (turn + delay) loses f arrived → loses ≡ false → g arrived ≡ k (f turn)
@@ -76,15 +72,10 @@ told-to g k w delay turn loses f arrived h none =
     ∙ (ap (λ b. cond b arrivals.Nothing (arrives (f (turn + delay - delay)))) none ∙ ap (λ n. arrives (f n)) back)) ∙ w.same (f turn)
 
 is-some : (m : Option ℕ) → is_some m ≡ true → (n : ℕ) × (m ≡ Some n)
-is-some None e = cc
-is-some (Some n) e = (n, refl)
+is-some b e = grind (arith)
 
 final-nr : (frame : Frame) → is_final frame ≡ true → is_some (frame_nr frame) ≡ true
-final-nr (Rr c nr pf) e = refl
-final-nr (Rnr c nr pf) e = refl
-final-nr (Rej c nr pf) e = refl
-final-nr (I ns nr pf info) e = refl
-final-nr p e = cc
+final-nr p e = grind (arith)
 
 final-told : (x : Arrived) → of_arrived is_final x ≡ true → (n : ℕ) × (nr_heard x ≡ Some n)
 final-told arrivals.Nothing e = cc
@@ -154,12 +145,6 @@ acknowledged {period} {turns} {e} {o} k c u within final sends ce co lost = go-t
     m : Answers u e o
     m = reply-matches k u (omega (arith, within)) final
 
-    trip : m.sent + (e.delay + o.delay) ≡ u
-    trip = m.round_trip
-
-    due-before : m.due ≤ m.sent
-    due-before = m.due_before
-
     w : ℕ
     w = u - o.delay
 
@@ -196,12 +181,12 @@ acknowledged {period} {turns} {e} {o} k c u within final sends ce co lost = go-t
                 (k.is_heard y (omega (arith, hi, g, within, d'))) ns g' in
                 let z : ℕ = y - e.delay in
                 let fr = from.0 in
-                let low : m.due < z + 1 = omega (arith, fr, lo, trip, due-before) in
+                let low : m.due < z + 1 = omega (arith, fr, lo, m.round_trip, m.due_before) in
                 let high : z + 1 ≤ u = omega (arith, fr, hi, g) in
                 let linked : is_linked (e.account (m.due + 1)).phase ≡ true =
                 (k.own m.due (omega (arith, low, high, within))).made_linked m.made in
                 let cu = ce u (omega arith) (omega arith) in
-                let after-due : m.due + 1 ≤ z = omega (arith, fr, lo, trip, due-before, k.own_delay) in
+                let after-due : m.due + 1 ≤ z = omega (arith, fr, lo, m.round_trip, m.due_before, k.own_delay) in
                 let on = connected-since k (m.due + 1) u (omega (arith, within)) linked cu in
                 let sent = (c.own z (omega (arith, high, within)) (on z after-due (omega (arith, high)))
                 (on (z + 1) (omega (arith, after-due)) high)).segment ns from.1 in

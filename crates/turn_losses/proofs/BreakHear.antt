@@ -1,73 +1,64 @@
 -- What hearing makes of an end's breaks, of what it owes for the other end's, and of its urgent segment.
-use Rattle.std.proofs.Common.{◌⊎◌, inl, inr, ◌≡◌, ℕ, ◌+◌, ◌%◌, ◌&&◌, List, Bool, true, false, cond, nat_eq, refl, sym, ◌∙◌, ap, Ok}
-use Rattle.link_account.proofs.Names.{Ui, Arrived, BreakWord, Ack, word_in, OwnBreaks, waits, Account, is_connected, hear}
+use Rattle.std.proofs.Common.{arith, ◌⊎◌, inl, ◌≡◌, ℕ, ◌+◌, ◌%◌, ◌&&◌, List, Bool, true, false, cond, nat_eq, refl, sym, ◌∙◌, ap, Ok}
+use Rattle.link_account.proofs.Names.{Ui, Arrived, BreakWord, Ack, word_in, OwnBreaks, waits, Account, is_connected, hear, Role, on_nothing}
+use Rattle.link_account.proofs.Names.{owing}
 use Rattle.link_run.proofs.Names.{Connected}
 use Rattle.link_account.proofs.HearWays.{by-linked}
 use Rattle.turn_losses.proofs.HeardNumber.{number-rows, plain-frame}
-use Rattle.turn_losses.proofs.Names.{of_arrived, is_final}
+use Rattle.turn_losses.proofs.Names.{of_arrived, is_final, is_linked}
 use Rattle.turn_losses.proofs.Words.{is_word, of_word, brk_of, ack_of, any_brk, pends_of}
 use Rattle.lapm_frames.specs.declared.arrived.Arrived.TheVariants as arrivals
-pub use Rattle.turn_losses.proofs.Words.{is_word, of_word, brk_of, ack_of, any_brk, any_ack, pends, pends_of}
+use Rattle.link_account.specs.Hear.{first_wait}
+use Rattle.turn_bound.proofs.Truths.{unlinked-connected}
+use Rattle.link_account.specs.declared.answer.Answer.TheVariants as answers
+use Rattle.link_account.proofs.HearWays as HearWays
+
+-- the break that waits is answered
+abbrev pub answered_own : ℕ → OwnBreaks → OwnBreaks
+answered_own turn o = record o { answered = o.answered + 1; brk = false; count = 0; rest = turn + 8 }
+
+abbrev pub Unanswered : Arrived → OwnBreaks → Type 0
+Unanswered arrived o = waits o ≡ true → of_arrived (of_word (ack_of (o.answered % 2))) arrived ≡ false
 
 -- At a Connected end.
 pub record BreakHeard (turn : ℕ) (arrived : Arrived) (a b : Account) : Type 0 where
-  pub special : b.special ≡ a.special
-  pub own : (b.own_breaks ≡ a.own_breaks)
-      ⊎ ((waits a.own_breaks ≡ true) × (b.own_breaks.answered ≡ a.own_breaks.answered + 1) × (b.own_breaks.lengths ≡ a.own_breaks.lengths)
-      × (b.own_breaks.brk ≡ false) × (b.own_breaks.rest ≡ turn + 8))
-  pub ends : of_arrived (of_word (ack_of (a.own_breaks.answered % 2))) arrived ≡ true → waits a.own_breaks ≡ true
-      → (b.own_breaks.answered ≡ a.own_breaks.answered + 1) × (b.own_breaks.lengths ≡ a.own_breaks.lengths)
-      × (b.own_breaks.rest ≡ turn + 8)
+  pub own : ((b.own_breaks ≡ a.own_breaks) × Unanswered arrived a.own_breaks)
+      ⊎ ((waits a.own_breaks ≡ true) × (b.own_breaks ≡ answered_own turn a.own_breaks))
   pub asked : (n : ℕ) → of_arrived (of_word (brk_of n)) arrived ≡ true → pends_of n b.their_breaks.ack ≡ true
   pub kept : of_arrived (of_word any_brk) arrived ≡ false → b.their_breaks.ack ≡ a.their_breaks.ack
+  pub special : b.special ≡ a.special
   pub urgent : b.wait.urgent ≡ true → (a.wait.urgent ≡ true) ⊎ (of_arrived is_final arrived ≡ true)
 
 -- nothing of it changes
-quiet-heard : (turn : ℕ) (arrived : Arrived) (a b : Account) → b.special ≡ a.special → b.own_breaks ≡ a.own_breaks
+pub quiet-heard : (turn : ℕ) (arrived : Arrived) (a b : Account) → b.special ≡ a.special → b.own_breaks ≡ a.own_breaks
     → b.their_breaks ≡ a.their_breaks → ((f : BreakWord → Bool) → of_arrived (of_word f) arrived ≡ false)
     → (b.wait.urgent ≡ true → (a.wait.urgent ≡ true) ⊎ (of_arrived is_final arrived ≡ true)) → BreakHeard turn arrived a b
 quiet-heard turn arrived a b s o t f u = record {
   special = s;
-  own = inl o;
-  ends = λ h w. let wrong : true ≡ false = sym h ∙ f _ in cc;
+  own = inl (o, (λ w. f _));
   asked = λ n h. let wrong : true ≡ false = sym h ∙ f _ in cc;
   kept = λ h. ap (λ x. x.ack) t;
   urgent = u;
 }
 
--- a break's answer
-abbrev own_after : ℕ → OwnBreaks → Bool → OwnBreaks
-own_after turn o b = cond b (record o { answered = o.answered + 1; brk = false; count = 0; rest = turn + 8 }) o
-
 answer-heard : (turn : ℕ) (command pf : Bool) (info : List ℕ) (number length_octet : ℕ) (a : Account) → word_in info ≡ Ok
     (Ack number length_octet)
     → (w : Bool) → waits a.own_breaks ≡ w → (x : Bool) → nat_eq number (a.own_breaks.answered % 2) ≡ x
     → BreakHeard turn (arrivals.Frame (Ui command pf info)) a
-    (record a { own_breaks = own_after turn a.own_breaks (w && x) })
+    (record a { own_breaks = cond (w && x) (answered_own turn a.own_breaks) a.own_breaks })
 answer-heard turn command pf info number length_octet a e w v x y = record {
   special = refl;
-  own = own w v x;
-  ends = λ h u. ended w v x (sym y ∙ (sym (ap (is_word (ack_of (a.own_breaks.answered % 2))) e) ∙ h)) u;
+  own = own w v x y;
   asked = λ n h. let wrong : true ≡ false = sym h ∙ ap (is_word (brk_of n)) e in cc;
   kept = λ h. refl;
   urgent = λ u. inl u;
 }
   where
-    own : (w : Bool) → waits a.own_breaks ≡ w → (x : Bool) → (own_after turn a.own_breaks (w && x) ≡ a.own_breaks)
-        ⊎ ((waits a.own_breaks ≡ true) × ((own_after turn a.own_breaks (w && x)).answered ≡ a.own_breaks.answered + 1)
-        × ((own_after turn a.own_breaks (w && x)).lengths ≡ a.own_breaks.lengths) × ((own_after turn a.own_breaks (w && x)).brk ≡ false) ×
-        ((own_after turn a.own_breaks (w && x)).rest ≡ turn + 8))
-    own true v true = inr (v, refl, refl, refl, refl)
-    own true v false = inl refl
-    own false v x = inl refl
-
-    ended : (w : Bool) → waits a.own_breaks ≡ w → (x : Bool) → x ≡ true → waits a.own_breaks ≡ true
-        → ((own_after turn a.own_breaks (w && x)).answered ≡ a.own_breaks.answered + 1) ×
-        ((own_after turn a.own_breaks (w && x)).lengths ≡ a.own_breaks.lengths)
-        × ((own_after turn a.own_breaks (w && x)).rest ≡ turn + 8)
-    ended true v true h u = (refl, refl, refl)
-    ended true v false h u = cc
-    ended false v x h u = let wrong : true ≡ false = sym u ∙ v in cc
+    own : (w : Bool) → waits a.own_breaks ≡ w → (x : Bool) → nat_eq number (a.own_breaks.answered % 2) ≡ x
+        → ((cond (w && x) (answered_own turn a.own_breaks) a.own_breaks ≡ a.own_breaks)
+        × Unanswered (arrivals.Frame (Ui command pf info)) a.own_breaks)
+        ⊎ ((waits a.own_breaks ≡ true) × (cond (w && x) (answered_own turn a.own_breaks) a.own_breaks ≡ answered_own turn a.own_breaks))
+    own b v x y = grind (arith)
 
 pub break-heard : (arrived : Arrived) (turn : ℕ) (a mid : Account) → a.phase ≡ Connected → is_connected mid.phase ≡ true
     → hear turn arrived a ≡ Ok mid → BreakHeard turn arrived a mid
@@ -82,8 +73,7 @@ break-heard arrived turn a mid e c h =
       disc = λ pf r k. cc;
       brk = λ command pf info number length_octet q k. record {
         special = refl;
-        own = inl refl;
-        ends = λ f w. let wrong : true ≡ false = sym f ∙ ap (is_word (ack_of (a.own_breaks.answered % 2))) q in cc;
+        own = inl (refl, (λ w. ap (is_word (ack_of (a.own_breaks.answered % 2))) q));
         asked = λ n f. sym (ap (is_word (brk_of n)) q) ∙ f;
         kept = λ f. let wrong : true ≡ false = sym (ap (is_word any_brk) q) ∙ f in cc;
         urgent = λ u. inl u;
@@ -91,3 +81,51 @@ break-heard arrived turn a mid e c h =
       brkack = λ command pf info number length_octet q k. answer-heard turn command pf info number length_octet a q
           (waits a.own_breaks) refl (nat_eq number (a.own_breaks.answered % 2)) refl;
     }) (λ k. quiet-heard turn arrivals.Nothing a _ refl refl refl (λ g. refl) (λ u. inl u)) arrived mid e h c
+
+-- An end that isn't Connected yet has no break, owes none an answer, and has nothing urgent; and it becomes Connected so.
+pub record SameOld (arrived : Arrived) (a b : Account) : Type 0 where
+  pub own : b.own_breaks ≡ a.own_breaks
+  pub their : b.their_breaks ≡ a.their_breaks
+  pub special : b.special ≡ a.special
+  pub urgent : b.wait.urgent ≡ a.wait.urgent
+  pub plain : is_connected b.phase ≡ true → ((f : BreakWord → Bool) → of_arrived (of_word f) arrived ≡ false)
+      × (of_arrived is_final arrived ≡ false)
+
+-- it isn't Connected after it either
+unlinked-old : (arrived : Arrived) (a b : Account) → b.own_breaks ≡ a.own_breaks → b.their_breaks ≡ a.their_breaks → b.special ≡ a.special
+    → b.wait.urgent ≡ a.wait.urgent → is_connected b.phase ≡ false → SameOld arrived a b
+unlinked-old arrived a b o t s u n = record {
+  own = o;
+  their = t;
+  special = s;
+  urgent = u;
+  plain = λ c. let wrong : true ≡ false = sym c
+      ∙ n in cc;
+}
+
+first-urgent : (r : Role) (turn : ℕ) (a : Account) → (first_wait r turn a.wait).urgent ≡ a.wait.urgent
+first-urgent b turn a = grind (arith)
+
+pub old-heard : (arrived : Arrived) (turn : ℕ) (a mid : Account) → is_linked a.phase ≡ false → hear turn arrived a ≡ Ok mid
+    → SameOld arrived a mid
+old-heard arrived turn a mid l h = HearWays.by-ways (λ x b. SameOld x a b) turn a (record {
+  nothing = unlinked-old arrivals.Nothing a (on_nothing a) refl refl refl refl (unlinked-connected a.phase l);
+  linked = λ p. let wrong : true ≡ false = sym (ap is_linked p) ∙ l in cc;
+  early = λ c. record {
+    ignores = λ x f. unlinked-old x a a refl refl refl refl c;
+    detects = λ p r. unlinked-old _ a _ refl refl refl refl refl;
+    detected = λ p r. unlinked-old _ a (owing answers.Adp a) refl refl refl refl c;
+    xid = λ p r pf info offer f. unlinked-old _ a _ refl refl refl refl refl;
+    agrees = λ p r pf info offer f. unlinked-old _ a _ refl refl refl refl refl;
+    sabme_first = λ p r pf. begins _ _ refl refl refl (first-urgent a.setup.role turn a) (λ f. refl) refl;
+    sabme = λ p r pf. begins _ _ refl refl refl (first-urgent a.setup.role turn a) (λ f. refl) refl;
+    ua = λ p. begins _ _ refl refl refl (first-urgent a.setup.role turn a) (λ f. refl) refl;
+    disc = λ p pf. unlinked-old _ a (owing (answers.Dm pf) a) refl refl refl refl c;
+    closes = λ p frame f. let wrong : true ≡ false = sym (ap is_linked p) ∙ l in cc;
+  };
+}) arrived mid h
+  where
+    begins : (x : Arrived) (b : Account) → b.own_breaks ≡ a.own_breaks → b.their_breaks ≡ a.their_breaks → b.special ≡ a.special
+        → b.wait.urgent ≡ a.wait.urgent → ((f : BreakWord → Bool) → of_arrived (of_word f) x ≡ false) → of_arrived is_final x ≡ false
+        → SameOld x a b
+    begins x b o t s u w f = record { own = o; their = t; special = s; urgent = u; plain = λ c. (w, f) }

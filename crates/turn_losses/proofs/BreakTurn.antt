@@ -1,17 +1,243 @@
+-- What speaking makes of an end's breaks, of what it owes for the other end's, and of its urgent segment.
+use Rattle.std.proofs.Common.{◌⊎◌, inl, inr, ◌≡◌, ℕ, ◌+◌, ◌-◌, ◌%◌, ◌<◌, ◌&&◌, ◌||◌, not, Bool, true, false, cond, nat_eq, nat_lt, length}
+use Rattle.std.proofs.Common.{arith, refl, sym, ◌∙◌, ap, subst, Option, Some, None, Ok, Err, ◌≤◌, nat_le, ◌∷◌, ◌++◌, [], length-append}
+use Rattle.link_account.proofs.Names.{is_some, nat_tests, Srej, BreakWord, Brk, Ack, word_in, OwnBreaks, waits, ticked, Account, Said}
+use Rattle.link_account.proofs.Names.{frame_for, ready_frame, speak_linked, nr_of, Role, after_ask, Sent, Arrived, is_connected}
+use Rattle.link_run.proofs.Names.{Answer, Link}
+use Rattle.std.specs.Prelude.{slice_index_or}
+use Rattle.lapm_receiver.specs.Incoming.{after_asked}
+use Rattle.break_signals.specs.Words.{spelled}
+use Rattle.break_signals.specs.Breaks.{own_due, after_brk, after_ack}
+use Rattle.break_signals.specs.declared.fault.BreakFault.TheVariants.{Number}
+use Rattle.link_account.specs.Speak.{says_word}
+use Rattle.turn_bound.proofs.Value.{IsAck}
+use Rattle.link_account.proofs.SpeakWays.{NoWord, Steps, steps-so, polling_at, by-linked}
+use Rattle.turn_bound.proofs.Truths.{or-late, or-first, clash, and-true, and-second, and-drop}
+use Rattle.turn_losses.proofs.Names.{of_frame, is_poll, is_final, of_arrived, Served}
+use Rattle.turn_losses.proofs.Words.{ack_of, any_brk, brk_of, is_word, of_word, pends_of, pends}
+use Rattle.lapm_frames.specs.declared.sent.Sent.TheVariants as slots
+use Rattle.link_account.specs.declared.answer.Answer.TheVariants as answers
+use Rattle.turn_losses.proofs.InTurn.{InTurn}
+use Rattle.turn_losses.proofs.BreakHear.{BreakHeard, Unanswered, answered_own}
+
+-- what holds a break's word up: an F reply, a poll, an urgent segment, a BRKACK, a word in the turn before, or another answer
+abbrev pub holds : (final poll hurries acks special answer : Bool) → Bool
+holds final poll hurries acks special answer = final || (poll || (hurries || (acks || (special || answer))))
+
+-- What the nine steps make of them, of what they were: the end's breaks, the BRKACK that is due, whether a segment is urgent, and whether
+-- another answer is due.
+pub record StepBreaks (special : Bool) (o : OwnBreaks) (due : Option BreakWord) (urgent answer : Bool) (said : Said) : Type 0 where
+  pub hurries : Bool
+  pub acks : Bool
+  pub own : ((said.account.own_breaks ≡ o) × (of_frame (of_word any_brk) said.sent ≡ false))
+      ⊎ ((o.brk ≡ true) × (said.account.own_breaks ≡ after_brk o) × (of_frame (of_word (brk_of (o.answered % 2))) said.sent ≡ true))
+  pub ack : ((said.account.their_breaks.ack ≡ due) × (acks ≡ false))
+      ⊎ ((said.account.their_breaks.ack ≡ None) × (pends due ≡ true)
+      × ((n : ℕ) → n < 2 → pends_of n due ≡ true → of_frame (of_word (ack_of n)) said.sent ≡ true))
+  pub hurried : hurries ≡ true → (urgent ≡ true) × (said.account.wait.urgent ≡ false)
+  pub calm : said.account.wait.urgent ≡ true → urgent ≡ true
+  pub held : (said.account.own_breaks.brk ≡ true) ⊎ (pends said.account.their_breaks.ack ≡ true)
+      → holds (of_frame is_final said.sent) (of_frame is_poll said.sent) hurries acks special answer ≡ true
+  pub special_own : said.account.special ≡ true → said.account.own_breaks.brk ≡ true → acks ≡ true
+  pub special_ack : said.account.special ≡ true → pends said.account.their_breaks.ack ≡ true → ⊥
+
+ready-kinds : (busy command pf : Bool) (nr : ℕ) → (is_poll (ready_frame busy command nr pf) ≡ command && pf)
+    × (is_final (ready_frame busy command nr pf) ≡ pf && not command) × (of_word any_brk (ready_frame busy command nr pf) ≡ false)
+ready-kinds b command pf nr = grind (arith)
+
+small : (n : ℕ) → nat_lt (n % 2) 2 ≡ true
+small n = grind (arith, nat_tests)
+
+is-small : (n : ℕ) → n < 2 → nat_lt n 2 ≡ true
+is-small n l = grind (arith, nat_tests, l)
+
+same-number : (n : ℕ) → nat_eq n n ≡ true
+same-number n = grind (arith, nat_tests)
+
+brk-spelled : (n l : ℕ) → nat_lt n 2 ≡ true → is_word (brk_of n) (word_in (spelled (Brk n l))) ≡ true
+brk-spelled n l e = ap (λ b. is_word (brk_of n) (cond b (Ok (Brk n l)) (Err (Number n)))) e ∙ same-number n
+
+ack-spelled : (n m l : ℕ) → n < 2 → nat_eq m n ≡ true → is_word (ack_of n) (word_in (spelled (Ack m l))) ≡ true
+ack-spelled n m l s e =
+    let same : m ≡ n = grind (arith, nat_tests, e) in
+    let less : nat_lt m 2 ≡ true = is-small m (omega (arith, same, s)) in
+    ap (λ b. is_word (ack_of n) (cond b (Ok (Ack m l)) (Err (Number m)))) less ∙ e
+
+ack-no-brk : (m l : ℕ) → is_word any_brk (word_in (spelled (Ack m l))) ≡ false
+ack-no-brk m l = by (nat_lt m 2)
+  where
+    by : (b : Bool) → is_word any_brk (cond b (Ok (Ack m l)) (Err (Number m))) ≡ false
+    by b = grind (arith)
+
+undue : (o : OwnBreaks) → own_due o ≡ None → o.brk ≡ false
+undue o n = by o.brk n
+  where
+    by : (b : Bool) → cond b (Some (Brk (o.answered % 2) (slice_index_or o.lengths o.answered 0))) None ≡ None → b ≡ false
+    by b f = grind (arith)
+
+module _ (special : Bool) (a : Account) where
+  abbrev P : Said → Type 0
+  P = StepBreaks special a.own_breaks a.their_breaks.ack a.wait.urgent (is_some a.owes.answer)
+
+  abbrev Due : Type 0
+  Due = (a.own_breaks.brk ≡ true) ⊎ (pends a.their_breaks.ack ≡ true)
+
+  -- a frame that leaves them alone, and holds a word up where one is due
+  quiet : (said : Said) → said.account.own_breaks ≡ a.own_breaks → said.account.their_breaks ≡ a.their_breaks
+      → said.account.special ≡ false → (said.account.wait.urgent ≡ true → a.wait.urgent ≡ true)
+      → of_frame (of_word any_brk) said.sent ≡ false
+      → (h : Bool) → (h ≡ true → (a.wait.urgent ≡ true) × (said.account.wait.urgent ≡ false))
+      → (Due → holds (of_frame is_final said.sent) (of_frame is_poll said.sent) h false special (is_some a.owes.answer) ≡ true) → P said
+  quiet said o t s u b h hu k = record {
+    hurries = h;
+    acks = false;
+    own = inl (o, b);
+    ack = inl (ap (λ x. x.ack) t, refl);
+    hurried = hu;
+    calm = u;
+    held = λ d. k (elim d [ inl e ↦ inl (ap (λ x. x.brk) (sym o) ∙ e) | inr e ↦ inr (ap (λ x. pends x.ack) (sym t) ∙ e) ]);
+    special_own = λ e f. clash said.account.special e s;
+    special_ack = λ e f. clash said.account.special e s;
+  }
+
+  none-due : {A : Type 0} → (own_due a.own_breaks ≡ None) × (a.their_breaks.ack ≡ None) → Due → A
+  none-due x (inl y) = clash a.own_breaks.brk y (undue a.own_breaks x.0)
+  none-due x (inr y) = clash (pends a.their_breaks.ack) y (ap pends x.1)
+
+  -- one that goes only where none is due, or in the turn after a word
+  idle : (said : Said) → said.account.own_breaks ≡ a.own_breaks → said.account.their_breaks ≡ a.their_breaks
+      → said.account.special ≡ false → (said.account.wait.urgent ≡ true → a.wait.urgent ≡ true)
+      → of_frame (of_word any_brk) said.sent ≡ false → NoWord special a → P said
+  idle said o t s u b w = quiet said o t s u b false (λ e. cc) (λ d. elim w [
+    | inl x ↦ or-late (of_frame is_final said.sent) _ (or-late (of_frame is_poll said.sent) _ (or-first special _ x))
+    | inr x ↦ none-due x d
+  ])
+
+  answer-plain : (d : Answer) → of_frame (of_word any_brk) (frame_for d a) ≡ false
+  answer-plain answers.Adp = refl
+  answer-plain answers.Xid = refl
+  answer-plain (answers.Ua pf) = refl
+  answer-plain (answers.Dm pf) = refl
+
+  own-said : a.their_breaks.ack ≡ None → (word : BreakWord) → own_due a.own_breaks ≡ Some word
+      → P (says_word a.own_breaks.answered word (record a { own_breaks = after_brk a.own_breaks }))
+  own-said p word e = by a.own_breaks.brk refl e
+    where
+      by : (b : Bool) → a.own_breaks.brk ≡ b
+          → cond b (Some (Brk (a.own_breaks.answered % 2) (slice_index_or a.own_breaks.lengths a.own_breaks.answered 0))) None ≡ Some word
+          → P (says_word a.own_breaks.answered word (record a { own_breaks = after_brk a.own_breaks }))
+      by false f g = cc
+      by true f g = record {
+        hurries = false;
+        acks = false;
+        own = inr (
+          f,
+          refl,
+          subst (λ w. is_word (brk_of (a.own_breaks.answered % 2)) (word_in (spelled w)) ≡ true) same
+              (brk-spelled (a.own_breaks.answered % 2) (slice_index_or a.own_breaks.lengths a.own_breaks.answered 0)
+              (small a.own_breaks.answered)),
+        );
+        ack = inl (refl, refl);
+        hurried = λ h. cc;
+        calm = λ u. u;
+        held = λ d. elim d [ inl x ↦ cc | inr x ↦ clash (pends a.their_breaks.ack) x (ap pends p) ];
+        special_own = λ x y. cc;
+        special_ack = λ x y. clash (pends a.their_breaks.ack) y (ap pends p);
+      }
+        where
+          same : Brk (a.own_breaks.answered % 2) (slice_index_or a.own_breaks.lengths a.own_breaks.answered 0) ≡ word
+          same = cc
+
+  acked : (w : BreakWord) → a.their_breaks.ack ≡ Some w → IsAck (Some w)
+      → P (says_word (length a.their_breaks.lengths - 1) w (record a { their_breaks = after_ack a.their_breaks }))
+  acked (Brk m l) g i = absurd i
+  acked (Ack m l) g i = record {
+    hurries = false;
+    acks = true;
+    own = inl (refl, ack-no-brk m l);
+    ack = inr (refl, ap pends g, (λ n s h. ack-spelled n m l s (ap (pends_of n) (sym g) ∙ h)));
+    hurried = λ h. cc;
+    calm = λ u. u;
+    held = λ d. refl;
+    special_own = λ x y. refl;
+    special_ack = λ x y. cc;
+  }
+
+  asked : NoWord special a → special ≡ false → (n : ℕ)
+      → P (record {
+        sent = slots.Frame (Srej false (n % 128) false);
+        number = n;
+        account = record a
+            { incoming = after_asked n a.incoming; special = true };
+      })
+  asked (inl x) s n = let wrong : true ≡ false = sym x ∙ s in cc
+  asked (inr x) s n = record {
+    hurries = false;
+    acks = false;
+    own = inl (refl, refl);
+    ack = inl (refl, refl);
+    hurried = λ h. cc;
+    calm = λ u. u;
+    held = λ d. none-due x d;
+    special_own = λ y z. none-due x (inl z);
+    special_ack = λ y z. none-due x (inr z);
+  }
+
+  steps-breaks : (turn : ℕ) → a.special ≡ false → IsAck a.their_breaks.ack → Steps P turn special a
+  steps-breaks turn none is_ack = record {
+    answers = λ d e. quiet _ refl refl none (λ u. u) (answer-plain d) false (λ h. cc)
+        (λ x. or-late (of_frame is_final (frame_for d a)) _
+        (or-late (of_frame is_poll (frame_for d a)) _ (or-late special _ (ap is_some e))));
+    final = λ n e. let k = ready-kinds a.owes.busy false true (nr_of a) in
+        quiet _ refl refl none (λ u. u) k.2 false (λ h. cc) (λ d. or-first _ _ k.1);
+    poll = λ n r e. let k = ready-kinds a.owes.busy true true (nr_of a) in quiet _ refl refl none (λ u. u) k.2 false (λ h. cc)
+        (λ d. or-late (is_final (ready_frame a.owes.busy true (nr_of a) true)) _ (or-first _ _ k.0));
+    segment = λ b u n e. elim u [
+      | inl x ↦ quiet _ refl refl none (λ v. cc) refl true (λ h. (x, refl)) (λ d. refl)
+      | inr w ↦ idle _ refl refl none (λ v. cc) refl w
+    ];
+    brkack = λ b s word e. acked word e (subst IsAck e is_ack);
+    brk = λ b s k word e. own-said k word e;
+    tell = λ b w e. let k = ready-kinds a.owes.busy false false (nr_of a) in idle _ refl refl none (λ u. u) k.2 w;
+    rej = λ b w n e. idle _ refl refl none (λ u. u) refl w;
+    srej = λ b w s n e. asked w s n;
+    flags = λ i. idle _ refl refl none (λ u. u) refl i.words;
+  }
+
+-- What the timer of a break makes of it: nothing, or it expires.
+abbrev pub TicksOwn : (turn period : ℕ) → OwnBreaks → OwnBreaks → Type 0
+TicksOwn turn period o new = (new ≡ o)
+    ⊎ ((waits o ≡ true) × (turn ≡ o.set + period) × (new ≡ record o { brk = true; set = turn; count = o.count + 1 }))
+
+ticks-own : (turn period tries : ℕ) (o new : OwnBreaks) → ticked turn period tries o ≡ Some new → TicksOwn turn period o new
+ticks-own turn period tries o new e = go (waits o) refl (nat_eq turn (o.set + period)) refl (nat_eq o.count tries) e
+  where
+    go : (w : Bool) → waits o ≡ w → (due : Bool) → nat_eq turn (o.set + period) ≡ due → (s : Bool)
+        → cond (w && due) (cond s None (Some (record o { brk = true; set = turn; count = o.count + 1 }))) (Some o) ≡ Some new
+        → TicksOwn turn period o new
+    go b w due d s f = grind (arith)
+
+-- What a Connected end that isn't told to release makes of them: the timer first, and then the nine steps.
+pub record SaidBreaks (turn : ℕ) (a : Account) (said : Said) : Type 0 where
+  pub own : OwnBreaks
+  pub ticks : TicksOwn turn a.setup.period a.own_breaks own
+  pub step : StepBreaks a.special own a.their_breaks.ack a.wait.urgent (is_some a.owes.answer) said
+
+pub breaks-said : (turn : ℕ) (a : Account) (said : Said) → IsAck a.their_breaks.ack → speak_linked turn a ≡ Ok said → SaidBreaks turn a said
+breaks-said turn a said i h = by-linked (SaidBreaks turn a) turn a (record {
+  stands = λ x own t. rows own t (steps-breaks a.special (record a { own_breaks = own; special = false }) turn refl i);
+  expires = λ set x own t. rows own t (steps-breaks a.special (polling_at turn a own) turn refl i);
+}) said h
+  where
+    rows : {b : Account} (own : OwnBreaks) → ticked turn a.setup.period a.setup.tries a.own_breaks ≡ Some own
+        → Steps (StepBreaks a.special own a.their_breaks.ack a.wait.urgent (is_some a.owes.answer)) turn a.special b
+        → Steps (SaidBreaks turn a) turn a.special b
+    rows own t = steps-so _ _ turn a.special _
+        (λ s k. record { own = own; ticks = ticks-own turn a.setup.period a.setup.tries a.own_breaks own t; step = k })
+
 -- A turn after which an end is Connected, by its breaks and by what it owes for the other end's.
-use Rattle.std.proofs.Common.{◌⊎◌, inl, inr, ◌≡◌, ℕ, ◌+◌, ◌%◌, ◌<◌, ◌≤◌, ◌&&◌, ◌||◌, not, Bool, true, false, cond, nat_le, nat_lt, List, []}
-use Rattle.std.proofs.Common.{◌∷◌, ◌++◌, length, length-append, arith, refl, sym, ◌∙◌, ap, None}
-use Rattle.link_account.proofs.Names.{is_some, nat_tests, OwnBreaks, waits, after_ask, Sent, Arrived, Account, is_connected, Said}
-use Rattle.turn_losses.proofs.Truths.{and-true, and-second, and-drop, clash}
-use Rattle.turn_losses.proofs.BreakHear.{BreakHeard}
-use Rattle.turn_losses.proofs.BreakSpeak.{holds, SaidBreaks}
-use Rattle.turn_losses.proofs.Names.{of_frame, of_arrived, is_poll, is_final}
-use Rattle.turn_losses.proofs.Words.{ack_of, any_brk, brk_of, of_word, pends_of, pends}
 
--- between turns: a break waits, of this number; its BRK is due; a BRKACK is due; the first segment is urgent
-abbrev pub break_waits : Account → Bool
-break_waits a = is_connected a.phase && waits a.own_breaks
-
+-- between turns: the number of the break that waits; its BRK is due; a BRKACK is due
 abbrev pub number_of : Account → ℕ
 number_of a = a.own_breaks.answered % 2
 
@@ -19,16 +245,7 @@ abbrev pub brk_due : Account → Bool
 brk_due a = is_connected a.phase && a.own_breaks.brk
 
 abbrev pub ack_due : Account → Bool
-ack_due a = is_connected a.phase && pends a.their_breaks.ack
-
-abbrev pub ack_due_of : ℕ → Account → Bool
-ack_due_of n a = is_connected a.phase && pends_of n a.their_breaks.ack
-
-abbrev pub is_urgent : Account → Bool
-is_urgent a = is_connected a.phase && a.wait.urgent
-
-abbrev pub was_special : Account → Bool
-was_special a = is_connected a.phase && a.special
+ack_due a = pends a.their_breaks.ack
 
 -- What an end does in a turn.
 pub record Deeds : Type 0 where
@@ -37,334 +254,212 @@ pub record Deeds : Type 0 where
   pub acks : Bool  -- a BRKACK goes
   pub answers : Bool  -- another answer is due
 
+-- breaks but for whether a BRK is due; and once the timer has expired
+abbrev pub but_brk : Bool → OwnBreaks → OwnBreaks
+but_brk b o = record o { brk = b }
+
+abbrev pub again : ℕ → Bool → OwnBreaks → OwnBreaks
+again turn b o = record o { brk = b; set = turn; count = o.count + 1 }
+
+-- What becomes of its own breaks: they stay, but that a BRK may go; the one that waits is answered; one more is taken; the timer expires.
+pub data OwnTurn (period turn : ℕ) (arrived : Arrived) (made : Bool) (a c : OwnBreaks) : Type 0 where
+  Stays : made ≡ false → Unanswered arrived a → c ≡ but_brk c.brk a → OwnTurn period turn arrived made a c
+  Ends : made ≡ false → waits a ≡ true → waits c ≡ false → c.rest ≡ turn + 8 → OwnTurn period turn arrived made a c
+  Takes : made ≡ true → waits a ≡ false → a.rest ≤ turn → waits c ≡ true → c.set ≡ turn → c.count ≡ 0 → OwnTurn period turn arrived made a c
+  Expires : made ≡ true → waits a ≡ true → turn ≡ a.set + period → Unanswered arrived a
+      → c ≡ again turn c.brk a → OwnTurn period turn arrived made a c
+
+pub made-set : {period turn : ℕ} {arrived : Arrived} {made : Bool} {a c : OwnBreaks} → OwnTurn period turn arrived made a c → made ≡ true
+    → (waits c ≡ true) × (c.set ≡ turn)
+made-set {made = made} (Stays m n q) e = clash made e m
+made-set {made = made} (Ends m w v r) e = clash made e m
+made-set (Takes m w r v s z) e = (v, s)
+made-set (Expires m w d n q) e = (ap waits q ∙ w, ap (λ x. x.set) q)
+
+-- the answer ends the wait
+pub wait-ends : {period turn : ℕ} {arrived : Arrived} {made : Bool} {a c : OwnBreaks} → OwnTurn period turn arrived made a c
+    → waits a ≡ true → of_arrived (of_word (ack_of (a.answered % 2))) arrived ≡ true → waits c ≡ false
+wait-ends (Stays m n q) w e = let wrong : true ≡ false = sym e ∙ n w in cc
+wait-ends (Ends m w v r) x e = v
+wait-ends {a = a} (Takes m w r v s z) x e = clash (waits a) x w
+wait-ends (Expires m w d n q) x e = let wrong : true ≡ false = sym e ∙ n x in cc
+
 pub record BreakTurn (period turn : ℕ) (arrived : Arrived) (sent : Sent) (d : Deeds) (a c : Account) : Type 0 where
-  -- when one becomes due
-  pub made_set : d.made ≡ true → (waits c.own_breaks ≡ true) × (c.own_breaks.set ≡ turn)
-  pub made_late : d.made ≡ true → is_connected a.phase ≡ true → ((waits a.own_breaks ≡ true) × (turn ≡ a.own_breaks.set + period))
-      ⊎ ((waits a.own_breaks ≡ false) × (a.own_breaks.rest ≤ turn))
-  pub kept_set : d.made ≡ false → is_connected a.phase ≡ true → waits c.own_breaks ≡ true
-      → (waits a.own_breaks ≡ true) × (c.own_breaks.set ≡ a.own_breaks.set)
-  pub kept_rest : d.made ≡ false → is_connected a.phase ≡ true → waits c.own_breaks ≡ false
-      → ((waits a.own_breaks ≡ false) × (c.own_breaks.rest ≡ a.own_breaks.rest)) ⊎ (c.own_breaks.rest ≡ turn + 8)
-  pub first_made : d.made ≡ false → is_connected a.phase ≡ false → waits c.own_breaks ≡ false
+  pub own : OwnTurn period turn arrived d.made a.own_breaks c.own_breaks
+  pub waited : waits a.own_breaks ≡ true → is_connected a.phase ≡ true
   -- a BRK goes where it is due
   pub brk_from : brk_due c ≡ true → (brk_due a ≡ true) ⊎ (d.made ≡ true)
   pub brk_sent : of_frame (of_word any_brk) sent ≡ true → ((brk_due a ≡ true) ⊎ (d.made ≡ true)) × (brk_due c ≡ false)
       × (of_frame (of_word (brk_of (number_of c))) sent ≡ true)
   pub brk_goes : waits c.own_breaks ≡ true → (brk_due a ≡ true) ⊎ (d.made ≡ true)
       → (brk_due c ≡ true) ⊎ (of_frame (of_word (brk_of (number_of c))) sent ≡ true)
-  pub held : brk_due c ≡ true → holds (of_frame is_final sent) (of_frame is_poll sent) d.hurries d.acks (was_special a) d.answers ≡ true
-  -- the wait goes on, with its number, unless its answer comes
-  pub number : is_connected a.phase ≡ true → waits a.own_breaks ≡ true → waits c.own_breaks ≡ true → number_of c ≡ number_of a
-  pub ends : is_connected a.phase ≡ true → waits a.own_breaks ≡ true → of_arrived (of_word (ack_of (number_of a))) arrived ≡ true
-      → waits c.own_breaks ≡ false
-  pub counts : is_connected a.phase ≡ true → waits a.own_breaks ≡ true → waits c.own_breaks ≡ true → (n : ℕ) → c.own_breaks.count ≡ n + 1
-      → ((d.made ≡ true) × (a.own_breaks.count ≡ n)) ⊎ ((d.made ≡ false) × (a.own_breaks.count ≡ n + 1))
-  pub newly : waits c.own_breaks ≡ true → (is_connected a.phase && waits a.own_breaks) ≡ false → (d.made ≡ true) × (c.own_breaks.count ≡ 0)
+  pub held : (brk_due c ≡ true) ⊎ (ack_due c ≡ true)
+      → holds (of_frame is_final sent) (of_frame is_poll sent) d.hurries d.acks a.special d.answers ≡ true
   -- BRKACKs
-  pub ack_from : ack_due c ≡ true
-      → ((ack_due a ≡ true) × (d.acks ≡ false)) ⊎ ((of_arrived (of_word any_brk) arrived ≡ true) × (d.acks ≡ false))
+  pub ack_from : ack_due c ≡ true → ((ack_due a ≡ true) ⊎ (of_arrived (of_word any_brk) arrived ≡ true)) × (d.acks ≡ false)
   pub acked : d.acks ≡ true → (ack_due a ≡ true) ⊎ (of_arrived (of_word any_brk) arrived ≡ true)
-  pub asked : (n : ℕ) → n < 2 → is_connected a.phase ≡ true → of_arrived (of_word (brk_of n)) arrived ≡ true
-      → (ack_due_of n c ≡ true) ⊎ (of_frame (of_word (ack_of n)) sent ≡ true)
-  pub asked_on : (n : ℕ) → n < 2 → ack_due_of n a ≡ true → of_arrived (of_word any_brk) arrived ≡ false
-      → (ack_due_of n c ≡ true) ⊎ (of_frame (of_word (ack_of n)) sent ≡ true)
-  pub held_ack : ack_due c ≡ true → holds (of_frame is_final sent) (of_frame is_poll sent) d.hurries d.acks (was_special a) d.answers ≡ true
+  pub asked : (n : ℕ) → n < 2 → (of_arrived (of_word (brk_of n)) arrived ≡ true)
+      ⊎ ((pends_of n a.their_breaks.ack ≡ true) × (of_arrived (of_word any_brk) arrived ≡ false))
+      → (pends_of n c.their_breaks.ack ≡ true) ⊎ (of_frame (of_word (ack_of n)) sent ≡ true)
   -- the turn before
-  pub urgent : is_urgent c ≡ true → (is_urgent a ≡ true) ⊎ (of_arrived is_final arrived ≡ true)
-  pub hurried : d.hurries ≡ true → ((is_urgent a ≡ true) ⊎ (of_arrived is_final arrived ≡ true)) × (is_urgent c ≡ false)
-  pub special_own : was_special c ≡ true → brk_due c ≡ true → d.acks ≡ true
-  pub special_ack : was_special c ≡ true → ack_due c ≡ true → ⊥
-
-and-is : (x y : Bool) → x ≡ true → x && y ≡ y
-and-is true y e = refl
-and-is false y e = cc
-
--- what serving makes of its breaks: the same, or one more is taken
-pub record ServedBreaks (turn : ℕ) (a b : OwnBreaks) : Type 0 where
-  pub taken : Bool
-  pub yes : taken ≡ true → (waits a ≡ false) × (a.rest ≤ turn) × (b.brk ≡ true) × (b.set ≡ turn) × (b.count ≡ 0) × (waits b ≡ true)
-      × (b.rest ≡ a.rest) × (b.answered ≡ a.answered)
-  pub no : taken ≡ false → b ≡ a
-
-waits-less : (b : OwnBreaks) → b.answered < length b.lengths → waits b ≡ true
-waits-less b l = grind (arith, nat_tests, l)
+  pub urgent : c.wait.urgent ≡ true → (a.wait.urgent ≡ true) ⊎ (of_arrived is_final arrived ≡ true)
+  pub hurried : d.hurries ≡ true → ((a.wait.urgent ≡ true) ⊎ (of_arrived is_final arrived ≡ true)) × (c.wait.urgent ≡ false)
+  pub special_own : c.special ≡ true → brk_due c ≡ true → d.acks ≡ true
+  pub special_ack : c.special ≡ true → ack_due c ≡ true → ⊥
 
 pub waits-not : (b : OwnBreaks) → length b.lengths ≤ b.answered → waits b ≡ false
 waits-not b l = grind (arith, nat_tests, l)
 
-pub served-breaks : (turn l : ℕ) (a : OwnBreaks) → a.answered ≤ length a.lengths → ServedBreaks turn a (after_ask turn l a)
-served-breaks turn l a low = go (waits a) refl (nat_le a.rest turn) refl
+-- serving takes one more break, of this turn
+pub record TakesBreak (turn : ℕ) (a b : OwnBreaks) : Type 0 where
+  pub none : waits a ≡ false
+  pub rested : a.rest ≤ turn
+  pub waiting : waits b ≡ true
+  pub brk : b.brk ≡ true
+  pub set : b.set ≡ turn
+  pub count : b.count ≡ 0
+
+pub served-own : (turn breaks : ℕ) (busy : Bool) (a b : Account) → Served turn breaks busy a b
+    → a.own_breaks.answered ≤ length a.own_breaks.lengths
+    → (b.own_breaks ≡ a.own_breaks) ⊎ TakesBreak turn a.own_breaks b.own_breaks
+served-own turn breaks busy a b s low = elim s.own [
+  | inl q ↦ inl q
+  | inr z ↦ (elim (asked z.0 a.own_breaks low) [ inl q ↦ inl (z.1 ∙ q) | inr t ↦ inr (subst (TakesBreak turn a.own_breaks) (sym z.1) t) ])
+]
   where
-    go : (w : Bool) → waits a ≡ w → (r : Bool) → nat_le a.rest turn ≡ r
-        → ServedBreaks turn a (cond (not w && r) (record a { lengths = a.lengths ++ l ∷ []; brk = true; set = turn; count = 0 }) a)
-    go true w r q = record { taken = false; yes = λ e. cc; no = λ e. refl }
-    go false w false q = record { taken = false; yes = λ e. cc; no = λ e. refl }
-    go false w true q = record {
-      taken = true;
-      yes = λ e. (
-        w,
-        grind (arith, nat_tests, q),
+    longer : (o : OwnBreaks) (l : ℕ) → o.answered ≤ length o.lengths → o.answered < length (o.lengths ++ l ∷ [])
+    longer o l low = omega (arith, low, length-append {A = ℕ})
+
+    asked : (l : ℕ) (o : OwnBreaks) → o.answered ≤ length o.lengths → (after_ask turn l o ≡ o) ⊎ TakesBreak turn o (after_ask turn l o)
+    asked l o low = go (waits o) refl (nat_le o.rest turn) refl
+      where
+        taken : OwnBreaks
+        taken = record o { lengths = o.lengths ++ l ∷ []; brk = true; set = turn; count = 0 }
+
+        go : (w : Bool) → waits o ≡ w → (r : Bool) → nat_le o.rest turn ≡ r
+            → (cond (not w && r) taken o ≡ o) ⊎ TakesBreak turn o (cond (not w && r) taken o)
+        go true w r q = inl refl
+        go false w false q = inl refl
+        go false w true q = inr (record {
+          none = w;
+          rested = grind (arith, nat_tests, q);
+          waiting = let more = longer o l low in grind (arith, nat_tests, more);
+          brk = refl;
+          set = refl;
+          count = refl;
+        })
+
+-- A turn of an end that becomes or stays Connected, by what it made of its breaks as it heard, was served and spoke.
+module _ {tries period : ℕ} {link : Link} {r : Role} {turn : ℕ} {a : Account} {arrived : Arrived} {mid b : Account}
+    (i : InTurn tries period link r turn a arrived mid b) (said : Said) (low : mid.own_breaks.answered ≤ length mid.own_breaks.lengths)
+    (high : length a.own_breaks.lengths ≤ a.own_breaks.answered + 1) (waited : waits a.own_breaks ≡ true → is_connected a.phase ≡ true)
+    (on : a.own_breaks.brk ≡ true → is_connected a.phase ≡ true) (now : is_connected said.account.phase ≡ true)
+    (h : BreakHeard turn arrived a mid) (k : SaidBreaks turn b said) where
+  abbrev OwnSo : Type 0
+  OwnSo = (made : Bool) × OwnTurn period turn arrived made a.own_breaks said.account.own_breaks
+      × (k.own.brk ≡ true → (brk_due a ≡ true) ⊎ (made ≡ true))
+      × (waits said.account.own_breaks ≡ true → (brk_due a ≡ true) ⊎ (made ≡ true) → k.own.brk ≡ true)
+
+  like : said.account.own_breaks ≡ but_brk said.account.own_breaks.brk k.own
+  like = elim k.step.own [
+    | inl x ↦ ap (but_brk said.account.own_breaks.brk) x.0
+    | inr x ↦ ap (but_brk said.account.own_breaks.brk) x.1
+  ]
+
+  ended : waits (answered_own turn a.own_breaks) ≡ false
+  ended = waits-not (answered_own turn a.own_breaks) (omega (arith, high))
+
+  own-so : ((mid.own_breaks ≡ a.own_breaks) × Unanswered arrived a.own_breaks)
+      ⊎ ((waits a.own_breaks ≡ true) × (mid.own_breaks ≡ answered_own turn a.own_breaks))
+      → (b.own_breaks ≡ mid.own_breaks) ⊎ TakesBreak turn mid.own_breaks b.own_breaks
+      → TicksOwn turn b.setup.period b.own_breaks k.own → OwnSo
+  own-so (inl (q, n)) (inl s) (inl t) = let e = t ∙ (s ∙ q) in (
+    false,
+    Stays refl n (like ∙ ap (but_brk said.account.own_breaks.brk) e),
+    (λ f. let g = ap (λ o. o.brk) (sym e) ∙ f in inl (and-true (is_connected a.phase) a.own_breaks.brk (on g) g)),
+    (λ w d. elim d [ inl x ↦ ap (λ o. o.brk) e ∙ and-second (is_connected a.phase) a.own_breaks.brk x | inr m ↦ cc ]),
+  )
+  own-so (inl (q, n)) (inl s) (inr (w, d, t)) = let e = s ∙ q in let set = ap (λ o. o.set) e in (
+    true,
+    Expires refl (ap waits (sym e) ∙ w) (omega (arith, d, set, i.b_period)) n (like ∙
+        (ap (but_brk said.account.own_breaks.brk) t
+        ∙ ap (again turn said.account.own_breaks.brk) e)),
+    (λ f. inr refl),
+    (λ v x. ap (λ o. o.brk) t),
+  )
+  own-so (inl (q, n)) (inr s) (inl t) = let rest = ap (λ o. o.rest) q in let low = s.rested in (
+    true,
+    Takes refl (ap waits (sym q) ∙ s.none) (omega (arith, rest, low)) (ap waits like ∙ (ap waits t ∙ s.waiting))
+        (ap (λ o. o.set) like ∙ (ap (λ o. o.set) t ∙ s.set)) (ap (λ o. o.count) like ∙ (ap (λ o. o.count) t ∙ s.count)),
+    (λ f. inr refl),
+    (λ v x. ap (λ o. o.brk) t ∙ s.brk),
+  )
+  own-so (inl x) (inr s) (inr (w, d, t)) = let set = s.set in absurd (omega (arith, d, set, i.b_period, i.long))
+  own-so (inr (w, q)) (inl s) (inl t) = let e = t ∙ (s ∙ q) in (
+    false,
+    Ends refl w (ap waits (like ∙ ap (but_brk said.account.own_breaks.brk) e) ∙ ended)
+        (ap (λ o. o.rest) like ∙ ap (λ o. o.rest) e),
+    (λ f. clash k.own.brk f (ap (λ o. o.brk) e)),
+    (λ v x. clash (waits said.account.own_breaks) v (ap waits like ∙ (ap waits e ∙ ended))),
+  )
+  own-so (inr (w, q)) (inl s) (inr (v, d, t)) = clash (waits b.own_breaks) v (ap waits (s ∙ q) ∙ ended)
+  own-so (inr (w, q)) (inr s) t = let rest = ap (λ o. o.rest) q in let low = s.rested in absurd (omega (arith, low, rest))
+
+  number : of_frame (of_word (brk_of (k.own.answered % 2))) said.sent ≡ true
+      → of_frame (of_word (brk_of (number_of said.account))) said.sent ≡ true
+  number e = ap (λ o. of_frame (of_word (brk_of (o.answered % 2))) said.sent) like ∙ e
+
+  ack-heard : pends b.their_breaks.ack ≡ true → (ack_due a ≡ true) ⊎ (of_arrived (of_word any_brk) arrived ≡ true)
+  ack-heard e = by (of_arrived (of_word any_brk) arrived) refl
+    where
+      by : (x : Bool) → of_arrived (of_word any_brk) arrived ≡ x → (ack_due a ≡ true) ⊎ (of_arrived (of_word any_brk) arrived ≡ true)
+      by b f = grind (arith)
+
+  pub break-turn : (d : Deeds) × (d.answers ≡ is_some b.owes.answer) × BreakTurn period turn arrived said.sent d a said.account
+      × (waits said.account.own_breaks ≡ waits b.own_breaks)
+  break-turn = by (own-so h.own (served-own _ _ _ mid b i.served low) k.ticks)
+    where
+      waits-said : waits said.account.own_breaks ≡ waits b.own_breaks
+      waits-said = ap waits like ∙ elim k.ticks [ inl t ↦ ap waits t | inr x ↦ ap waits x.2 ]
+
+      asked : (n : ℕ) → n < 2 → pends_of n b.their_breaks.ack ≡ true
+          → (pends_of n said.account.their_breaks.ack ≡ true) ⊎ (of_frame (of_word (ack_of n)) said.sent ≡ true)
+      asked n l e = elim k.step.ack [ inl z ↦ inl (ap (pends_of n) z.0 ∙ e) | inr z ↦ inr (z.2 n l e) ]
+
+      by : OwnSo → (d : Deeds) × (d.answers ≡ is_some b.owes.answer) × BreakTurn period turn arrived said.sent d a said.account
+          × (waits said.account.own_breaks ≡ waits b.own_breaks)
+      by (made, own, from, still) = (
+        record { made = made; hurries = k.step.hurries; acks = k.step.acks; answers = is_some b.owes.answer },
         refl,
-        refl,
-        refl,
-        waits-less
-            (record a { lengths = a.lengths ++ l ∷ []; brk = true; set = turn; count = 0 })
-            (omega (arith, low, length-append {A = ℕ})),
-        refl,
-        refl,
-      );
-      no = λ e. cc;
-    }
-
-pub break-turn-of : (period turn : ℕ) (arrived : Arrived) (a mid b : Account) (said : Said) → is_connected a.phase ≡ true
-    → is_connected said.account.phase ≡ true → length a.own_breaks.lengths ≤ a.own_breaks.answered + 1 → b.setup.period ≡ period
-    → 1 ≤ period
-    → b.special ≡ mid.special → b.their_breaks ≡ mid.their_breaks → b.wait.urgent ≡ mid.wait.urgent
-    → BreakHeard turn arrived a mid → ServedBreaks turn mid.own_breaks b.own_breaks → (k : SaidBreaks turn b said)
-    → (d : Deeds) × (d.answers ≡ is_some b.owes.answer) × BreakTurn period turn arrived said.sent d a said.account
-break-turn-of period turn arrived a mid b said ca cc' high per long special their urgent h s k = (
-  record { made = made; hurries = k.hurries; acks = k.acks; answers = is_some b.owes.answer },
-  refl,
-  record {
-    made_set = made-set;
-    made_late = λ m x. made-late m;
-    kept_set = λ m x w. kept-set m w;
-    kept_rest = λ m x w. kept-rest m w;
-    first_made = λ m x. clash (is_connected a.phase) ca x;
-    brk_from = λ e. brk-from e;
-    brk_sent = λ e. let x = k.sends e in (due-from x.0, and-drop (is_connected c.phase) c.own_breaks.brk x.1, number-said x.2);
-    brk_goes = λ w e. goes w e;
-    held = λ e. ap (λ x. holds (of_frame is_final said.sent) (of_frame is_poll said.sent) k.hurries k.acks x (is_some b.owes.answer))
-        (and-is (is_connected a.phase) a.special ca ∙ sym (special ∙ h.special))
-        ∙ k.held (and-second (is_connected c.phase) c.own_breaks.brk e);
-    number = λ x w w'. number w w';
-    ends = λ x w e. ends w e;
-    counts = λ x w w' n q. counts w w' n q;
-    newly = λ w e. newly w e;
-    ack_from = ack-from;
-    acked = acked;
-    asked = λ n l x e. asked n l (ap (λ t. pends_of n t.ack) their ∙ h.asked n e) k.ack;
-    asked_on = λ n l e f. asked n l
-        (ap (λ t. pends_of n t.ack) their
-        ∙ (ap (pends_of n) (h.kept f) ∙ and-second (is_connected a.phase) (pends_of n a.their_breaks.ack) e)) k.ack;
-    held_ack = λ e. ap (λ x. holds (of_frame is_final said.sent) (of_frame is_poll said.sent) k.hurries k.acks x (is_some b.owes.answer))
-        (and-is (is_connected a.phase) a.special ca ∙ sym (special ∙ h.special))
-        ∙ k.held_ack (and-second (is_connected c.phase) (pends c.their_breaks.ack) e);
-    urgent = λ e. urgent-from (sym urgent ∙ k.calm (and-second (is_connected c.phase) c.wait.urgent e));
-    hurried = λ e. let x = k.hurried e in (urgent-from (sym urgent ∙ x.0), and-drop (is_connected c.phase) c.wait.urgent x.1);
-    special_own = λ e f. k.special_own (and-second (is_connected c.phase) c.special e)
-        (and-second (is_connected c.phase) c.own_breaks.brk f);
-    special_ack = λ e f. k.special_ack (and-second (is_connected c.phase) c.special e)
-        (and-second (is_connected c.phase) (pends c.their_breaks.ack) f);
-  },
-)
-  where
-    c : Account
-    c = said.account
-
-    made : Bool
-    made = s.taken || k.ticks
-
-    -- whether the wait ended as it heard
-    Ended : Type 0
-    Ended = (waits a.own_breaks ≡ true) × (waits mid.own_breaks ≡ false) × (mid.own_breaks.brk ≡ false) × (mid.own_breaks.rest ≡ turn + 8)
-
-    heard-own : (mid.own_breaks ≡ a.own_breaks) ⊎ Ended
-    heard-own = elim h.own [
-      | inl x ↦ inl x
-      | inr z ↦ (inr (z.0, waits-not mid.own_breaks (let q = ap length z.2 in omega (arith, z.1, q, high)), z.3, z.4))
-    ]
-
-    either-made : made ≡ true → (s.taken ≡ true) ⊎ ((s.taken ≡ false) × (k.ticks ≡ true))
-    either-made m = by s.taken refl m
-      where
-        by : (x : Bool) → s.taken ≡ x → x || k.ticks ≡ true → (s.taken ≡ true) ⊎ ((s.taken ≡ false) × (k.ticks ≡ true))
-        by true e f = inl e
-        by false e f = inr (e, f)
-
-    none-made : made ≡ false → (s.taken ≡ false) × (k.ticks ≡ false)
-    none-made m = by s.taken refl m
-      where
-        by : (x : Bool) → s.taken ≡ x → x || k.ticks ≡ false → (s.taken ≡ false) × (k.ticks ≡ false)
-        by true e f = cc
-        by false e f = (e, f)
-
-    waits-said : waits c.own_breaks ≡ waits b.own_breaks
-    waits-said = ap (λ n. nat_lt n (length c.own_breaks.lengths)) k.answered
-        ∙ ap (λ (l : List ℕ). nat_lt b.own_breaks.answered (length l)) k.lengths
-
-    -- a break that is taken in this turn isn't late in it
-    untaken : s.taken ≡ true → k.ticks ≡ false
-    untaken e = by k.ticks refl
-      where
-        by : (x : Bool) → k.ticks ≡ x → k.ticks ≡ false
-        by false f = f
-        by true f = let y = k.yes f in let z = (s.yes e).3 in let q = y.1 in absurd (omega (arith, q, z, per, long))
-
-    made-set : made ≡ true → (waits c.own_breaks ≡ true) × (c.own_breaks.set ≡ turn)
-    made-set m = elim (either-made m) [
-      | inl e ↦ (waits-said ∙ (s.yes e).5, k.no (untaken e) ∙ (s.yes e).3)
-      | inr z ↦ (waits-said ∙ (k.yes z.1).0, (k.yes z.1).2)
-    ]
-
-    made-late : made ≡ true → ((waits a.own_breaks ≡ true) × (turn ≡ a.own_breaks.set + period))
-        ⊎ ((waits a.own_breaks ≡ false) × (a.own_breaks.rest ≤ turn))
-    made-late m = by (either-made m) heard-own
-      where
-        by : (s.taken ≡ true) ⊎ ((s.taken ≡ false) × (k.ticks ≡ true)) → (mid.own_breaks ≡ a.own_breaks) ⊎ Ended
-            → ((waits a.own_breaks ≡ true) × (turn ≡ a.own_breaks.set + period))
-            ⊎ ((waits a.own_breaks ≡ false) × (a.own_breaks.rest ≤ turn))
-        by (inl e) (inl q) = inr (ap waits (sym q) ∙ (s.yes e).0, let r = (s.yes e).1 in let t = ap (λ x. x.rest) q in omega (arith, r, t))
-        by (inl e) (inr (w, w', d, r)) = let t = (s.yes e).1 in absurd (omega (arith, t, r))
-        by (inr (e, f)) (inl q) = let y = k.yes f in let t = ap (λ x. x.set) (s.no e ∙ q) in let u = y.1 in inl
-            (ap waits (sym (s.no e ∙ q)) ∙ y.0, omega (arith, u, t, per))
-        by (inr (e, f)) (inr (w, w', d, r)) = clash (waits mid.own_breaks) (ap waits (sym (s.no e)) ∙ (k.yes f).0) w'
-
-    kept-set : made ≡ false → waits c.own_breaks ≡ true → (waits a.own_breaks ≡ true) × (c.own_breaks.set ≡ a.own_breaks.set)
-    kept-set m w = elim heard-own [
-      | inl q ↦ (ap waits (sym (s.no n.0 ∙ q)) ∙ (sym waits-said ∙ w), k.no n.1 ∙ ap (λ x. x.set) (s.no n.0 ∙ q))
-      | inr z ↦ clash (waits mid.own_breaks) (ap waits (sym (s.no n.0)) ∙ (sym waits-said ∙ w)) z.1
-    ]
-      where
-        n : (s.taken ≡ false) × (k.ticks ≡ false)
-        n = none-made m
-
-    kept-rest : made ≡ false → waits c.own_breaks ≡ false → ((waits a.own_breaks ≡ false) × (c.own_breaks.rest ≡ a.own_breaks.rest))
-        ⊎ (c.own_breaks.rest ≡ turn + 8)
-    kept-rest m w = by heard-own
-      where
-        n : (s.taken ≡ false) × (k.ticks ≡ false)
-        n = none-made m
-
-        by : (mid.own_breaks ≡ a.own_breaks) ⊎ Ended → ((waits a.own_breaks ≡ false) × (c.own_breaks.rest ≡ a.own_breaks.rest))
-            ⊎ (c.own_breaks.rest ≡ turn + 8)
-        by (inl q) = inl (ap waits (sym (s.no n.0 ∙ q)) ∙ (sym waits-said ∙ w), k.rest ∙ ap (λ x. x.rest) (s.no n.0 ∙ q))
-        by (inr (x, w', d, r)) = inr (k.rest ∙ (ap (λ x. x.rest) (s.no n.0) ∙ r))
-
-    due-from : k.ticks || b.own_breaks.brk ≡ true → (brk_due a ≡ true) ⊎ (made ≡ true)
-    due-from e = by k.ticks refl e s.taken refl heard-own
-      where
-        by : (x : Bool) → k.ticks ≡ x → x || b.own_breaks.brk ≡ true → (y : Bool) → s.taken ≡ y → (mid.own_breaks ≡ a.own_breaks) ⊎ Ended
-            → (brk_due a ≡ true) ⊎ (made ≡ true)
-        by true f g y q o = inr (ap (λ z. s.taken || z) f ∙ or-true s.taken)
-          where
-            or-true : (z : Bool) → z || true ≡ true
-            or-true true = refl
-            or-true false = refl
-        by false f g true q o = inr (ap (λ z. z || k.ticks) q)
-        by false f g false q (inl o) = inl (and-true (is_connected a.phase) a.own_breaks.brk ca (ap (λ z. z.brk) (sym (s.no q ∙ o)) ∙ g))
-        by false f g false q (inr (x, w', d, r)) = clash mid.own_breaks.brk (ap (λ z. z.brk) (sym (s.no q)) ∙ g) d
-
-    brk-from : brk_due c ≡ true → (brk_due a ≡ true) ⊎ (made ≡ true)
-    brk-from e = due-from (k.brk (and-second (is_connected c.phase) c.own_breaks.brk e))
-
-    number-said : of_frame (of_word (brk_of (b.own_breaks.answered % 2))) said.sent ≡ true
-        → of_frame (of_word (brk_of (number_of c))) said.sent ≡ true
-    number-said e = ap (λ n. of_frame (of_word (brk_of (n % 2))) said.sent) k.answered ∙ e
-
-    goes : waits c.own_breaks ≡ true → (brk_due a ≡ true) ⊎ (made ≡ true)
-        → (brk_due c ≡ true) ⊎ (of_frame (of_word (brk_of (number_of c))) said.sent ≡ true)
-    goes w e = elim (k.goes (still e heard-own)) [
-      | inl x ↦ inl (and-true (is_connected c.phase) c.own_breaks.brk cc' x)
-      | inr x ↦ inr (number-said x)
-    ]
-      where
-        or-second : (x y : Bool) → y ≡ true → x || y ≡ true
-        or-second true y f = refl
-        or-second false y f = f
-
-        still : (brk_due a ≡ true) ⊎ (made ≡ true) → (mid.own_breaks ≡ a.own_breaks) ⊎ Ended → k.ticks || b.own_breaks.brk ≡ true
-        still (inr m) o = elim (either-made m) [
-          | inl f ↦ or-second k.ticks b.own_breaks.brk (s.yes f).2
-          | inr y ↦ ap (λ z. z || b.own_breaks.brk) y.1
-        ]
-        still (inl d) o = on s.taken refl o
-          where
-            on : (y : Bool) → s.taken ≡ y → (mid.own_breaks ≡ a.own_breaks) ⊎ Ended → k.ticks || b.own_breaks.brk ≡ true
-            on true f q = or-second k.ticks b.own_breaks.brk (s.yes f).2
-            on false f (inl q) = or-second k.ticks b.own_breaks.brk
-                (ap (λ z. z.brk) (s.no f ∙ q) ∙ and-second (is_connected a.phase) a.own_breaks.brk d)
-            on false f (inr (x, w', y, r)) = clash (waits mid.own_breaks) (ap waits (sym (s.no f)) ∙ (sym waits-said ∙ w)) w'
-
-    -- the wait goes on
-    on-wait : waits a.own_breaks ≡ true → waits c.own_breaks ≡ true → (s.taken ≡ false) × (mid.own_breaks ≡ a.own_breaks)
-    on-wait w w' = by s.taken refl heard-own
-      where
-        by : (x : Bool) → s.taken ≡ x → (mid.own_breaks ≡ a.own_breaks) ⊎ Ended → (s.taken ≡ false) × (mid.own_breaks ≡ a.own_breaks)
-        by false e (inl q) = (e, q)
-        by false e (inr (x, y, d, r)) = clash (waits mid.own_breaks) (ap waits (sym (s.no e)) ∙ (sym waits-said ∙ w')) y
-        by true e (inl q) = clash (waits a.own_breaks) w (ap waits (sym q) ∙ (s.yes e).0)
-        by true e (inr (x, y, d, r)) = let t = (s.yes e).1 in absurd (omega (arith, t, r))
-
-    number : waits a.own_breaks ≡ true → waits c.own_breaks ≡ true → number_of c ≡ number_of a
-    number w w' = let o = on-wait w w' in ap (λ n. n % 2) (k.answered ∙ ap (λ x. x.answered) (s.no o.0 ∙ o.1))
-
-    ends : waits a.own_breaks ≡ true → of_arrived (of_word (ack_of (number_of a))) arrived ≡ true → waits c.own_breaks ≡ false
-    ends w e = by s.taken refl (h.ends e w)
-      where
-        by : (x : Bool) → s.taken ≡ x → (mid.own_breaks.answered ≡ a.own_breaks.answered + 1)
-            × (mid.own_breaks.lengths ≡ a.own_breaks.lengths) × (mid.own_breaks.rest ≡ turn + 8) → waits c.own_breaks ≡ false
-        by true f (n, l, r) = let t = (s.yes f).1 in absurd (omega (arith, t, r))
-        by false f (n, l, r) = waits-said
-            ∙ (ap waits (s.no f) ∙ waits-not mid.own_breaks (let q = ap length l in omega (arith, n, q, high)))
-
-    counts : waits a.own_breaks ≡ true → waits c.own_breaks ≡ true → (n : ℕ) → c.own_breaks.count ≡ n + 1
-        → ((made ≡ true) × (a.own_breaks.count ≡ n)) ⊎ ((made ≡ false) × (a.own_breaks.count ≡ n + 1))
-    counts w w' n q = by k.ticks refl (on-wait w w')
-      where
-        by : (x : Bool) → k.ticks ≡ x → (s.taken ≡ false) × (mid.own_breaks ≡ a.own_breaks)
-            → ((made ≡ true) × (a.own_breaks.count ≡ n)) ⊎ ((made ≡ false) × (a.own_breaks.count ≡ n + 1))
-        by true f (t, o) = let y = k.counts f in let z = ap (λ x. x.count) (s.no t ∙ o) in inl
-            (ap (λ x. x || k.ticks) t ∙ f, omega (arith, y, z, q))
-        by false f (t, o) = let y = k.count f in let z = ap (λ x. x.count) (s.no t ∙ o) in inr
-            (ap (λ x. x || k.ticks) t ∙ f, omega (arith, y, z, q))
-
-    newly : waits c.own_breaks ≡ true → is_connected a.phase && waits a.own_breaks ≡ false → (made ≡ true) × (c.own_breaks.count ≡ 0)
-    newly w e = by s.taken refl heard-own
-      where
-        not-waiting : waits a.own_breaks ≡ false
-        not-waiting = sym (and-is (is_connected a.phase) (waits a.own_breaks) ca) ∙ e
-
-        by : (x : Bool) → s.taken ≡ x → (mid.own_breaks ≡ a.own_breaks) ⊎ Ended → (made ≡ true) × (c.own_breaks.count ≡ 0)
-        by true f o = (ap (λ x. x || k.ticks) f, k.count (untaken f) ∙ (s.yes f).4)
-        by false f (inl q) = clash (waits a.own_breaks) (ap waits (sym (s.no f ∙ q)) ∙ (sym waits-said ∙ w)) not-waiting
-        by false f (inr (x, y, d, r)) = clash (waits a.own_breaks) x not-waiting
-
-    ack-heard : pends b.their_breaks.ack ≡ true → (ack_due a ≡ true) ⊎ (of_arrived (of_word any_brk) arrived ≡ true)
-    ack-heard e = by (of_arrived (of_word any_brk) arrived) refl
-      where
-        by : (x : Bool) → of_arrived (of_word any_brk) arrived ≡ x → (ack_due a ≡ true) ⊎ (of_arrived (of_word any_brk) arrived ≡ true)
-        by true f = inr f
-        by false f = inl (and-true (is_connected a.phase) (pends a.their_breaks.ack) ca
-            (ap pends (sym (h.kept f)) ∙ (ap (λ t. pends t.ack) (sym their) ∙ e)))
-
-    ack-from : ack_due c ≡ true
-        → ((ack_due a ≡ true) × (k.acks ≡ false)) ⊎ ((of_arrived (of_word any_brk) arrived ≡ true) × (k.acks ≡ false))
-    ack-from e = by k.ack
-      where
-        by : ((c.their_breaks ≡ b.their_breaks) × (k.acks ≡ false))
-            ⊎ ((c.their_breaks.ack ≡ None) × (pends b.their_breaks.ack ≡ true) × ((n : ℕ) → n < 2 → pends_of n b.their_breaks.ack ≡ true
-            → of_frame (of_word (ack_of n)) said.sent ≡ true))
-            → ((ack_due a ≡ true) × (k.acks ≡ false)) ⊎ ((of_arrived (of_word any_brk) arrived ≡ true) × (k.acks ≡ false))
-        by (inr (n, x, y)) = let wrong : true ≡ false = sym (and-second (is_connected c.phase) (pends c.their_breaks.ack) e)
-            ∙ ap pends n in cc
-        by (inl (q, f)) = elim
-            (ack-heard (ap (λ t. pends t.ack) (sym q) ∙ and-second (is_connected c.phase) (pends c.their_breaks.ack) e)) [
-              | inl x ↦ inl (x, f)
-              | inr x ↦ inr (x, f)
-            ]
-
-    acked : k.acks ≡ true → (ack_due a ≡ true) ⊎ (of_arrived (of_word any_brk) arrived ≡ true)
-    acked e = elim k.ack [ inl z ↦ clash k.acks e z.1 | inr z ↦ ack-heard z.1 ]
-
-    asked : (n : ℕ) → n < 2 → pends_of n b.their_breaks.ack ≡ true
-        → ((c.their_breaks ≡ b.their_breaks) × (k.acks ≡ false))
-        ⊎ ((c.their_breaks.ack ≡ None) × (pends b.their_breaks.ack ≡ true) × ((n : ℕ) → n < 2 → pends_of n b.their_breaks.ack ≡ true
-        → of_frame (of_word (ack_of n)) said.sent ≡ true))
-        → (ack_due_of n c ≡ true) ⊎ (of_frame (of_word (ack_of n)) said.sent ≡ true)
-    asked n l e (inl (q, f)) = inl (and-true (is_connected c.phase) (pends_of n c.their_breaks.ack) cc' (ap (λ t. pends_of n t.ack) q ∙ e))
-    asked n l e (inr (x, y, z)) = inr (z n l e)
-
-    urgent-from : mid.wait.urgent ≡ true → (is_urgent a ≡ true) ⊎ (of_arrived is_final arrived ≡ true)
-    urgent-from e = elim (h.urgent e) [ inl x ↦ inl (and-true (is_connected a.phase) a.wait.urgent ca x) | inr x ↦ inr x ]
+        record {
+          own = own;
+          waited = waited;
+          brk_from = λ e. let x = and-second (is_connected said.account.phase) said.account.own_breaks.brk e in
+              from (elim k.step.own [ inl y ↦ ap (λ o. o.brk) (sym y.0) ∙ x | inr y ↦ y.0 ]);
+          brk_sent = λ e. elim k.step.own [
+            | inl y ↦ clash (of_frame (of_word any_brk) said.sent) e y.1
+            | inr y ↦ (from y.0, and-drop (is_connected said.account.phase) said.account.own_breaks.brk (ap (λ o. o.brk) y.1), number y.2)
+          ];
+          brk_goes = λ w e. let x = still w e in elim k.step.own [
+            | inl y ↦ inl (and-true (is_connected said.account.phase) said.account.own_breaks.brk now (ap (λ o. o.brk) y.0 ∙ x))
+            | inr y ↦ inr (number y.2)
+          ];
+          held = λ e. ap (λ x. holds (of_frame is_final said.sent) (of_frame is_poll said.sent) k.step.hurries k.step.acks x
+              (is_some b.owes.answer)) (sym (i.served.special ∙ h.special)) ∙ k.step.held (elim e [
+                | inl x ↦ inl (and-second (is_connected said.account.phase) said.account.own_breaks.brk x)
+                | inr x ↦ inr x
+              ]);
+          ack_from = λ e. elim k.step.ack [
+            | inl z ↦ (ack-heard (ap pends (sym z.0) ∙ e), z.1)
+            | inr z ↦ clash (ack_due said.account) e (ap pends z.0)
+          ];
+          acked = λ e. elim k.step.ack [ inl z ↦ clash k.step.acks e z.1 | inr z ↦ ack-heard z.1 ];
+          asked = λ n l e. asked n l (ap (λ t. pends_of n t.ack) i.served.ack
+              ∙ elim e [ inl x ↦ h.asked n x | inr x ↦ ap (pends_of n) (h.kept x.1) ∙ x.0 ]);
+          urgent = λ e. h.urgent (ap (λ w. w.urgent) (sym i.served.wait) ∙ k.step.calm e);
+          hurried = λ e. let x = k.step.hurried e in (h.urgent (ap (λ w. w.urgent) (sym i.served.wait) ∙ x.0), x.1);
+          special_own = λ e f. k.step.special_own e (and-second (is_connected said.account.phase) said.account.own_breaks.brk f);
+          special_ack = k.step.special_ack;
+        },
+        waits-said,
+      )

@@ -1,31 +1,30 @@
 -- Where the originator sees no pattern, something was lost in each period.
 use Rattle.std.proofs.Common.{◌⊎◌, inl, inr, ◌≡◌, ℕ, zero, suc, ◌+◌, ◌-◌, ◌*◌, ◌<◌, ◌≤◌, Bool, true, false, cond, nat_le, length, arith}
-use Rattle.std.proofs.Common.{refl, sym, ◌∙◌, ap, Option, Some, None, Result, Ok, Err}
+use Rattle.std.proofs.Common.{refl, sym, ◌∙◌, ap, Option, Some, Result, Ok, Err, List, [], ◌∷◌}
 use Rattle.link_account.proofs.Names.{cases_lt, Originator, Answerer, Arrived, LinkFault, NotDetected, Account, hear, trying, arrives, Said}
-use Rattle.link_account.proofs.Names.{says, spent, speak, speak_in}
+use Rattle.link_account.proofs.Names.{says, speak, speak_in, Role, Heard, Passed}
 use Rattle.link_run.proofs.Names.{Phase, Detecting, Negotiating, Connected, Releasing, Answer, User, is_busy, is_released, Accounts}
-use Rattle.link_run.proofs.Names.{arrival, served_at, releases}
+use Rattle.link_run.proofs.Names.{arrival, served_at, releases, Link, Turn, RunOf, IsCarried}
 use Rattle.link_account.specs.Hear.{on_seen, on_pattern}
 use Rattle.link_account.specs.Speak.{else_says, answering, speak_detecting}
 use Rattle.turn_bound.specs.Spent.{SpendsOnTime}
 use Rattle.link_run.proofs.Speaking.{speaks-phase}
 use Rattle.turn_losses.proofs.Periods.{once, times, loses-of}
-use Rattle.turn_losses.specs.Losses.{OriginatorWantsPattern, UndetectedIsStarved}
+use Rattle.turn_losses.specs.Losses.{OriginatorWantsPattern, UndetectedIsStarved, PassesNoPattern, UndetectedOnTime}
 use Rattle.link_account.proofs.HearWays.{numbers-alike}
-use Rattle.link_account.proofs.SpeakWays.{why-broken, Undetected, Spends}
-use Rattle.turn_losses.proofs.Tracing.{timed-run}
-use Rattle.turn_losses.proofs.PollLaws.{two-ends}
-use Rattle.turn_losses.proofs.PeriodLaws.{NoneLost}
-use Rattle.turn_losses.proofs.PeriodHolds.{LostIn, lost-or-none}
-use Rattle.turn_losses.proofs.Starving.{all-but-one}
-use Rattle.turn_losses.proofs.Names.{served_account, Served, serves-all, PeriodLoses, EndRun, TwoEnds, TimedRun, end_of}
-use Rattle.turn_losses.proofs.EndTurn.{end-turn, last-turn}
+use Rattle.link_account.proofs.SpeakWays.{why-broken}
+use Rattle.turn_losses.proofs.Tracing.{timed-run, end-turn, last-turn}
+use Rattle.turn_losses.proofs.PeriodLaws.{two-ends, NoneLost}
+use Rattle.turn_losses.proofs.Expiries.{LostIn, lost-or-none}
+use Rattle.turn_losses.proofs.Wanting.{all-but-one}
+use Rattle.turn_losses.proofs.Names.{served_account, Served, serves-all, PeriodLoses, EndRun, TwoEnds, TimedRun, end_of, KeepsTime}
 use Rattle.lapm_frames.specs.declared.seen.Seen.TheVariants as seens
 use Rattle.lapm_frames.specs.declared.sent.Sent.TheVariants as slots
 use Rattle.lapm_frames.specs.declared.arrived.Arrived.TheVariants as arrivals
 use Rattle.link_account.specs.declared.answer.Answer.TheVariants as answers
 use Rattle.link_account.proofs.HearWays as HearWays
 use Rattle.link_account.proofs.SpeakWays as SpeakWays
+use Rattle.turn_losses.proofs.InTurn.{in-turn}
 
 -- an end that is Detecting after it spoke was so before
 pub said-from : (turn : ℕ) (release : Bool) (b : Account) (said : Said) → speak turn release b ≡ Ok said → said.account.phase ≡ Detecting
@@ -43,8 +42,7 @@ sends-odp turn release b said e r h =
     (sym (ap (λ x. speak_detecting x turn b) r) ∙ (sym (ap (λ p. speak_in p turn release b) e) ∙ h))
   where
     go : (x : Bool) → cond x (Err NotDetected) (Ok (says slots.Odp b)) ≡ Ok said → said.sent ≡ slots.Odp
-    go true q = cc
-    go false q = let same : says slots.Odp b ≡ said = cc in ap (λ s. s.sent) (sym same)
+    go b q = grind (arith)
 
 -- and hears no pattern of the answerer's
 abbrev hears-ok : Account → Result Account LinkFault
@@ -119,9 +117,7 @@ answers-odp user turn arrived a mid released release said e r r' only hears spea
       where
         by : (x : Option Answer) → says-ok (else_says (answering x b) (says slots.Mark b)) ≡ says-ok said
             → (else_says (answering x b) (says slots.Mark b) ≡ said) × (said.account.phase ≡ Detecting)
-        by None f = let same : says slots.Mark b ≡ said = cc in (same, ap (λ y. y.account.phase) (sym same) ∙ d)
-        by (Some answer) f = let same : else_says (answering (Some answer) b) (says slots.Mark b) ≡ said = cc in
-            (same, ap (λ y. y.account.phase) (sym same) ∙ d)
+        by b f = grind (arith)
 
     nothing : arrived ≡ arrivals.Nothing → mid.phase ≡ Detecting
     nothing q = let same : hear turn arrivals.Nothing a ≡ Ok mid = ap (λ x. hear turn x a) (sym q) ∙ hears in by same
@@ -130,8 +126,7 @@ answers-odp user turn arrived a mid released release said e r r' only hears spea
         by f = ok-phase (hear turn arrivals.Nothing a) f e
           where
             ok-phase : (x : Result Account LinkFault) → x ≡ Ok mid → PhaseOf x Detecting → mid.phase ≡ Detecting
-            ok-phase (Err fault) g k = cc
-            ok-phase (Ok y) g k = let same : y ≡ mid = cc in ap (λ z. z.phase) (sym same) ∙ k
+            ok-phase b g k = grind (arith)
 
     odp : arrived ≡ arrivals.Pattern seens.Odp → (mid.phase ≡ Detecting) × (mid.owes.answer ≡ Some answers.Adp)
     odp q =
@@ -159,8 +154,7 @@ pub err-detecting : (turn : ℕ) (release : Bool) (b : Account) → speak turn r
 err-detecting turn release b h = go NotDetected refl (why-broken turn release b NotDetected h)
   where
     go : (fault : LinkFault) → fault ≡ NotDetected → SpeakWays.Breaks turn release b fault → b.phase ≡ Detecting
-    go fault n (Undetected p r l e) = p
-    go fault n (Spends x e) = let wrong : NotDetected ≡ spent turn b = sym n ∙ e in cc
+    go fault n b = grind (arith)
 
 pub wants-pattern : SpendsOnTime → OriginatorWantsPattern
 wants-pattern spends tries period delay link ts before t mid kt run c broken number less =
@@ -297,3 +291,50 @@ pub undetected-starved : SpendsOnTime → UndetectedIsStarved
 undetected-starved spends tries period delay link ts before t mid kt run c broken =
     all-but-one tries period delay t ts
     (λ n l. wants-pattern spends tries period delay link ts before t mid kt run c broken n (omega (arith, l)))
+
+-- An originator that sees no pattern gives up on time.
+
+-- what is heard is no pattern of the answerer's
+none-passed : (heard : Heard) → (arrival heard ≡ arrivals.Pattern seens.Adp → ⊥) → heard ≡ Passed slots.Adp → ⊥
+none-passed heard none e = none (ap arrival e)
+
+-- an originator that sends its pattern does so within the periods of its tries
+sends-early : (turn : ℕ) (release : Bool) (b : Account) (said : Said) → b.phase ≡ Detecting → b.setup.role ≡ Originator
+    → speak turn release b ≡ Ok said → turn < (b.setup.tries + 1) * b.setup.period
+sends-early turn release b said e r h =
+    go (nat_le ((b.setup.tries + 1) * b.setup.period) turn) refl
+    (sym (ap (λ x. speak_detecting x turn b) r) ∙ (sym (ap (λ p. speak_in p turn release b) e) ∙ h))
+  where
+    go : (x : Bool) → nat_le ((b.setup.tries + 1) * b.setup.period) turn ≡ x
+        → cond x (Err NotDetected) (Ok (says slots.Odp b)) ≡ Ok said → turn < (b.setup.tries + 1) * b.setup.period
+    go b f q = grind (arith)
+
+-- as long as it is Detecting
+early : (tries period : ℕ) (delay : Role → ℕ) (link : Link) (ts : List Turn) (ends : Accounts) → KeepsTime tries period delay link
+    → RunOf link ts ends → IsCarried delay ts → ends.orig.phase ≡ Detecting
+    → (length ts ≤ (tries + 1) * period) × PassesNoPattern ts
+early tries period delay link [] ends kt run c d = (omega arith, tt)
+early tries period delay link (t ∷ ts) ends kt (before, run, g) (c, carried) d =
+    let turn = length ts in
+    let s = g.speaking Originator in
+    let i = in-turn tries period delay link ts before kt run carried t g.mid g.hearing Originator in
+    let b : Account = (served_at link turn g.mid Originator).account in
+    let detects : b.phase ≡ Detecting =
+    said-from turn (releases link turn g.mid) b s.said s.says (ap (λ (x : Account). x.phase) (sym s.after_is) ∙ d) in
+    let f = heard-from (arrival t.orig.heard) turn before.orig g.mid.orig i.role_is i.hears (sym i.served.phase ∙ detects) in
+    let p = early tries period delay link ts before kt run carried f.0 in
+    let late : turn < (b.setup.tries + 1) * b.setup.period =
+    sends-early turn (releases link turn g.mid) b s.said detects i.b_role s.says in
+    let whole : (b.setup.tries + 1) * b.setup.period ≡ (tries + 1) * period =
+    ap (λ n. (n + 1) * b.setup.period) i.b_tries ∙ ap (λ n. (tries + 1) * n) i.b_period in
+    (omega (arith, late, whole), (none-passed t.orig.heard f.1, p.1))
+
+pub undetected-on-time : SpendsOnTime → UndetectedOnTime
+undetected-on-time spends tries period delay link ts before t mid kt run c broken =
+    let turn = length ts in
+    let i = in-turn tries period delay link ts before kt run c t mid broken.hearing Originator in
+    let detects = err-detecting turn (releases link turn mid) (served_at link turn mid Originator).account broken.broken in
+    let f = heard-from (arrival t.orig.heard) turn before.orig mid.orig i.role_is i.hears (sym i.served.phase ∙ detects) in
+    let p = early tries period delay link ts before kt run c f.0 in
+    let whole : (tries + 1) * period ≤ turn = spends tries period delay link ts before t mid Originator NotDetected kt run c broken in
+    (omega (arith, p.0, whole), (none-passed t.orig.heard f.1, p.1))

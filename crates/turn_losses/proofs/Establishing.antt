@@ -57,8 +57,7 @@ module _ (turn : ℕ) (b : Account) where
   }
 
   ready : (busy command pf : Bool) (nr : ℕ) → is_sabme (ready_frame busy command nr pf) ≡ false
-  ready true command pf nr = refl
-  ready false command pf nr = refl
+  ready b command pf nr = grind (arith)
 
   answer-sabme : (d : Answer) (c : Account) → of_frame is_sabme (frame_for d c) ≡ false
   answer-sabme answers.Adp c = refl

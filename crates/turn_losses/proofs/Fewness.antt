@@ -1,14 +1,14 @@
 -- A starved run has many lost slots: each lies in two spans at most.
 use Rattle.std.proofs.Common.{inl, inr, ◌≡◌, ◌≢◌, ℕ, zero, suc, ◌+◌, ◌-◌, ◌*◌, ◌<◌, ◌≤◌, ◌&&◌, ◌||◌, Bool, true, false, max, nat_lt, nat_le}
 use Rattle.std.proofs.Common.{List, [], ◌∷◌, length, arith, refl, ◌∙◌, ap, subst, Some}
-use Rattle.link_account.proofs.Names.{slice_get, cases_lt, nat_tests, Originator, Answerer, Heard, Lost}
+use Rattle.turn_bound.proofs.Truths.{or-late, and-true, and-two}
+use Rattle.link_account.proofs.Names.{slice_get, cases_lt, nat_tests, Originator, Answerer, Heard}
 use Rattle.link_run.proofs.Names.{Turn, LosesSome}
 use Rattle.link_run.specs.Counts.{lost_in, lost_slots}
 use Rattle.link_run.specs.Starved.{SpanLoses, IsLost, turn_at}
-use Rattle.turn_bound.proofs.Clock.{one_if}
+use Rattle.turn_bound.proofs.Value.{one_if}
 use Rattle.turn_bound.proofs.Tied.{is_lost}
-use Rattle.turn_losses.proofs.Counting.{one-most}
-use Rattle.turn_losses.proofs.Truths.{and-two}
+use Rattle.turn_losses.proofs.Windows.{one-most}
 use Rattle.turn_losses.specs.Losses.{StarvedLosesMany, LosslessIsFed}
 use Rattle.turn_losses.proofs.Periods.{later-turn}
 
@@ -37,8 +37,7 @@ count-last (suc n) test h =
     let k = count-none n test (λ m l. none m l (test m) refl) in let e = one-most (test n) in omega (arith, k, e)
   where
     none : (m : ℕ) → m < n → (b : Bool) → test m ≡ b → test m ≡ false
-    none m l false q = q
-    none m l true q = let w = h m (omega (arith, l)) q in absurd (omega (arith, w, l))
+    none m l b q = grind (arith)
 
 -- where two that meet it follow one another
 count-near : (n : ℕ) (test : ℕ → Bool) → ((m k : ℕ) → m < k → k < n → test m ≡ true → test k ≡ true → k ≤ m + 1) → count_of n test ≤ 2
@@ -116,8 +115,7 @@ spans-near period delay last turn m k short less em ek = elim (cases_lt (m + 1) 
         omega (arith, sum, next, behind, before, short)
 
 lost-one : (h : Heard) → is_lost h ≡ true → lost_in h ≡ 1
-lost-one (Lost s) e = refl
-lost-one p e = cc
+lost-one p e = grind (arith)
 
 -- the spans that losses cover
 covers-few : (period delay last n : ℕ) → delay < period → (ts : List Turn) → count_of n (covers period delay last ts) ≤ 2 * lost_slots ts
@@ -148,8 +146,7 @@ covers-few period delay last n short (t ∷ ts) =
         let a = all in omega (arith, none, a, r)
 
 is-loss : (h : Heard) → IsLost h → is_lost h ≡ true
-is-loss (Lost s) e = refl
-is-loss p e = absurd e
+is-loss p e = grind (arith)
 
 loses-turn : (t : Turn) → LosesSome (Some t) → loses t ≡ true
 loses-turn t (Originator, h) = ap (λ b. b || is_lost t.answ.heard) (is-loss t.orig.heard h)
@@ -167,12 +164,8 @@ covers-loss period delay last span (t ∷ ts) turn l h e = elim (cases_lt turn (
   | inr more ↦ here (omega (arith, l, more))
 ]
   where
-    or-second : (x y : Bool) → y ≡ true → x || y ≡ true
-    or-second true y q = refl
-    or-second false y q = q
-
     later : covers period delay last ts span ≡ true → covers period delay last (t ∷ ts) span ≡ true
-    later q = or-second (loses t && in_span period delay last (length ts) span) (covers period delay last ts span) q
+    later q = or-late (loses t && in_span period delay last (length ts) span) (covers period delay last ts span) q
 
     here : turn ≡ length ts → covers period delay last (t ∷ ts) span ≡ true
     here q =
@@ -201,17 +194,13 @@ starved-loses-many tries period delay link ts kt h =
 
     covered : (n : ℕ) → SpanLoses period d ts n → covers period d last ts n ≡ true
     covered n s = covers-loss period d last n ts s.turn s.within s.lost
-        (both (nat_lt last (s.turn + (n + 1) * period + d)) (nat_le (s.turn + n * period) last) behind before)
+        (and-true (nat_lt last (s.turn + (n + 1) * period + d)) (nat_le (s.turn + n * period) last) behind before)
       where
         behind : nat_lt last (s.turn + (n + 1) * period + d) ≡ true
         behind = let b = s.in_span.behind in grind (arith, nat_tests, b)
 
         before : nat_le (s.turn + n * period) last ≡ true
         before = let b = s.in_span.before in grind (arith, nat_tests, b)
-
-        both : (x y : Bool) → x ≡ true → y ≡ true → x && y ≡ true
-        both true y e f = f
-        both false y e f = cc
 
 pub lossless-is-fed : LosslessIsFed
 lossless-is-fed tries period delay link ts kt none h = let many = starved-loses-many tries period delay link ts kt h in let some =

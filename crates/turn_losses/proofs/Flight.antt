@@ -1,23 +1,81 @@
--- Once an originator is Connected, its peer hears no SABME any more: each one was answered, or is lost, before the next goes.
-use Rattle.turn_losses.proofs.Names.{TimedRun, EndRun, TwoEnds, end_of, frame_disc, is_linked, of_arrived, of_frame}
-use Rattle.link_account.proofs.Names.{Account, Answerer, Arrived, MayPlay, Originator, ReadsWritten, cases_lt, hear}
-use Rattle.link_run.proofs.Names.{Accounts, Closed, Detecting, Establishing, Phase, Releasing, is_released}
-use Rattle.turn_losses.proofs.EndTurn.{EndTurn, TurnAt, end-turn, starts-fresh}
-use Rattle.std.proofs.Common.{Ok, arith, inl, inr, length, refl, suc, sym, zero, ℕ, ◌+◌, ◌-◌, ◌<◌, ◌∙◌, ◌≡◌, ◌≤◌, ◌⊎◌, ap, false, true}
-use Rattle.turn_losses.proofs.Establishing.{SaidSabme, establishing-from, is_sabme, says-sabme, try-over}
+-- Where an originator is Connected, no SABME of its is on its way; so no UA is due at its peer.
+use Rattle.std.proofs.Common.{◌⊎◌, inl, inr, ◌≡◌, ℕ, Bool, true, false, refl, sym, ◌∙◌, ap, None, Ok, arith, length, suc, zero, ◌+◌, ◌-◌}
+use Rattle.std.proofs.Common.{◌<◌, ◌≤◌, subst}
+use Rattle.link_account.proofs.Names.{is_some, Sabme, Disc, Arrived, Account, is_connected, hear, on_nothing, without_adp, owing, trying}
+use Rattle.link_account.proofs.Names.{after_answer, Answerer, MayPlay, Originator, ReadsWritten, cases_lt, Role, of}
+use Rattle.link_run.proofs.Names.{Negotiating, Closed, Accounts, Detecting, Establishing, Phase, is_released}
+use Rattle.link_account.specs.Hear.{connected}
+use Rattle.break_signals.specs.Breaks.{after_break}
+use Rattle.link_account.proofs.HearWays.{by-ways, numbers-alike}
+use Rattle.turn_bound.proofs.MeetHear.{is_ua_due, frame_disc, of_arrived, frame_ua}
+use Rattle.turn_losses.proofs.Establishing.{is_sabme, SaidSabme, establishing-from, says-sabme, try-over}
+use Rattle.lapm_frames.specs.declared.arrived.Arrived.TheVariants as arrivals
+use Rattle.link_account.specs.declared.answer.Answer.TheVariants as answers
+use Rattle.turn_losses.proofs.Names.{TimedRun, EndRun, TwoEnds, end_of, is_linked, of_frame, rates, Stands}
+use Rattle.turn_losses.proofs.Tracing.{EndTurn, TurnAt, end-turn, starts-fresh, release_of}
 use Rattle.turn_losses.proofs.Moving.{TryBegins, TryGoesOn, try-heard}
-use Rattle.turn_losses.proofs.Sabmes.{answer-by}
-use Rattle.link_account.proofs.HearWays.{by-ways}
 use Rattle.turn_losses.proofs.Phasing.{established-next, is_established}
-use Rattle.turn_bound.proofs.MeetHear.{frame_ua, is_ua_due}
-use Rattle.turn_losses.proofs.PeriodLaws.{linked-on}
-use Rattle.turn_losses.proofs.Truths.{not-true, clash}
-use Rattle.turn_losses.proofs.Tracing.{release_of}
+use Rattle.turn_losses.proofs.PeriodLaws.{linked-on, two-ends, was-sent}
+use Rattle.turn_bound.proofs.Truths.{not-true, clash}
 use Rattle.turn_losses.proofs.Trying.{since-try, tries-so}
-use Rattle.turn_bound.proofs.MeetSpeak.{speaks-so}
-use Rattle.turn_losses.proofs.PollLaws.{two-ends}
-use Rattle.turn_losses.proofs.LineLaw.{was-sent}
+use Rattle.turn_bound.proofs.Meeting.{speaks-so}
 use Rattle.turn_losses.proofs.Kept.{kept-in, kept-on}
+use Rattle.turn_losses.proofs.View.{deeds-of, answers-are}
+
+-- What makes an answer due.
+pub record AnswerBy (arrived : Arrived) (b : Account) : Type 0 where
+  pub ua : is_ua_due b.owes.answer ≡ true → (of_arrived is_sabme arrived ≡ true) ⊎ (of_arrived frame_disc arrived ≡ true)
+  pub some : is_connected b.phase ≡ true → is_some b.owes.answer ≡ true → of_arrived is_sabme arrived ≡ true
+
+none-by : (arrived : Arrived) (b : Account) → b.owes.answer ≡ None → AnswerBy arrived b
+none-by arrived b e = record {
+  ua = λ h. let wrong : true ≡ false = sym h
+      ∙ ap is_ua_due e in cc;
+  some = λ c h. let wrong : true ≡ false = sym h ∙ ap is_some e in cc;
+}
+
+sabme-by : (pf : Bool) (b : Account) → AnswerBy (arrivals.Frame (Sabme pf)) b
+sabme-by pf b = record { ua = λ h. inl refl; some = λ c h. refl }
+
+disc-by : (pf : Bool) (b : Account) → is_connected b.phase ≡ false → AnswerBy (arrivals.Frame (Disc pf)) b
+disc-by pf b n = record { ua = λ h. inr refl; some = λ c h. let wrong : true ≡ false = sym c ∙ n in cc }
+
+-- another answer
+other-by : (arrived : Arrived) (b : Account) → is_ua_due b.owes.answer ≡ false → is_connected b.phase ≡ false → AnswerBy arrived b
+other-by arrived b u n = record {
+  ua = λ h. let wrong : true ≡ false = sym h ∙ u in cc;
+  some = λ c h. let wrong : true ≡ false = sym c
+      ∙ n in cc;
+}
+
+pub answer-by : (arrived : Arrived) (turn : ℕ) (a mid : Account) → a.owes.answer ≡ None → hear turn arrived a ≡ Ok mid
+    → AnswerBy arrived mid
+answer-by arrived turn a mid n h = by-ways AnswerBy turn a (record {
+  nothing = none-by arrivals.Nothing (on_nothing a) (ap without_adp n);
+  linked = λ e. record {
+    pattern = λ seen. none-by _ a n;
+    plain = λ frame p. none-by _ a n;
+    numbers = numbers-alike _ turn a (λ frame new incoming timer reply urgent k. none-by (arrivals.Frame frame) _ n);
+    sabme = λ pf m r. sabme-by pf _;
+    disc = λ pf r. disc-by pf _ refl;
+    brk = λ command pf info number length_octet q. none-by _ (record a { their_breaks = after_break number length_octet a.their_breaks }) n;
+    brkack = λ command pf info number length_octet q. none-by _ (record a { own_breaks = after_answer turn number a.own_breaks }) n;
+  };
+  early = λ c. record {
+    ignores = λ x f. none-by x a n;
+    detects = λ p r. none-by _ (trying Negotiating turn a) n;
+    detected = λ p r. other-by _ (owing answers.Adp a) refl (ap is_connected p);
+    xid = λ p r pf info offer f. other-by _ _ refl refl;
+    agrees = λ p r pf info offer f. none-by _ _ n;
+    sabme_first = λ p r pf. sabme-by pf _;
+    sabme = λ p r pf. sabme-by pf _;
+    ua = λ p. none-by _ (connected turn a) n;
+    disc = λ p pf. other-by _ (owing (answers.Dm pf) a) refl c;
+    closes = λ p frame f. none-by _ (record a { phase = Closed }) n;
+  };
+}) arrived mid h
+
+-- Once an originator is Connected, its peer hears no SABME any more: each one was answered, or is lost, before the next goes.
 
 -- an end that is Establishing, and is linked once it has heard, heard UA
 heard-ua : (arrived : Arrived) (turn : ℕ) (a mid : Account) → a.phase ≡ Establishing → hear turn arrived a ≡ Ok mid
@@ -46,13 +104,10 @@ heard-ua arrived turn a mid e h = by-ways (λ x b. is_linked b.phase ≡ true �
     never c = clash (is_linked a.phase) c (ap is_linked e)
 
 pub only-establishing : (p : Phase) → is_established p ≡ true → is_linked p ≡ false → p ≡ Establishing
-only-establishing Establishing e l = refl
-only-establishing p e l = cc
+only-establishing p e l = grind (arith)
 
 released-linked : (p : Phase) → is_released p ≡ true → is_linked p ≡ true
-released-linked Releasing e = refl
-released-linked Closed e = refl
-released-linked p e = cc
+released-linked p e = grind (arith)
 
 -- the frame of a try is due no more once it spoke
 try-false : (w : TimedRun) → (u : ℕ) → u ≤ length w.ts → (w.state u).orig.phase ≡ Establishing → (w.state u).orig.wait.try ≡ false
@@ -187,3 +242,27 @@ no-sabme-heard reads w m s inside linked t low within heard = elim (cases_lt s q
             = sym f ∙ ap (λ (x : Account). x.phase) (starts-fresh w Originator) in cc) r q earlier (omega (arith, within)) now first.1 in
             let due = (sabme-sent w q (omega (arith, within)) came.1).1 now in
             omega (arith, set, due, c0, s0, a, k.period_is)
+
+-- No UA is due while a break waits.
+
+-- an answerer sends no SABME
+pub answ-no-sabme : (w : TimedRun) → (q : ℕ) → q < length w.ts → of_frame is_sabme ((end_of w Answerer).slot q) ≡ true → ⊥
+answ-no-sabme w q l e =
+    let g = end-turn w Answerer q l in
+    let i = g.in_turn in
+    let k = says-sabme q false ((end_of w Answerer).served q) g.said g.says (ap (of_frame is_sabme) (sym g.slot) ∙ e) in
+    subst (λ x. Stands (rates w.tries w.period) (q + 1) q Answerer x (w.deed q).mid.answ)
+    (sym i.heard.phase ∙ (sym i.served.phase ∙ k.before)) i.heard.stands
+
+pub sends-sabme-so : (w : TimedRun) → (r : Role) → (q : ℕ) → q < length w.ts → of_frame is_sabme ((end_of w r).slot q) ≡ true
+    → is_connected (of r (w.state (q + 1))).phase ≡ false
+sends-sabme-so w Originator q l e = ap is_connected (sabme-sent w q l e).0
+sends-sabme-so w Answerer q l e = absurd (answ-no-sabme w q l e)
+
+-- where a UA is due at an end that is Connected then, it heard a SABME
+pub answers-sabme : (w : TimedRun) → (r : Role) → (u : ℕ) → u < length w.ts → is_connected (of r (w.state (u + 1))).phase ≡ true
+    → (deeds-of w r u).answers ≡ true → of_arrived is_sabme ((end_of w r).heard u) ≡ true
+answers-sabme w r u l c e =
+    let g = end-turn w r u l in
+    (answer-by ((end_of w r).heard u) u (of r (w.state u)) (of r (w.deed u).mid) g.in_turn.none_due.answer g.in_turn.hears).some
+    (g.connected c) (ap is_some (sym g.in_turn.served.answer) ∙ (sym (answers-are w r u l c) ∙ e))

@@ -1,13 +1,17 @@
 -- What stays once it is so, and what only a frame brings that the other end sends once something stays at it.
-use Rattle.std.proofs.Common.{◌⊎◌, inl, inr, ◌≡◌, ℕ, zero, suc, ◌+◌, ◌-◌, ◌<◌, ◌≤◌, Bool, true, false, length, arith, ◌∙◌, ap, subst}
-use Rattle.link_account.proofs.Names.{Role, other, of, Frame, Account}
+use Rattle.std.proofs.Common.{◌⊎◌, inl, inr, ◌≡◌, ℕ, zero, suc, ◌+◌, ◌-◌, ◌<◌, ◌≤◌, Bool, true, false, length, arith, ◌∙◌, ap, subst, sym}
+use Rattle.std.proofs.Common.{Ok, refl}
+use Rattle.link_account.proofs.Names.{Role, other, of, Frame, Account, Said, speak}
 use Rattle.link_account.specs.Account.{fresh}
-use Rattle.turn_losses.proofs.Truths.{clash}
-use Rattle.turn_losses.proofs.LineLaw.{was-sent}
-use Rattle.turn_losses.proofs.PollLaws.{two-ends}
-use Rattle.turn_losses.proofs.EndTurn.{starts-fresh}
-use Rattle.turn_losses.proofs.Names.{of_frame, of_arrived, TimedRun, EndRun, end_of}
+use Rattle.turn_bound.proofs.Truths.{clash}
+use Rattle.turn_losses.proofs.PeriodLaws.{was-sent, two-ends}
+use Rattle.turn_losses.proofs.Tracing.{starts-fresh, release_of, end-turn}
+use Rattle.turn_losses.proofs.Names.{of_frame, of_arrived, TimedRun, EndRun, end_of, is_linked}
 use Rattle.turn_losses.proofs.Kept.{kept-on}
+use Rattle.link_run.proofs.Keeping.{linked-phase}
+use Rattle.link_run.proofs.Meeting.{is_counted, is-told}
+use Rattle.link_run.proofs.Saying.{Part, is-said}
+use Rattle.link_run.proofs.Speaking.{speaks-phase}
 
 -- where an end has the one, the other end has the other
 module _ (w : TimedRun) (r : Role) (kind : Frame → Bool) (has stays : Account → Bool) (first : has (fresh (of r w.link).setup) ≡ false)
@@ -33,3 +37,36 @@ module _ (w : TimedRun) (r : Role) (kind : Frame → Bool) (has stays : Account 
           let x = was-sent kind (two-ends w r).hears u (omega (arith, l)) q in
           kept-on (length w.ts) (λ v. stays (of (other r) (w.state v)) ≡ true) next (u - o.delay + 1) (u + 1) (omega arith)
           (omega (arith, l)) (sent (u - o.delay) (omega (arith, l)) x.1)
+
+-- An answerer that heard a number has a peer that is Connected, or was.
+
+-- only a Connected end sends an I frame or a supervisory frame
+counted-linked : (turn : ℕ) (release : Bool) (b : Account) (said : Said) → speak turn release b ≡ Ok said
+    → of_frame is_counted said.sent ≡ true → is_linked said.account.phase ≡ true
+counted-linked turn release b said h c = elim (speaks-phase turn release b said h) [
+  | inl e ↦ ap is_linked (e ∙ linked-phase b.phase ((is-said turn release b said h).counted c))
+  | inr x ↦ ap is_linked x.1
+]
+
+-- where an end is numbered, its peer is Connected or was
+pub numbered-linked : (w : TimedRun) → (role : Role) → (u : ℕ) → u ≤ length w.ts → (of role (w.state u)).numbered ≡ true
+    → is_linked (of (other role) (w.state u)).phase ≡ true
+numbered-linked w role = follows w role is_counted (λ a. a.numbered) (λ a. is_linked a.phase) refl from sent
+    (λ u l. ((w.trace.happens u l).polls (other role)).linked)
+  where
+    from : (u : ℕ) → u < length w.ts → (of role (w.state (u + 1))).numbered ≡ true
+        → ((of role (w.state u)).numbered ≡ true) ⊎ (of_arrived is_counted ((end_of w role).heard u) ≡ true)
+    from u l n =
+        let g = end-turn w role u l in
+        (is-told u ((end_of w role).heard u) (of role (w.state u)) (of role (w.deed u).mid) g.in_turn.hears).numbered
+        (sym g.in_turn.served.numbered
+        ∙ (sym (ap (λ (p : Part). p.numbered) (is-said u (release_of w.link u (w.deed u).mid role) ((end_of w role).served u) g.said
+        g.says).part_is) ∙ (ap (λ (x : Account). x.numbered) (sym g.after) ∙ n)))
+
+    sent : (v : ℕ) → v < length w.ts → of_frame is_counted ((end_of w (other role)).slot v) ≡ true
+        → is_linked (of (other role) (w.state (v + 1))).phase ≡ true
+    sent v l f =
+        let g = end-turn w (other role) v l in
+        ap (λ (x : Account). is_linked x.phase) g.after
+        ∙ counted-linked v (release_of w.link v (w.deed v).mid (other role)) ((end_of w (other role)).served v) g.said g.says
+        (ap (of_frame is_counted) (sym g.slot) ∙ f)

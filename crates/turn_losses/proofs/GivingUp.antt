@@ -1,17 +1,22 @@
 -- Whatever an end gives up for, where no break waits.
-use Rattle.std.proofs.Common.{◌≡◌, ℕ, ◌+◌, Bool, true, false, cond, ◌∷◌, length, arith, refl, sym, ◌∙◌, ap}
-use Rattle.link_account.proofs.Names.{Role, Originator, Answerer, of, waits, LinkFault, Spent, NotDetected, is_connected}
-use Rattle.link_run.proofs.Names.{is_released, served_at}
+use Rattle.std.proofs.Common.{◌≡◌, ℕ, ◌+◌, Bool, true, false, cond, ◌∷◌, length, arith, refl, sym, ◌∙◌, ap, inl, inr, List, [], subst}
+use Rattle.link_account.proofs.Names.{Role, Originator, Answerer, of, waits, LinkFault, Spent, NotDetected, is_connected, OwnBreaks}
+use Rattle.link_account.proofs.Names.{Account}
+use Rattle.link_run.proofs.Names.{is_released, served_at, BreakLine, is_busy, Link, Accounts, Turn, RunOf, SpeaksAt, said_at, IsCarried}
+use Rattle.link_run.proofs.Names.{Hears}
 use Rattle.link_account.specs.Account.{break_waits}
 use Rattle.link_run.specs.Run.{BrokenTurn}
 use Rattle.link_run.specs.Laws.{EachEndIsNamed, IsNamed}
 use Rattle.turn_bound.proofs.Serving.{serves-all}
 use Rattle.turn_losses.specs.Losses.{LosesEach, OriginatorWantsAnswers, OriginatorIsStarved, OriginatorWantsPattern, UndetectedIsStarved}
-use Rattle.turn_losses.proofs.AnswerTurn.{connected-is}
-use Rattle.turn_losses.specs.Tries.{OriginatorWantsFrame, AnswererWantsAnswer, IsForLosses, GivesUpForLosses}
+use Rattle.turn_bound.proofs.Value.{connected-is}
+use Rattle.turn_losses.specs.Tries.{OriginatorWantsFrame, AnswererWantsAnswer, IsForLosses, GivesUpForLosses, GivesUpUnbroken}
 use Rattle.turn_losses.proofs.Parting.{answerer-gives-up}
 use Rattle.turn_losses.proofs.Periods.{later-loses}
-use Rattle.turn_losses.proofs.Tracing.{timed-run}
+use Rattle.turn_losses.proofs.Tracing.{timed-run, release_of, said-as}
+use Rattle.turn_bound.proofs.Speaking.{speaks-well}
+use Rattle.turn_losses.proofs.Names.{KeepsTime, Rates, rates, IsOf, Served}
+use Rattle.turn_losses.proofs.InTurn.{in-turn}
 
 -- what the laws say of each case
 pub record Cases : Type 0 where
@@ -34,8 +39,7 @@ gives-up laws tries period delay link ts before t mid role fault kt run cs broke
       where
         by : (b : Bool) → b ≡ true → cond b (waits (served_at link (length ts) mid r).account.own_breaks) false ≡ false
             → waits (served_at link (length ts) mid r).account.own_breaks ≡ false
-        by true e f = f
-        by false e f = cc
+        by b e f = grind (arith)
 
     -- fewer of the latest periods
     fewer : LosesEach period (tries + 1) (length ts) (t ∷ ts) → LosesEach period tries (length ts) (t ∷ ts)
@@ -86,3 +90,55 @@ gives-up laws tries period delay link ts before t mid role fault kt run cs broke
     go Originator NotDetected b n q = undetected b (is_connected mid.orig.phase)
     go Answerer NotDetected b n q = cc
     go r p b n q = absurd n
+
+-- Where a user asks for no break, none waits.
+
+-- how many breaks an end has taken
+abbrev taken : Account → ℕ
+taken a = length a.own_breaks.lengths
+
+served-none : (turn : ℕ) (breaks : List BreakLine) (busy : Bool) (a b : Account) → breaks ≡ [] → Served turn (length breaks) busy a b
+    → taken a ≡ 0 → taken b ≡ 0
+served-none turn breaks busy a b none s e = elim s.own [
+  | inl q ↦ ap (λ (x : OwnBreaks). length x.lengths) q ∙ e
+  | inr z ↦ (let n = ap (λ (x : List BreakLine). length x) none in absurd (omega (arith, z.2, n)))
+]
+
+-- what an end that has heard and is served has taken
+served-taken : (tries period : ℕ) (delay : Role → ℕ) (link : Link) (ts : List Turn) (ends : Accounts) → KeepsTime tries period delay link
+    → RunOf link ts ends → IsCarried delay ts → (r : Role) → (of r link).user.breaks ≡ [] → taken (of r ends) ≡ 0
+    → (t : Turn) (mid : Accounts) → Hears (length ts) ends t mid → taken (served_at link (length ts) mid r).account ≡ 0
+served-taken tries period delay link ts ends k run c r none e t mid hearing =
+    let i = in-turn tries period delay link ts ends k run c t mid hearing r in
+    served-none (length ts) (of r link).user.breaks (is_busy (length ts) (of r link).user.busy) (of r mid)
+    (served_at link (length ts) mid r).account none i.served (ap (λ (l : List ℕ). length l) i.heard.lengths ∙ e)
+
+none-taken : (tries period : ℕ) (delay : Role → ℕ) (link : Link) (ts : List Turn) (ends : Accounts) → KeepsTime tries period delay link
+    → RunOf link ts ends → IsCarried delay ts → (r : Role) → (of r link).user.breaks ≡ [] → taken (of r ends) ≡ 0
+none-taken tries period delay link [] ends k run c Originator none = ap (λ (x : Accounts). taken x.orig) run
+none-taken tries period delay link [] ends k run c Answerer none = ap (λ (x : Accounts). taken x.answ) run
+none-taken tries period delay link (t ∷ ts) ends k (before, run, g) c r none =
+    let turn : ℕ = length ts in
+    let z : Rates = rates tries period in
+    let b : Account = (served_at link turn g.mid r).account in
+    let i = in-turn tries period delay link ts before k run c.1 t g.mid g.hearing r in
+    let s : SpeaksAt (said_at link turn g.mid r) (of r t) (of r ends) = g.speaking r in
+    let own = served-taken tries period delay link ts before k run c.1 r none
+    (none-taken tries period delay link ts before k run c.1 r none) t g.mid g.hearing in
+    let said = speaks-well z (length b.outgoing.pieces) (length (of r link).user.breaks) turn r i.phase (release_of link turn g.mid r) b s.said
+    i.rated (subst (IsOf z) (i.setup ∙ sym i.b_setup) i.is_of) i.b_stands (i.served.phase ∙ i.heard.phase) i.b_role (omega arith)
+    (sym (said-as link turn g.mid r) ∙ s.says) in
+    ap taken s.after_is ∙ (ap (λ (l : List ℕ). length l) said.1.lengths ∙ own)
+
+pub gives-up-unbroken : GivesUpForLosses → GivesUpUnbroken
+gives-up-unbroken law tries period delay link ts before t mid role fault kt none run cs broken =
+    law tries period delay link ts before t mid role fault kt run cs broken
+    (quiet (is_connected (served_at link (length ts) mid role).account.phase)
+    (served-taken tries period delay link ts before kt run.run run.carried role none
+    (none-taken tries period delay link ts before kt run.run run.carried role none) t mid broken.hearing))
+  where
+    b : Account
+    b = (served_at link (length ts) mid role).account
+
+    quiet : (c : Bool) → taken b ≡ 0 → cond c (waits b.own_breaks) false ≡ false
+    quiet b e = grind (arith)

@@ -1,17 +1,19 @@
 -- What a frame with a number makes of a Connected end: one row for the five of them, with what it makes of the wait for an answer, of the
 -- clock, of replies, of what is urgent and of a pause.
 use Rattle.std.proofs.Common.{◌⊎◌, inl, inr, ◌≡◌, ℕ, ◌-◌, ◌<◌, ◌&&◌, ◌||◌, not, Bool, true, false, cond, nat_lt, arith, refl, sym, ◌∙◌, ap}
-use Rattle.std.proofs.Common.{Option, Some, None}
+use Rattle.std.proofs.Common.{Option, Some, None, Ok}
+use Rattle.turn_bound.proofs.Truths.{or-false}
 use Rattle.link_account.proofs.Names.{nat_tests, Frame, I, Rr, Rnr, Rej, Srej, Arrived, Outgoing, advanced, resumed, Incoming, BreakWord}
-use Rattle.link_account.proofs.Names.{Account}
+use Rattle.link_account.proofs.Names.{Account, is_connected, hear}
 use Rattle.lapm_sender.specs.Numbers.{with_number}
 use Rattle.link_account.specs.Hear.{timer_after, ends_wait}
 use Rattle.link_account.proofs.HearWays.{Numbers, numbered_with, resumed-unpaused, acked, acked_back, Plain, IsUa, IsXid, IsTest, IsNoWord}
-use Rattle.turn_bound.proofs.Clock.{is_waiting}
+use Rattle.link_account.proofs.HearWays.{by-linked}
+use Rattle.turn_bound.proofs.Value.{is_waiting, connected-is}
 use Rattle.turn_bound.proofs.Sender.{Heard, heard-clock, meant-range, heard-advanced, heard-resumed, heard-selected, acked-heard}
 use Rattle.turn_bound.proofs.MeetHear.{resumed-awaited}
 use Rattle.turn_losses.proofs.Words.{is_word, of_word}
-use Rattle.turn_losses.proofs.Names.{Rates, Sends, is_poll, is_final, SetFrom}
+use Rattle.turn_losses.proofs.Names.{Rates, Sends, is_poll, is_final, SetFrom, of_arrived}
 use Rattle.lapm_frames.specs.declared.arrived.Arrived.TheVariants as arrivals
 
 -- The retry count and the timer are as they were, or the count is 0.
@@ -41,10 +43,6 @@ plain-frame frame (IsTest command pf info e) = record { poll = ap is_poll e; fin
 plain-frame frame (IsNoWord command pf info fault w e) =
     record { poll = ap is_poll e; final = ap is_final e; words = λ f. ap (of_word f) e ∙ ap (is_word f) w }
 
-or-false : (b : Bool) → b ≡ b || false
-or-false true = refl
-or-false false = refl
-
 never : {A : Type 0} {b : Bool} → b ≡ false → b ≡ true → A
 never e f = let wrong : true ≡ false = sym f ∙ e in cc
 
@@ -65,9 +63,7 @@ clock-kept z turn o new timer s h = let k = heard-clock z turn o new timer s h i
   where
     go : (w advances : Bool) → timer_after turn o new timer ≡ cond w (cond advances (Some turn) timer) None
         → new.count ≡ cond w (cond advances 0 o.count) 0 → CountStays o timer new (timer_after turn o new timer)
-    go false advances t c = inl c
-    go true true t c = inl c
-    go true false t c = inr (c, t)
+    go b advances t c = grind (arith)
 
 module _ (turn : ℕ) (a : Account) where
   abbrev o : Outgoing
@@ -117,10 +113,7 @@ module _ (turn : ℕ) (a : Account) where
   hurried command pf final e h = go a.wait.urgent refl final (pf && not command) o.awaited e h
     where
       go : (u : Bool) → a.wait.urgent ≡ u → (b f w : Bool) → w && f ≡ b → u || b ≡ true → (u ≡ true) ⊎ (f ≡ true)
-      go true q b f w r h = inl refl
-      go false q b true w r h = inr refl
-      go false q b false true r h = let wrong : true ≡ false = sym h ∙ sym r in cc
-      go false q b false false r h = let wrong : true ≡ false = sym h ∙ sym r in cc
+      go c q b f w r h = grind (arith)
 
   -- RR or REJ
   ready : (frame : Frame) (command pf final : Bool) (made : Outgoing) → is_poll frame ≡ (command && pf) → is_final frame ≡
@@ -162,6 +155,64 @@ module _ (turn : ℕ) (a : Account) where
     srej = λ command pf nr n f e. h (Srej command nr pf) _ _ _ _ _ (facts (Srej command nr pf)
         (record o { chosen = with_number n o.chosen }) _ _ refl
         (λ z s. let r = meant-range o.front (o.high - 1) nr n e in let l : o.front < o.high = grind (arith, nat_tests, f) in
-        heard-selected z turn turn o a.wait.timer n s r.0 (omega (arith, r.1, l))) (or-false a.owes.reply) (λ u. inl u) (λ g. refl) (λ u. u)
+        heard-selected z turn turn o a.wait.timer n s r.0 (omega (arith, r.1, l))) (sym (or-false a.owes.reply)) (λ u. inl u) (λ g. refl) (λ u. u)
         (λ u. cc));
   }
+
+-- What hearing makes of the wait for a poll's answer, at a Connected end: a response with F = 1 ends it, and nothing else.
+pub await-hears : (arrived : Arrived) (turn : ℕ) (a mid : Account) → is_connected a.phase ≡ true → hear turn arrived a ≡ Ok mid
+    → mid.outgoing.awaited ≡ cond (of_arrived is_final arrived) false a.outgoing.awaited
+await-hears arrived turn a mid c e =
+    by-linked (λ x b. b.outgoing.awaited ≡ cond (of_arrived is_final x) false a.outgoing.awaited) turn a
+    (record {
+      pattern = λ seen. refl;
+      plain = λ frame p. ap (λ f. cond f false a.outgoing.awaited) (sym (plain-frame frame p).final);
+      sabme = λ pf n r. refl;
+      disc = λ pf r. refl;
+      brk = λ command pf info number length_octet q. refl;
+      brkack = λ command pf info number length_octet q. refl;
+      numbers = number-rows turn a _ (λ frame new incoming timer reply urgent n. n.awaited);
+    }) refl arrived mid (connected-is a.phase c) e
+
+-- What hearing makes of the retry count and the timer of a Connected end: the count is 0, or both are as they were.
+abbrev pub CountKept : Account → Account → Type 0
+CountKept a b = CountStays a.outgoing a.wait.timer b.outgoing b.wait.timer
+
+pub count-hears : (z : Rates) (arrived : Arrived) (turn : ℕ) (a mid : Account) → is_connected a.phase ≡ true
+    → Sends z turn turn a.outgoing a.wait.timer → hear turn arrived a ≡ Ok mid → CountKept a mid
+count-hears z arrived turn a mid c s e =
+    by-linked (λ x b. CountKept a b) turn a
+    (record {
+      pattern = λ seen. inr (refl, refl);
+      plain = λ frame p. inr (refl, refl);
+      sabme = λ pf n r. inr (refl, refl);
+      disc = λ pf r. inr (refl, refl);
+      brk = λ command pf info number length_octet q. inr (refl, refl);
+      brkack = λ command pf info number length_octet q. inr (refl, refl);
+      numbers = number-rows turn a _ (λ frame new incoming timer reply urgent n. n.clock z s);
+    }) (inr (refl, refl)) arrived mid (connected-is a.phase c) e
+
+-- What hearing makes of the other end's pause, at a Connected end: where it begins the retry count is 0, and an answer to a poll ends it or
+-- begins it.
+pub record PausedHeard (x : Arrived) (a b : Account) : Type 0 where
+  pub paused : b.outgoing.paused ≡ true → (a.outgoing.paused ≡ true) ⊎ (b.outgoing.count ≡ 0)
+  pub resumes : of_arrived is_final x ≡ true → (b.outgoing.paused ≡ false) ⊎ (b.outgoing.count ≡ 0)
+
+same : (x : Arrived) (a b : Account) → b.outgoing ≡ a.outgoing → of_arrived is_final x ≡ false → PausedHeard x a b
+same x a b o f = record {
+  paused = λ e. let again : a.outgoing.paused ≡ true = cc in inl again;
+  resumes = λ e. let wrong : true ≡ false = sym e ∙ f in cc;
+}
+
+pub paused-hears : (x : Arrived) (turn : ℕ) (a mid : Account) → is_connected a.phase ≡ true → hear turn x a ≡ Ok mid → PausedHeard x a mid
+paused-hears x turn a mid c e =
+    by-linked (λ y b. PausedHeard y a b) turn a
+    (record {
+      pattern = λ seen. same _ a a refl refl;
+      plain = λ frame p. same _ a a refl (plain-frame frame p).final;
+      sabme = λ pf n r. same _ a _ refl refl;
+      disc = λ pf r. same _ a _ refl refl;
+      brk = λ command pf info number length_octet q. same _ a _ refl refl;
+      brkack = λ command pf info number length_octet q. same _ a _ refl refl;
+      numbers = number-rows turn a _ (λ frame new incoming timer reply urgent n. record { paused = n.paused; resumes = n.resumes });
+    }) (same _ a _ refl refl) x mid (connected-is a.phase c) e

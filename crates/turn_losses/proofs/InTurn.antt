@@ -8,7 +8,7 @@ use Rattle.turn_bound.proofs.Tied.{Tied, tied, keeps, link_of, turn_of, state_of
 use Rattle.turn_bound.proofs.CalmRuns.{hears-in}
 use Rattle.turn_bound.proofs.Bounding.{at-once-always}
 use Rattle.turn_losses.proofs.PollHear.{PollHeard, poll-hears}
-use Rattle.turn_losses.proofs.Room.{ServedLeft, served-left}
+use Rattle.turn_losses.proofs.NumberHear.{ServedLeft, served-left}
 use Rattle.turn_losses.proofs.Names.{AreRates, rates, IsOf, Stands, arrived_rnrs, HeardAs, NoneDue, Served, is_poll, of_arrived, KeepsTime}
 
 -- an end's setup is its link's

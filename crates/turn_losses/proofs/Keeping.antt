@@ -1,31 +1,15 @@
-use Rattle.std.proofs.Common.{◌≡◌, ℕ, ◌+◌, ◌-◌, ◌<◌, ◌&&◌, Bool, true, false, ◌∷◌, length, arith, refl, sym, ◌∙◌, ap, Option, Some, None}
-use Rattle.link_account.proofs.Names.{slice_get, Role, Originator, Answerer, other, of, Frame, Sent, Heard, Nothing, Passed, Lost, Chance}
-use Rattle.link_account.proofs.Names.{is_connected}
+use Rattle.std.proofs.Common.{◌≡◌, ℕ, ◌+◌, ◌-◌, ◌<◌, ◌&&◌, Bool, true, ◌∷◌, length, arith, refl, sym, ◌∙◌, ap, Option, Some}
+use Rattle.turn_losses.proofs.Names.{TwoEnds, of_frame, of_arrived, is_poll, is_final, Deed, past, sent_or, sends_poll, hears_poll}
+use Rattle.turn_losses.proofs.Names.{sends_final, hears_final, TimedRun, end_of}
+use Rattle.turn_losses.proofs.PeriodLaws.{polls-apart, still-awaited, reply-matches, two-ends, Answers, StillAwaited, looked}
+use Rattle.link_account.proofs.Names.{slice_get, Role, Originator, Answerer, other, of, Frame, Sent, Heard, is_connected}
 use Rattle.link_run.proofs.Names.{Accounts, Spoken, Turn, arrival, sent_in, sent_ago}
 use Rattle.link_run.specs.Overheard.{passes_in}
 use Rattle.link_run.specs.Starved.{turn_at}
 use Rattle.turn_losses.specs.Polls.{is_frame_of, sends_of, PollsIn, PollsKeepApart, RepliesAtOnce, AnswersPoll, AnswersMatchPolls}
-use Rattle.turn_losses.proofs.KeepsPolls.{Answers, KeepsPolls, StillAwaited}
 use Rattle.turn_losses.proofs.Tracing.{OneMore, traced-turn, past-all, past-before, timed-run, timed-of}
-use Rattle.turn_losses.proofs.LineLaw.{looked}
-use Rattle.turn_losses.proofs.PollLaws.{two-ends, due-apart, poll-fresh, poll-held-up, polls-apart, reply-from, reply-at-once}
-use Rattle.turn_losses.proofs.PollLaws.{reply-matches}
-use Rattle.turn_losses.proofs.PeriodLaws.{still-awaited}
-use Rattle.turn_losses.proofs.Names.{of_frame, of_arrived, is_poll, is_final, Deed, past, sent_or, EndRun, TwoEnds, sends_poll, hears_poll}
-use Rattle.turn_losses.proofs.Names.{sends_final, hears_final, TimedRun, end_of}
-use Rattle.turn_losses.proofs.Truths.{and-not}
+use Rattle.turn_bound.proofs.Truths.{and-not}
 use Rattle.lapm_frames.specs.declared.sent.Sent.TheVariants as slots
-
-keeps-polls : {period turns : ℕ} {e o : EndRun} → TwoEnds period turns e o → KeepsPolls period turns e o
-keeps-polls {period} {turns} {e} {o} k = record {
-  due_apart = due-apart k;
-  fresh = λ t l d. (poll-fresh k t l d, poll-held-up k t l d);
-  sent_apart = polls-apart k;
-  reply_from = reply-from k;
-  reply_at_once = reply-at-once k;
-  matches = reply-matches k;
-  still = still-awaited k;
-}
 
 same-kind : (is : Frame → Bool) (sent : Sent) → is_frame_of is sent ≡ of_frame is sent
 same-kind is slots.Mark = refl
@@ -35,18 +19,10 @@ same-kind is slots.Adp = refl
 same-kind is (slots.Frame frame) = refl
 
 sends-kind : (is : Frame → Bool) (m : Option Spoken) (s : Spoken) → m ≡ Some s → sends_of is m ≡ of_frame is (sent_or m)
-sends-kind is None s e = cc
-sends-kind is (Some slot) s e = same-kind is slot.sent
+sends-kind is b s e = grind (arith)
 
 passes-kind : (is : Frame → Bool) (h : Heard) → passes_in is h ≡ of_arrived is (arrival h)
-passes-kind is Nothing = refl
-passes-kind is (Lost s) = refl
-passes-kind is Chance = refl
-passes-kind is (Passed slots.Mark) = refl
-passes-kind is (Passed slots.Flags) = refl
-passes-kind is (Passed slots.Odp) = refl
-passes-kind is (Passed slots.Adp) = refl
-passes-kind is (Passed (slots.Frame frame)) = refl
+passes-kind is b = grind (arith)
 
 -- the turn of that number
 pub turn-is : (w : TimedRun) → (t : ℕ) → t < length w.ts → turn_at t w.ts ≡ Some (w.deed t).turn
@@ -62,13 +38,11 @@ polls-of w role t l p =
 pub polls-keep-apart : PollsKeepApart
 polls-keep-apart tries period delay link ts ends k run c role s t less within ps pt =
     let w = timed-run tries period delay link ts ends k run c in
-    (keeps-polls (two-ends w role)).sent_apart s t less within
+    polls-apart (two-ends w role) s t less within
     (polls-of w role s (omega (arith, less, within)) ps) (polls-of w role t within pt)
 
 both-ways : (b c : Bool) → (b ≡ true → c ≡ true) → (c ≡ true → b ≡ true) → b ≡ c
-both-ways true c f g = sym (f refl)
-both-ways false true f g = g refl
-both-ways false false f g = refl
+both-ways b c f g = grind (arith)
 
 pub replies-at-once : RepliesAtOnce
 replies-at-once tries period delay link ts before t after k run g c role cb ca =
@@ -77,8 +51,8 @@ replies-at-once tries period delay link ts before t after k run g c role cb ca =
     go : (d : Deed) × (d.turn ≡ t) × OneMore period delay link t ts before d after
         → sends_of is_final (of role t).sent ≡ passes_in is_poll (of role t).heard
     go (d, dt, m) =
-        both-ways _ _ (λ e. hears ∙ keeps.reply_from n (omega arith) (sym sends ∙ e))
-        (λ e. sends ∙ keeps.reply_at_once n (omega arith) (sym hears ∙ e)
+        both-ways _ _ (λ e. hears ∙ (ends.own n (omega arith)).replied (sym sends ∙ e))
+        (λ e. sends ∙ (ends.own n (omega arith)).replies (sym hears ∙ e)
         (ap (λ (x : Accounts). is_connected (of role x).phase) m.before_is ∙ ap is_connected cb)
         (ap (λ (x : Accounts). is_connected (of role x).phase) (ap w.state (omega arith) ∙ w.last) ∙ ap is_connected ca))
       where
@@ -88,8 +62,8 @@ replies-at-once tries period delay link ts before t after k run g c role cb ca =
         w : TimedRun
         w = timed-of tries period delay link (t ∷ ts) after k (before, run, g) c m.traced
 
-        keeps : KeepsPolls period (length (t ∷ ts)) (end_of w role) (end_of w (other role))
-        keeps = keeps-polls (two-ends w role)
+        ends : TwoEnds period (length (t ∷ ts)) (end_of w role) (end_of w (other role))
+        ends = two-ends w role
 
         turn : (w.deed n).turn ≡ t
         turn = ap (λ x. x.turn) m.deed_is ∙ dt
@@ -119,8 +93,8 @@ answers-match tries period delay link ts before t after k run g c role cb h =
         w : TimedRun
         w = timed-of tries period delay link (t ∷ ts) after k (before, run, g) c m.traced
 
-        keeps : KeepsPolls period (length (t ∷ ts)) (end_of w role) (end_of w (other role))
-        keeps = keeps-polls (two-ends w role)
+        ends : TwoEnds period (length (t ∷ ts)) (end_of w role) (end_of w (other role))
+        ends = two-ends w role
 
         turn : (w.deed n).turn ≡ t
         turn = ap (λ x. x.turn) m.deed_is ∙ dt
@@ -129,10 +103,10 @@ answers-match tries period delay link ts before t after k run g c role cb h =
         hears = ap (λ (x : Turn). of_arrived is_final (arrival (of role x).heard)) turn ∙ (sym (passes-kind is_final (of role t).heard) ∙ h)
 
         still : StillAwaited (of role (w.state n))
-        still = keeps.still n (omega arith) (ap (λ (x : Accounts). is_connected (of role x).phase) m.before_is ∙ ap is_connected cb) hears
+        still = still-awaited ends n (omega arith) (ap (λ (x : Accounts). is_connected (of role x).phase) m.before_is ∙ ap is_connected cb) hears
 
         a : Answers n (end_of w role) (end_of w (other role))
-        a = keeps.matches n (omega arith) hears
+        a = reply-matches ends n (omega arith) hears
 
         polled : (r : Role) → r ≡ role → sends_of is_poll (sent_ago (delay Originator + delay Answerer) role ts) ≡ true
         polled r e =
@@ -151,8 +125,7 @@ answers-match tries period delay link ts before t after k run g c role cb h =
             ∙ (sends-kind is_poll (of role (w.deed a.sent).turn).sent _ s.sent_is ∙ a.is_sent)
           where
             both-delays : (x : Role) → delay x + delay (other x) ≡ delay Originator + delay Answerer
-            both-delays Originator = refl
-            both-delays Answerer = omega arith
+            both-delays b = grind (arith)
 
             past-now : past (t ∷ ts) n ≡ ts
             past-now = past-before t ts

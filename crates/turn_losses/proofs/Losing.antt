@@ -1,52 +1,48 @@
 -- What is lost in each period of a waiting break, while the other end is Connected.
 use Rattle.std.proofs.Common.{◌⊎◌, inl, inr, ◌≡◌, ℕ, ◌+◌, ◌-◌, ◌*◌, ◌<◌, ◌≤◌, Bool, true, false, ◌∷◌, length, arith, refl, sym, ◌∙◌, ap, Ok}
-use Rattle.link_account.proofs.Names.{cases_lt, nat_tests, Role, other, of, waits, Arrived, Account, is_connected, hear}
-use Rattle.link_run.proofs.Names.{User, is_busy, Turn, arrival, Carries}
-use Rattle.turn_losses.proofs.Truths.{clash, not-true}
+use Rattle.std.proofs.Common.{◌%◌, List, subst}
+use Rattle.link_account.proofs.Names.{cases_lt, nat_tests, Role, other, of, waits, Arrived, Account, is_connected, hear, Originator}
+use Rattle.link_account.proofs.Names.{Answerer}
+use Rattle.link_run.proofs.Names.{User, Turn, arrival, Carries, Link, is_released, Accounts, Hears, served_at}
+use Rattle.turn_bound.proofs.Truths.{clash, not-true}
 use Rattle.turn_losses.proofs.Periods.{once, loses-at, loses-last}
-use Rattle.turn_losses.proofs.LineLaw.{is-heard, was-sent, last-heard}
-use Rattle.turn_losses.proofs.PollLaws.{two-ends}
-use Rattle.turn_losses.proofs.PeriodLaws.{NoneLost}
-use Rattle.turn_losses.proofs.PeriodHolds.{LostIn, lost-or-none}
-use Rattle.turn_losses.proofs.AnswerTurn.{connected-is}
+use Rattle.turn_losses.proofs.PeriodLaws.{is-heard, was-sent, last-heard, two-ends, NoneLost}
+use Rattle.turn_losses.proofs.Expiries.{LostIn, lost-or-none}
+use Rattle.turn_bound.proofs.Value.{connected-is, linked-of, unlinked-of, Linked}
 use Rattle.turn_losses.proofs.Establishing.{is_sabme}
-use Rattle.turn_losses.proofs.BreakHear.{break-heard}
-use Rattle.turn_losses.proofs.BreakTurn.{waits-not, Deeds, ServedBreaks, number_of, brk_due}
-use Rattle.turn_losses.proofs.View.{deeds-of, breaking, served-own}
-use Rattle.turn_losses.proofs.Waiting.{BreakPeriod, break-answered}
-use Rattle.turn_losses.proofs.Quiet.{answers-sabme, sends-sabme-so}
+use Rattle.turn_losses.proofs.BreakHear.{answered_own, break-heard, Unanswered, old-heard}
+use Rattle.turn_losses.proofs.BreakTurn.{waits-not, wait-ends, served-own, Deeds, number_of, brk_due}
+use Rattle.turn_losses.proofs.View.{deeds-of, breaking}
+use Rattle.turn_losses.proofs.Waiting.{BreakPeriod, break-answered, break-periods}
+use Rattle.turn_losses.proofs.Flight.{answers-sabme, sends-sabme-so, answ-no-sabme}
 use Rattle.turn_losses.proofs.Names.{of_frame, of_arrived, serves-all, served_account, is_lost, PeriodLoses, EndRun, TwoEnds, TimedRun}
-use Rattle.turn_losses.proofs.Names.{end_of}
+use Rattle.turn_losses.proofs.Names.{end_of, rates, is_linked, StandTogether, LosesEach}
 use Rattle.turn_losses.proofs.Words.{ack_of, of_word}
-use Rattle.turn_losses.proofs.EndTurn.{starts-fresh}
+use Rattle.turn_losses.proofs.Tracing.{starts-fresh}
+use Rattle.turn_losses.proofs.Wanting.{SpendsBreak, peer-connected-at}
+use Rattle.turn_losses.proofs.InTurn.{InTurn}
 
 -- the answer in the last turn ends the wait
 pub last-ends : (user : User) (turn : ℕ) (released : Bool) (arrived : Arrived) (a mid : Account) → is_connected a.phase ≡ true
     → is_connected mid.phase ≡ true → waits a.own_breaks ≡ true → length a.own_breaks.lengths ≤ a.own_breaks.answered + 1
     → hear turn arrived a ≡ Ok mid → of_arrived (of_word (ack_of (number_of a))) arrived ≡ true
     → waits (served_account user turn released mid).own_breaks ≡ false
-last-ends user turn released arrived a mid ca cm w high h e = by s.taken refl
+last-ends user turn released arrived a mid ca cm w high h e = elim (break-heard arrived turn a mid (connected-is a.phase ca) cm h).own [
+  | inl x ↦ clash (of_arrived (of_word (ack_of (number_of a))) arrived) e (x.1 w)
+  | inr x ↦ by x.1
+]
   where
     b : Account
     b = served_account user turn released mid
 
-    x : (mid.own_breaks.answered ≡ a.own_breaks.answered + 1) × (mid.own_breaks.lengths ≡ a.own_breaks.lengths)
-        × (mid.own_breaks.rest ≡ turn + 8)
-    x = (break-heard arrived turn a mid (connected-is a.phase ca) cm h).ends e w
-
-    more : a.own_breaks.answered < length a.own_breaks.lengths
-    more = grind (arith, nat_tests, w)
-
-    s : ServedBreaks turn mid.own_breaks b.own_breaks
-    s = served-own turn (length user.breaks) (is_busy turn user.busy) mid b (serves-all user turn released mid)
-        (let n = x.0 in let l = ap length x.1 in omega (arith, n, l, more))
-
-    none : waits mid.own_breaks ≡ false
-    none = let n = x.0 in let l = ap length x.1 in waits-not mid.own_breaks (omega (arith, n, l, high))
-
-    by : (t : Bool) → s.taken ≡ t → waits b.own_breaks ≡ false
-    by true q = let r = (s.yes q).1 in let z = x.2 in absurd (omega (arith, r, z))
-    by false q = ap waits (s.no q) ∙ none
+    by : mid.own_breaks ≡ answered_own turn a.own_breaks → waits (served_account user turn released mid).own_breaks ≡ false
+    by q =
+        let more : a.own_breaks.answered < length a.own_breaks.lengths = grind (arith, nat_tests, w) in
+        let n = ap (λ o. o.answered) q in let l = ap (λ o. length o.lengths) q in
+        elim (served-own _ _ _ mid b (serves-all user turn released mid) (omega (arith, n, l, more))) [
+          | inl s ↦ ap waits (s ∙ q) ∙ waits-not (answered_own turn a.own_breaks) (omega (arith, high))
+          | inr k ↦ (let r = k.rested in let z = ap (λ o. o.rest) q in absurd (omega (arith, r, z)))
+        ]
 
 -- A period of a waiting break loses something, while the other end is Connected in it.
 pub connected-loses : (w : TimedRun) (t : Turn) → Carries w.delay w.ts t → (r : Role) → (number s n : ℕ) → number < 2
@@ -125,10 +121,117 @@ connected-loses w t cs r number s n small q bp co na last-no = go (lost-or-none 
                 let here = bp.stays (s + w.period) (omega (arith, long)) (omega arith) in
                 let there = bp.goes_on l in
                 absurd (clash (waits (e.account (s + w.period + 1)).own_breaks) there.waiting
-                (((breaking w r).turn (s + w.period) l there.connected).ends here.connected here.waiting
+                (wait-ends ((breaking w r).turn (s + w.period) l there.connected).own here.waiting
                 (ap (λ x. of_arrived (of_word (ack_of x)) (e.heard (s + w.period))) here.numbered
                 ∙ (ap (λ x. of_arrived (of_word (ack_of number)) (e.heard x)) (sym f) ∙ comes))))
 
             at-end : s + w.period ≡ turns → (b : Bool) → is_lost (of r t).heard ≡ b → PeriodLoses w.period turns (t ∷ w.ts) n
             at-end g true x = loses-last w.period t w.ts s n long q g r x
             at-end g false x = absurd (last-no g (last-heard (of_word (ack_of number)) w t cs r z (f ∙ g) x ∙ sent))
+
+-- An end that gives up while a break waits: by the clock of its segments, or by that of the break.
+
+-- what is known of its account before that turn
+pub record LastWait (tries period turn : ℕ) (a : Account) : Type 0 where
+  pub connected : is_connected a.phase ≡ true
+  pub waiting : waits a.own_breaks ≡ true
+  pub now : a.own_breaks.set + period ≡ turn
+  pub count : a.own_breaks.count ≡ tries
+  pub high : length a.own_breaks.lengths ≤ a.own_breaks.answered + 1
+
+module _ {tries period : ℕ} {link : Link} {r : Role} {turn : ℕ} {a : Account} {arrived : Arrived} {mid b : Account}
+    (i : InTurn tries period link r turn a arrived mid b) where
+  pub last-wait : is_connected mid.phase ≡ true → SpendsBreak turn b → LastWait tries period turn a
+  last-wait cm spends = from (i.polls.from cm)
+    where
+      mid-linked : Linked (rates tries period) (turn + 1) turn r mid
+      mid-linked = linked-of (rates tries period) (turn + 1) turn r i.phase mid i.heard.stands (ap is_connected (sym i.heard.phase) ∙ cm)
+
+      own : b.own_breaks ≡ mid.own_breaks
+      own = elim (served-own _ _ _ mid b i.served mid-linked.breaks.low) [
+        | inl q ↦ q
+        | inr k ↦ (let x = k.set in let n = spends.now in absurd (omega (arith, x, n, i.b_period, i.long)))
+      ]
+
+      waits-mid : waits mid.own_breaks ≡ true
+      waits-mid = ap waits (sym own) ∙ spends.waiting
+
+      from : (is_connected a.phase ≡ true) ⊎ (is_linked a.phase ≡ false) → LastWait tries period turn a
+      from (inr u) =
+          let o = old-heard arrived turn a mid u i.hears in
+          let q = (unlinked-of (rates tries period) turn turn r a.phase a i.stands u).breaks in
+          let wrong : true ≡ false = sym waits-mid ∙ (ap waits (o.own ∙ q)) in cc
+      from (inl ca) = by (break-heard arrived turn a mid (connected-is a.phase ca) cm i.hears).own
+        where
+          high : length a.own_breaks.lengths ≤ a.own_breaks.answered + 1
+          high = (linked-of (rates tries period) turn turn r a.phase a i.stands ca).breaks.high
+
+          by : ((mid.own_breaks ≡ a.own_breaks) × Unanswered arrived a.own_breaks)
+              ⊎ ((waits a.own_breaks ≡ true) × (mid.own_breaks ≡ answered_own turn a.own_breaks)) → LastWait tries period turn a
+          by (inr (w, q)) = clash (waits mid.own_breaks) waits-mid (ap waits q ∙ waits-not (answered_own turn a.own_breaks)
+              (omega (arith, high)))
+          by (inl (q, x)) =
+              let same = own ∙ q in
+              let n = spends.now in let set = ap (λ x. x.set) same in
+              record {
+                connected = ca;
+                waiting = ap waits (sym q) ∙ waits-mid;
+                now = omega (arith, n, set, i.b_period);
+                count = ap (λ x. x.count) (sym same) ∙ (spends.count ∙ i.b_tries);
+                high = high;
+              }
+
+-- An end that gives up while a break waits was starved.
+
+-- the periods of the break that waits at the end
+pub periods-of : (w : TimedRun) → (r : Role) → LastWait w.tries w.period (length w.ts) (of r (w.state (length w.ts))) → (n : ℕ)
+    → n < w.tries + 1 → (s : ℕ) × (s + (n + 1) * w.period ≡ length w.ts)
+    × BreakPeriod w.period (length w.ts) (number_of (of r (w.state (length w.ts)))) (end_of w r) (deeds-of w r) s
+periods-of w r l n less = break-periods (breaking w r) (first r) w.tries (number_of (of r (w.state (length w.ts))))
+    (record { connected = l.connected; waiting = l.waiting; numbered = refl }) l.count l.now n
+    (omega (arith, less))
+  where
+    first : (r : Role) → is_connected (of r (w.state 0)).phase ≡ false
+    first r = ap (λ (a : Account). is_connected a.phase) (starts-fresh w r)
+
+pub number-small : (x : ℕ) → x % 2 < 2
+number-small x = omega arith
+
+-- the answer isn't heard in the last turn
+pub none-last : (link : Link) (ts : List Turn) (before : Accounts) (t : Turn) (mid : Accounts) (r : Role) (tries period : ℕ)
+    → Hears (length ts) before t mid → is_connected (of r mid).phase ≡ true → LastWait tries period (length ts) (of r before)
+    → waits (served_at link (length ts) mid r).account.own_breaks ≡ true
+    → of_arrived (of_word (ack_of (number_of (of r before)))) (arrival (of r t).heard) ≡ true → ⊥
+none-last link ts before t mid r tries period hearing cm l w e =
+    clash (waits (served_at link (length ts) mid r).account.own_breaks) w
+    (last-ends (of r link).user (length ts) (is_released mid.orig.phase) (arrival (of r t).heard) (of r before)
+    (of r mid) l.connected cm l.waiting l.high (hearing r).hears e)
+
+-- an originator
+pub originator-breaks : StandTogether → (w : TimedRun) (t : Turn) (mid : Accounts) → Carries w.delay w.ts t
+    → Hears (length w.ts) w.ends t mid → is_connected mid.orig.phase ≡ true
+    → LastWait w.tries w.period (length w.ts) w.ends.orig
+    → waits (served_at w.link (length w.ts) mid Originator).account.own_breaks ≡ true
+    → LosesEach w.period (w.tries + 1) (length w.ts) (t ∷ w.ts)
+originator-breaks together w t mid cs hearing cm l waiting n less = go (periods-of w Originator last n less)
+  where
+    turns : ℕ
+    turns = length w.ts
+
+    last : LastWait w.tries w.period turns (w.state turns).orig
+    last = subst (λ (x : Accounts). LastWait w.tries w.period turns x.orig) (sym w.last) l
+
+    k : TwoEnds w.period turns (end_of w Originator) (end_of w Answerer)
+    k = two-ends w Originator
+
+    go : (s : ℕ) × (s + (n + 1) * w.period ≡ turns) × BreakPeriod w.period turns (number_of (w.state turns).orig)
+        (end_of w Originator) (deeds-of w Originator) s → PeriodLoses w.period turns (t ∷ w.ts) n
+    go (s, q, bp) =
+        let m = once w.period n in
+        connected-loses w t cs Originator
+        (number_of (w.state turns).orig) s n (number-small (w.state turns).orig.own_breaks.answered) q bp
+        (λ u a b. peer-connected-at together w u (omega (arith, b, q, m)) (bp.stays u a b).connected)
+        (λ u a b f. let c = was-sent is_sabme k.hears u (omega (arith, b, q, m)) f in
+        answ-no-sabme w (u - w.delay Answerer) (omega (arith, b, q, m)) c.1)
+        (λ g f. none-last w.link w.ts w.ends t mid Originator w.tries w.period hearing cm l waiting
+        (ap (λ (x : Accounts). of_arrived (of_word (ack_of (number_of x.orig))) (arrival t.orig.heard)) (sym w.last) ∙ f))

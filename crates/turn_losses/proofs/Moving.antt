@@ -1,19 +1,22 @@
 -- What an originator's try sends and hears, and what ends it.
 use Rattle.std.proofs.Common.{◌⊎◌, inl, inr, ◌≡◌, ℕ, ◌+◌, ◌≤◌, Bool, true, false, cond, nat_eq, arith, refl, sym, ◌∙◌, ap, Option, Some}
-use Rattle.std.proofs.Common.{None, Ok, Err, Result}
+use Rattle.std.proofs.Common.{None, Ok, Err, Result, ◌||◌, not, subst}
 use Rattle.link_account.proofs.Names.{is_some, nat_tests, Role, Originator, Answerer, Frame, Sabme, Disc, Ua, Dm, Ui, Xid, Offer, offer_in}
-use Rattle.link_account.proofs.Names.{written, agree, Arrived, LinkFault, Account, hear, on_frame, on_nothing, trying, Said, spent, speak}
-use Rattle.link_account.proofs.Names.{speak_linked, false≢true}
-use Rattle.link_run.proofs.Names.{Phase, Detecting, Negotiating, Establishing, Connected, Releasing, Closed}
+use Rattle.link_account.proofs.Names.{written, agree, Arrived, LinkFault, Account, hear, on_frame, on_nothing, trying, Said, speak}
+use Rattle.link_account.proofs.Names.{speak_linked, false≢true, is_originator, Sent, owing, says, frame_for, speak_in}
+use Rattle.link_run.proofs.Names.{Phase, Detecting, Negotiating, Establishing, Connected, Releasing, Closed, Answer}
 use Rattle.lapm_frames.specs.declared.seen.Seen.TheVariants.{Adp}
-use Rattle.link_account.specs.Hear.{on_seen, on_negotiating, on_establishing, on_releasing, on_xid_response, connected}
-use Rattle.link_account.specs.Speak.{trying_again, tries_frame, u_try}
+use Rattle.link_account.specs.Hear.{on_negotiating, on_establishing, on_releasing, on_xid_response, connected, on_detecting, on_disc}
+use Rattle.link_account.specs.Hear.{on_xid_command, peer_reset}
+use Rattle.link_account.specs.Speak.{else_says, answering, speak_answer, speak_negotiating}
 use Rattle.turn_bound.proofs.MeetHear.{of_frame, of_arrived}
 use Rattle.link_account.proofs.HearWays.{by-ways, numbered_with, numbers-alike}
-use Rattle.link_account.proofs.SpeakWays.{Tries, answers_alone, by-linked, linked-so}
-use Rattle.turn_losses.proofs.PollSpeak.{SaidPoll, linked-poll}
+use Rattle.link_account.proofs.SpeakWays.{Tries, answers_alone, by-linked, linked-so, linked-alike, retimed}
+use Rattle.turn_losses.proofs.PollTurn.{SaidPoll, linked-poll}
 use Rattle.lapm_frames.specs.declared.arrived.Arrived.TheVariants as arrivals
 use Rattle.link_account.proofs.SpeakWays as SpeakWays
+use Rattle.lapm_frames.specs.declared.sent.Sent.TheVariants as slots
+use Rattle.link_account.specs.declared.answer.Answer.TheVariants as answers
 
 -- the phases in which an originator tries a frame
 abbrev pub is_trying : Phase → Bool
@@ -126,9 +129,7 @@ try-heard arrived turn a mid r h = by-ways (λ x b. TryHeard turn x a b) turn a 
         closed same = let wrong : Closed ≡ Releasing = ap (λ b. b.phase) same ∙ g in cc
 
         go : (y : Frame) → on_releasing y a ≡ Ok a → moves_on Releasing y ≡ false
-        go (Ua true) q = closed cc
-        go (Dm true) q = closed cc
-        go p q = refl
+        go p q = grind (arith)
     unmoved Detecting (arrivals.Frame frame) t g f = cc
     unmoved Connected (arrivals.Frame frame) t g f = cc
     unmoved Closed (arrivals.Frame frame) t g f = cc
@@ -177,10 +178,7 @@ try-says turn release b said r long offers h = SpeakWays.by-ways (TrySaid turn b
 }) said h
   where
     alone-untried : (p : Phase) (role : Role) → role ≡ Originator → answers_alone p role ≡ true → is_trying p ≡ false
-    alone-untried Detecting role e f = refl
-    alone-untried Connected role e f = refl
-    alone-untried Closed role e f = refl
-    alone-untried p q e f = cc
+    alone-untried p role e f = grind (arith)
 
     untried : (q : Phase) → b.phase ≡ q → is_trying q ≡ false → {A : Type 0} (p : Phase) → is_trying p ≡ true → b.phase ≡ p → A
     untried q e n p t f = let wrong : true ≡ false = sym t ∙ (ap is_trying (sym f ∙ e) ∙ n) in cc
@@ -201,35 +199,115 @@ try-says turn release b said r long offers h = SpeakWays.by-ways (TrySaid turn b
         not-due : nat_eq turn (b.wait.try_set + b.setup.period) ≡ false → turn ≡ b.wait.try_set + b.setup.period → ⊥
         not-due x y = grind (arith, nat_tests, x, y)
 
--- what ends a try: its timer expires with the last one
-pub try-spent : (turn : ℕ) (frame : Frame) (b : Account) (fault : LinkFault) → u_try turn frame b ≡ Err fault
-    → (turn ≡ b.wait.try_set + b.setup.period) × (b.wait.try_count ≡ b.setup.tries)
-try-spent turn frame b fault h = go (nat_eq turn (b.wait.try_set + b.setup.period)) refl (nat_eq b.wait.try_count b.setup.tries) refl h
+-- An answerer answers what an originator tries in the turn in which it hears it.
+
+-- whether an answerer in this phase answers what is tried
+abbrev pub can_answer : Phase → Phase → Bool → Bool
+can_answer Negotiating Detecting numbered = true
+can_answer Negotiating Negotiating numbered = true
+can_answer Establishing Detecting numbered = true
+can_answer Establishing Negotiating numbered = true
+can_answer Establishing Connected numbered = not numbered
+can_answer Releasing Connected numbered = true
+can_answer Releasing Closed numbered = true
+can_answer p q numbered = false
+
+-- the answer that is due then
+abbrev pub AnswerDue : Phase → Account → Type 0
+AnswerDue Negotiating b = (b.phase ≡ Negotiating) × (b.owes.answer ≡ Some answers.Xid)
+AnswerDue Establishing b = (b.phase ≡ Connected) × (b.owes.answer ≡ Some (answers.Ua true))
+AnswerDue Releasing b = (b.phase ≡ Closed) × ((b.owes.answer ≡ Some (answers.Ua true)) ⊎ (b.owes.answer ≡ Some (answers.Dm true)))
+AnswerDue Detecting b = ⊥
+AnswerDue Connected b = ⊥
+AnswerDue Closed b = ⊥
+
+abbrev DueOf : Phase → Result Account LinkFault → Type 0
+DueOf p (Err fault) = Unit {0}
+DueOf p (Ok b) = AnswerDue p b
+
+some-offer : (m : Option Offer) (a : Account) → is_some m ≡ true → AnswerDue Negotiating (on_xid_command m a)
+some-offer b a e = grind (arith)
+
+frame-answers : (p q : Phase) (frame : Frame) (turn : ℕ) (a : Account) → a.phase ≡ q → a.setup.role ≡ Answerer
+    → can_answer p q a.numbered ≡ true → asks p frame ≡ true → DueOf p (on_frame q frame turn a)
+frame-answers Negotiating Detecting (Xid true pf info) turn a e r c k = subst
+    (λ x. DueOf Negotiating (on_detecting x (Xid true pf info) turn a)) (sym r) (some-offer (offer_in info) a k)
+frame-answers Negotiating Negotiating (Xid true pf info) turn a e r c k = subst
+    (λ x. DueOf Negotiating (on_negotiating x (Xid true pf info) turn a)) (sym r) (some-offer (offer_in info) a k)
+frame-answers Establishing Detecting (Sabme true) turn a e r c k = subst (λ x. DueOf Establishing (on_detecting x (Sabme true) turn a))
+    (sym r) (refl, refl)
+frame-answers Establishing Negotiating (Sabme true) turn a e r c k = subst
+    (λ x. DueOf Establishing (on_negotiating x (Sabme true) turn a)) (sym r) (refl, refl)
+frame-answers Establishing Connected (Sabme true) turn a e r c k = go a.numbered (is_originator a.setup.role) c (ap is_originator r)
   where
-    go : (due : Bool) → nat_eq turn (b.wait.try_set + b.setup.period) ≡ due → (s : Bool) → nat_eq b.wait.try_count b.setup.tries ≡ s
-        → cond due (cond s (Err (spent turn b)) (Ok (tries_frame frame (trying_again turn b)))) (Ok (tries_frame frame b)) ≡ Err fault
-        → (turn ≡ b.wait.try_set + b.setup.period) × (b.wait.try_count ≡ b.setup.tries)
-    go false q s k u = cc
-    go true q false k u = cc
-    go true q true k u = (grind (arith, nat_tests, q), grind (arith, nat_tests, k))
+    go : (n o : Bool) → not n ≡ true → o ≡ false → DueOf Establishing (cond (n || o) (Err (peer_reset a)) (Ok (owing (answers.Ua true) a)))
+    go true o x y = tt
+    go false true x y = cc
+    go false false x y = (e, refl)
+frame-answers Releasing Connected (Disc true) turn a e r c k = subst (λ x. DueOf Releasing (on_disc x true a)) (sym r) (refl, inl refl)
+frame-answers Releasing Closed (Disc true) turn a e r c k = (e, inr refl)
+frame-answers p q frame turn a e r c k = cc
 
--- an end that releases is not Connected again
-pub releasing-stays : (arrived : Arrived) (turn : ℕ) (a mid : Account) → a.phase ≡ Releasing → hear turn arrived a ≡ Ok mid
-    → mid.phase ≡ Connected → ⊥
-releasing-stays arrivals.Nothing turn a mid e h c = let same : on_nothing a ≡ mid = cc in let wrong : Releasing ≡ Connected = sym e
-    ∙ (ap (λ x. x.phase) same ∙ c) in cc
-releasing-stays (arrivals.Pattern seen) turn a mid e h c =
-    let there : Ok (on_seen Releasing seen turn a) ≡ Ok mid = ap (λ p. Ok (on_seen p seen turn a)) (sym e) ∙ h in
-    let same : a ≡ mid = cc in let wrong : Releasing ≡ Connected = sym e ∙ (ap (λ x. x.phase) same ∙ c) in cc
-releasing-stays (arrivals.Frame frame) turn a mid e h c = go frame (ap (λ p. on_frame p frame turn a) (sym e) ∙ h)
+pub answer-due : (p : Phase) (arrived : Arrived) (turn : ℕ) (a mid : Account) → a.setup.role ≡ Answerer
+    → can_answer p a.phase a.numbered ≡ true → of_arrived (asks p) arrived ≡ true → hear turn arrived a ≡ Ok mid → AnswerDue p mid
+answer-due p arrivals.Nothing turn a mid r c k h = cc
+answer-due p (arrivals.Pattern seen) turn a mid r c k h = cc
+answer-due p (arrivals.Frame frame) turn a mid r c k h = go (on_frame a.phase frame turn a) h
+    (frame-answers p a.phase frame turn a refl r c k)
   where
-    stays : a ≡ mid → ⊥
-    stays same = let wrong : Releasing ≡ Connected = sym e ∙ (ap (λ x. x.phase) same ∙ c) in cc
+    go : (x : Result Account LinkFault) → x ≡ Ok mid → DueOf p x → AnswerDue p mid
+    go (Err fault) q d = cc
+    go (Ok b) q d = let same : b ≡ mid = cc in subst (AnswerDue p) same d
 
-    closed : record a { phase = Closed } ≡ mid → ⊥
-    closed same = let wrong : Closed ≡ Connected = ap (λ x. x.phase) same ∙ c in cc
+-- an answer that is due goes
+says-answer : (b : Account) (silence : Sent) (answer : Answer) → b.owes.answer ≡ Some answer
+    → (else_says (answering b.owes.answer b) (says silence b)).sent ≡ frame_for answer b
+says-answer b silence answer e = ap (λ m. (else_says (answering m b) (says silence b)).sent) e
 
-    go : (f : Frame) → on_releasing f a ≡ Ok mid → ⊥
-    go (Ua true) q = closed cc
-    go (Dm true) q = closed cc
-    go p q = stays cc
+linked-answers : (turn : ℕ) (b : Account) (said : Said) (pf : Bool) → b.owes.answer ≡ Some (answers.Ua pf) → speak_linked turn b ≡ Ok said
+    → said.sent ≡ frame_for (answers.Ua pf) b
+linked-answers turn b said pf e = by-linked (λ s. s.sent ≡ frame_for (answers.Ua pf) b) turn b (linked-alike _ turn b
+    (λ count awaited w own. record {
+      answers = λ d f. let there : Some d ≡ Some (answers.Ua pf) = sym f ∙ e in let same : d ≡ answers.Ua pf = cc in
+          ap (λ x. frame_for x (retimed b count awaited w own)) same;
+      final = λ n f. due n;
+      poll = λ n q f. due n;
+      segment = λ x u n f. due x.answer;
+      brkack = λ x s word f. due x.answer;
+      brk = λ x s y word f. due x.answer;
+      tell = λ x y f. due x.answer;
+      rej = λ x y n f. due x.answer;
+      srej = λ x y s n f. due x.answer;
+      flags = λ i. due i.before.answer;
+    })) said
+  where
+    due : {A : Type 0} → b.owes.answer ≡ None → A
+    due n = let wrong : None ≡ Some (answers.Ua pf) = sym n ∙ e in cc
+
+pub says-due : (p : Phase) (turn : ℕ) (b : Account) (said : Said) → b.setup.role ≡ Answerer
+    → is_some (offer_in (written b.setup.offer)) ≡ true → AnswerDue p b → speak turn false b ≡ Ok said
+    → of_frame (moves_on p) said.sent ≡ true
+says-due Negotiating turn b said r offers (e, d) h =
+    let there : speak_negotiating Answerer turn b ≡ Ok said = ap (λ x. speak_negotiating x turn b) (sym r)
+    ∙ (ap (λ q. speak_in q turn false b) (sym e) ∙ h) in
+    let same : else_says (answering b.owes.answer b) (says slots.Flags b) ≡ said = cc in
+    ap (λ s. of_frame (moves_on Negotiating) s.sent) (sym same)
+    ∙ (ap (of_frame (moves_on Negotiating)) (says-answer b slots.Flags answers.Xid d) ∙ offers)
+says-due Establishing turn b said r offers (e, d) h = ap (of_frame (moves_on Establishing))
+    (linked-answers turn b said true d (ap (λ q. speak_in q turn false b) (sym e) ∙ h))
+says-due Releasing turn b said r offers (e, d) h = go d
+  where
+    there : speak_answer b ≡ Ok said
+    there = ap (λ q. speak_in q turn false b) (sym e) ∙ h
+
+    same : else_says (answering b.owes.answer b) (says slots.Flags b) ≡ said
+    same = let w = there in cc
+
+    go : (b.owes.answer ≡ Some (answers.Ua true)) ⊎ (b.owes.answer ≡ Some (answers.Dm true))
+        → of_frame (moves_on Releasing) said.sent ≡ true
+    go (inl x) = ap (λ s. of_frame (moves_on Releasing) s.sent) (sym same)
+        ∙ ap (of_frame (moves_on Releasing)) (says-answer b slots.Flags (answers.Ua true) x)
+    go (inr x) = ap (λ s. of_frame (moves_on Releasing) s.sent) (sym same)
+        ∙ ap (of_frame (moves_on Releasing)) (says-answer b slots.Flags (answers.Dm true) x)
+says-due Detecting turn b said r offers d h = absurd d
+says-due p turn b said r offers d h = absurd d

@@ -1,16 +1,21 @@
 -- What a Connected end makes of the numbers that it hears.
 use Rattle.std.proofs.Common.{◌⊎◌, inl, inr, ◌≡◌, ℕ, ◌%◌, ◌<◌, ◌≤◌, ◌||◌, Bool, true, false, cond, nat_lt, List, length, length-append}
-use Rattle.std.proofs.Common.{arith, refl, sym, ◌∙◌, ap, subst, Option, Some, None, Ok}
-use Rattle.link_account.proofs.Names.{nat_tests, cases_lt, Frame, I, Rr, Rnr, Rej, meant, Outgoing, is_outstanding, advanced, resumed}
-use Rattle.link_account.proofs.Names.{Incoming, after_take, after_kind, kind_of, offset, Took, InOrder, Kept, Gap, Sent, Arrived, Account}
-use Rattle.link_account.proofs.Names.{is_connected, hear}
-use Rattle.lapm_sender.specs.Outgoing.{gone_back, wait_ended, paused_at}
+use Rattle.std.proofs.Common.{arith, refl, sym, ◌∙◌, ap, subst, Option, Some, None, Ok, zero, suc, ◌+◌, ◌&&◌, not, min, [], ◌∷◌}
+use Rattle.turn_losses.proofs.Names.{Rates, Sends, served_account, is_linked}
+use Rattle.turn_bound.proofs.Sender.{Heard, ended, heard-advanced, heard-resumed, acked-heard, meant-range}
+use Rattle.link_account.proofs.Names.{nat_tests, Frame, I, Rr, Rnr, Rej, meant, Outgoing, is_outstanding, resumed, Incoming, after_take}
+use Rattle.link_account.proofs.Names.{after_kind, kind_of, offset, Took, InOrder, Sent, Arrived, Account, is_connected, hear, Role, Offer}
+use Rattle.link_account.proofs.Names.{Terms, IsAllowed, agree, with_piece, wants, piece_size, on_nothing}
 use Rattle.lapm_receiver.specs.Incoming.{kind_at}
-use Rattle.link_account.proofs.HearWays.{by-linked, acked, acked_back, Plain, IsUa, IsXid, IsTest, IsNoWord}
-use Rattle.turn_bound.proofs.Sender.{meant-range}
-use Rattle.turn_losses.proofs.AnswerTurn.{connected-is}
+use Rattle.link_account.proofs.HearWays.{by-linked, acked, acked_back, Plain, by-early}
+use Rattle.turn_bound.proofs.Value.{connected-is}
 use Rattle.lapm_frames.specs.declared.sent.Sent.TheVariants as slots
 use Rattle.lapm_frames.specs.declared.arrived.Arrived.TheVariants as arrivals
+use Rattle.link_run.proofs.Names.{Phase, Negotiating, Establishing, Closed, User, offered_at, offered_times, room_for, piece_at}
+use Rattle.xid_params.specs.Terms.{default_offer, lowered}
+use Rattle.link_account.specs.Account.{window_for}
+use Rattle.turn_bound.proofs.Serving.{served-by}
+use Rattle.turn_bound.proofs.Truths.{unlinked-connected}
 
 -- the N(R) of a frame that acknowledges, and the N(S) of an I frame
 abbrev pub frame_nr : Frame → Option ℕ
@@ -64,9 +69,7 @@ kind-low InOrder o ns info i = omega (arith, length-append {A = List ℕ})
 kind-low p o ns info i = omega arith
 
 kind-owed : (k : Took) (o ns : ℕ) (info : List ℕ) (i : Incoming) → i.owed ≡ true → (after_kind k o info i).owed ≡ true
-kind-owed Kept o ns info i e = e
-kind-owed Gap o ns info i e = e
-kind-owed p o ns info i e = refl
+kind-owed p o ns info i e = grind (arith)
 
 in-order : (o ns : ℕ) (info : List ℕ) (i : Incoming) → length i.taken < length (after_kind InOrder o info i).taken
 in-order o ns info i = omega (arith, length-append {A = List ℕ})
@@ -96,44 +99,21 @@ record Fronted (n : ℕ) (o new : Outgoing) : Type 0 where
   pub front : new.front ≡ n
   pub advance : (n ≡ o.front) ⊎ (new.count ≡ 0)
 
-fronted-advanced : (o : Outgoing) (n : ℕ) → o.front ≤ n → Fronted n o (advanced o n)
-fronted-advanced o n low = record { window = refl; pieces = refl; front = refl; advance = go (cases_lt o.front n) }
+fronted : (n : ℕ) (o new : Outgoing) → Heard o new → new.front ≡ n → Fronted n o new
+fronted n o new h e = record { window = h.window; pieces = h.pieces; front = e; advance = go (nat_lt o.front new.front) refl }
   where
-    go : (o.front < n) ⊎ (n ≤ o.front) → (n ≡ o.front) ⊎ ((advanced o n).count ≡ 0)
-    go (inl l) = let e : nat_lt o.front n ≡ true = grind (arith, nat_tests, l) in inr (ap (λ b. cond b 0 o.count) e)
-    go (inr g) = inl (omega (arith, low, g))
+    go : (b : Bool) → nat_lt o.front new.front ≡ b → (n ≡ o.front) ⊎ (new.count ≡ 0)
+    go b f = grind (arith)
 
-fronted-gone : (n : ℕ) (o new : Outgoing) → Fronted n o new → Fronted n o (gone_back new)
-fronted-gone n o new h = record { window = h.window; pieces = h.pieces; front = h.front; advance = h.advance }
+acked-front : (final : Bool) (o : Outgoing) (n : ℕ) → ((acked final o n).front ≡ n) × ((acked_back final o n).front ≡ n)
+acked-front b o n = grind (arith)
 
-zero-kept : (b : Bool) (c : ℕ) → c ≡ 0 → cond b c 0 ≡ 0
-zero-kept true c e = e
-zero-kept false c e = refl
-
-fronted-ended : (n : ℕ) (o new : Outgoing) → Fronted n o new → Fronted n o (wait_ended new)
-fronted-ended n o new h = record { window = h.window; pieces = h.pieces; front = h.front; advance = by h.advance }
+resumed-front : (o : Outgoing) → (resumed o).front ≡ o.front
+resumed-front o = go o.paused
   where
-    by : (n ≡ o.front) ⊎ (new.count ≡ 0) → (n ≡ o.front) ⊎ ((wait_ended new).count ≡ 0)
-    by (inl e) = inl e
-    by (inr e) = inr (zero-kept (is_outstanding new || new.paused) new.count e)
-
-fronted-resumed : (n : ℕ) (o new : Outgoing) → Fronted n o new → Fronted n o (resumed new)
-fronted-resumed n o new h = go new.paused
-  where
-    by : (n ≡ o.front) ⊎ (new.count ≡ 0) → (n ≡ o.front) ⊎ (cond (is_outstanding new || new.awaited) new.count 0 ≡ 0)
-    by (inl e) = inl e
-    by (inr e) = inr (zero-kept (is_outstanding new || new.awaited) new.count e)
-
-    go : (p : Bool) → Fronted n o (cond p (record new { paused = false; count = cond (is_outstanding new || new.awaited) new.count 0 }) new)
-    go true = record { window = h.window; pieces = h.pieces; front = h.front; advance = by h.advance }
-    go false = h
-
-fronted-paused : (n : ℕ) (o new : Outgoing) → Fronted n o new → Fronted n o (paused_at new)
-fronted-paused n o new h = record { window = h.window; pieces = h.pieces; front = h.front; advance = inr refl }
-
-fronted-acked : (final : Bool) (o : Outgoing) (n : ℕ) → o.front ≤ n → Fronted n o (acked final o n) × Fronted n o (acked_back final o n)
-fronted-acked true o n l = let k = fronted-ended n o _ (fronted-advanced o n l) in (k, k)
-fronted-acked false o n l = let k = fronted-advanced o n l in (k, fronted-gone n o _ k)
+    go : (b : Bool) → (cond b (record o { paused = false; count = cond (is_outstanding o || o.awaited) o.count 0 }) o).front ≡ o.front
+    go true = refl
+    go false = refl
 
 -- nothing of it changes
 heard-same : (arrived : Arrived) (a b : Account) → nr_heard arrived ≡ None → ns_heard arrived ≡ None → b.outgoing ≡ a.outgoing
@@ -151,10 +131,10 @@ heard-same arrived a b x y o i s = record {
 
 -- a number is heard
 heard-number : (frame : Frame) (nr n : ℕ) (a b : Account) → frame_nr frame ≡ Some nr → meant a.outgoing.front a.outgoing.high nr ≡ Some n
-    → (a.outgoing.front ≤ n → Fronted n a.outgoing b.outgoing) → TakenOf (frame_ns frame) a.incoming b.incoming → b.numbered ≡ true
+    → Fronted n a.outgoing b.outgoing → TakenOf (frame_ns frame) a.incoming b.incoming → b.numbered ≡ true
     → b.special ≡ a.special → NumbersHeard (arrivals.Frame frame) a b
-heard-number frame nr n a b e m k taken numbered special =
-    let range = meant-range a.outgoing.front a.outgoing.high nr n m in let w = k range.0 in
+heard-number frame nr n a b e m w taken numbered special =
+    let range = meant-range a.outgoing.front a.outgoing.high nr n m in
     record {
       window = w.window;
       pieces = w.pieces;
@@ -168,25 +148,28 @@ heard-number frame nr n a b e m k taken numbered special =
     }
 
 plain-none : (frame : Frame) → Plain frame → (frame_nr frame ≡ None) × (frame_ns frame ≡ None)
-plain-none frame (IsUa pf e) = (ap frame_nr e, ap frame_ns e)
-plain-none frame (IsXid command pf info e) = (ap frame_nr e, ap frame_ns e)
-plain-none frame (IsTest command pf info e) = (ap frame_nr e, ap frame_ns e)
-plain-none frame (IsNoWord command pf info fault w e) = (ap frame_nr e, ap frame_ns e)
+plain-none frame b = grind (arith)
 
-pub numbers-heard : (arrived : Arrived) (turn : ℕ) (a mid : Account) → is_connected a.phase ≡ true → hear turn arrived a ≡ Ok mid
-    → NumbersHeard arrived a mid
-numbers-heard arrived turn a mid c e = by-linked (λ x b. NumbersHeard x a b) turn a (record {
+pub numbers-heard : (z : Rates) (arrived : Arrived) (turn : ℕ) (a mid : Account) → is_connected a.phase ≡ true
+    → Sends z turn turn a.outgoing a.wait.timer → hear turn arrived a ≡ Ok mid → NumbersHeard arrived a mid
+numbers-heard z arrived turn a mid c s e = by-linked (λ x b. NumbersHeard x a b) turn a (record {
   pattern = λ seen. heard-same _ a a refl refl refl refl refl;
   plain = λ frame p. let k = plain-none frame p in heard-same _ a a k.0 k.1 refl refl refl;
   numbers = record {
-    i = λ ns nr pf info n m. heard-number (I ns nr pf info) nr n a _ refl m (fronted-advanced a.outgoing n)
-        (takes-of ns info a.incoming) refl refl;
-    rr = λ command pf nr n final f m. heard-number (Rr command nr pf) nr n a _ refl m
-        (λ l. fronted-resumed n a.outgoing _ (fronted-acked final a.outgoing n l).0) (same-taken a.incoming) refl refl;
-    rej = λ command pf nr n final f m. heard-number (Rej command nr pf) nr n a _ refl m
-        (λ l. fronted-resumed n a.outgoing _ (fronted-acked final a.outgoing n l).1) (same-taken a.incoming) refl refl;
-    rnr = λ command pf nr n final f m. heard-number (Rnr command nr pf) nr n a _ refl m
-        (λ l. fronted-paused n a.outgoing _ (fronted-acked final a.outgoing n l).0) (same-taken a.incoming) refl refl;
+    i = λ ns nr pf info n m. let r = meant-range a.outgoing.front a.outgoing.high nr n m in
+        heard-number (I ns nr pf info) nr n a _ refl m (fronted n a.outgoing _
+        (heard-advanced z turn turn a.outgoing a.wait.timer n s r.0 r.1) refl) (takes-of ns info a.incoming) refl refl;
+    rr = λ command pf nr n final f m. heard-number (Rr command nr pf) nr n a _ refl m (fronted n a.outgoing _
+        (heard-resumed a.outgoing _ (acked-heard z turn turn a final command pf nr n s f m).0)
+        (resumed-front _ ∙ (acked-front final a.outgoing n).0)) (same-taken a.incoming) refl refl;
+    rej = λ command pf nr n final f m. heard-number (Rej command nr pf) nr n a _ refl m (fronted n a.outgoing _
+        (heard-resumed a.outgoing _ (acked-heard z turn turn a final command pf nr n s f m).1)
+        (resumed-front _ ∙ (acked-front final a.outgoing n).1)) (same-taken a.incoming) refl refl;
+    rnr = λ command pf nr n final f m.
+        let k = (acked-heard z turn turn a final command pf nr n s f m).0 in
+        heard-number (Rnr command nr pf) nr n a _ refl m
+        (record { window = k.window; pieces = k.pieces; front = (acked-front final a.outgoing n).0; advance = inr refl })
+        (same-taken a.incoming) refl refl;
     srej = λ command pf nr n f m. record {
       window = refl;
       pieces = refl;
@@ -203,3 +186,90 @@ numbers-heard arrived turn a mid c e = by-linked (λ x b. NumbersHeard x a b) tu
   brk = λ command pf info number length_octet q. heard-same _ a _ refl refl refl refl refl;
   brkack = λ command pf info number length_octet q. heard-same _ a _ refl refl refl refl refl;
 }) (heard-same _ a _ refl refl refl refl refl) arrived mid (connected-is a.phase c) e
+
+-- What a Connected end was offered fits into its window, which is one of seven bits.
+pub record Room (a : Account) : Type 0 where
+  pub window : a.outgoing.window ≤ 127
+  pub pieces : length a.outgoing.pieces ≤ a.outgoing.front + a.outgoing.window
+
+abbrev pub Fits : Terms → Type 0
+Fits terms = (terms.window_o ≤ 127) × (terms.window_a ≤ 127)
+
+first-less : (srej : Bool) (m n : ℕ) → m ≤ 127 → lowered srej (min m n) ≤ 127
+first-less b m n l = grind (arith)
+
+second-less : (srej : Bool) (m n : ℕ) → n ≤ 127 → lowered srej (min m n) ≤ 127
+second-less b m n l = grind (arith)
+
+pub fits-second : (o a : Offer) → IsAllowed a → Fits (agree o a)
+fits-second o a h = (
+  second-less (o.srej && a.srej) o.tx_window a.rx_window h.rx_window_high,
+  first-less (o.srej && a.srej) a.tx_window o.rx_window h.tx_window_high,
+)
+
+fits-for : (role : Role) (terms : Terms) → Fits terms → window_for role terms ≤ 127
+fits-for b terms h = grind (arith)
+
+-- becoming Connected
+pub record BeginsWith (b : Account) : Type 0 where
+  pub so : is_connected b.phase ≡ true → (b.outgoing.window ≤ 127) × (length b.outgoing.pieces ≡ 0) × (b.outgoing.count ≡ 0)
+
+not-connected : (b : Account) (p : Phase) → b.phase ≡ p → is_connected p ≡ false → BeginsWith b
+not-connected b p e f = record { so = λ h. let wrong : true ≡ false = sym h ∙ (ap is_connected e ∙ f) in cc }
+
+pub begins-roomy : (arrived : Arrived) (turn : ℕ) (a mid : Account) → is_linked a.phase ≡ false → Fits a.terms → IsAllowed a.setup.offer
+    → hear turn arrived a ≡ Ok mid → BeginsWith mid
+begins-roomy arrived turn a mid l h own e = by-early (λ x b. BeginsWith b) turn a (record {
+  ignores = λ x f. stays a refl;
+  detects = λ p r. not-connected _ Negotiating refl refl;
+  detected = λ p r. stays _ refl;
+  xid = λ p r pf info offer f. not-connected _ Negotiating refl refl;
+  agrees = λ p r pf info offer f. not-connected _ Establishing refl refl;
+  sabme_first = λ p r pf. record {
+    so = λ c. (fits-for a.setup.role (agree default_offer a.setup.offer) (fits-second default_offer a.setup.offer own), refl, refl);
+  };
+  sabme = λ p r pf. record { so = λ c. (fits-for a.setup.role a.terms h, refl, refl) };
+  ua = λ p. record { so = λ c. (fits-for a.setup.role a.terms h, refl, refl) };
+  disc = λ p pf. stays _ refl;
+  closes = λ p frame f. not-connected _ Closed refl refl;
+}) (stays (on_nothing a) refl) arrived mid (unlinked-connected a.phase l) e
+  where
+    stays : (b : Account) → b.phase ≡ a.phase → BeginsWith b
+    stays b f = not-connected b a.phase f (unlinked-connected a.phase l)
+
+-- offers go on while there is room
+abbrev HasRoom : Outgoing → Type 0
+HasRoom o = length o.pieces ≤ o.front + o.window
+
+piece-room : (piece : List ℕ) (o : Outgoing) → length o.pieces < o.front + o.window → HasRoom o → HasRoom (with_piece piece o)
+piece-room [] o l h = h
+piece-room (octet ∷ octets) o l h = omega (arith, l, length-append {A = List ℕ})
+
+offer-room : (file : List ℕ) (a : Account) → HasRoom a.outgoing → HasRoom (offered_at file a (wants a)).outgoing
+offer-room file a h =
+    go (is_connected a.phase) (not a.outgoing.ended) (nat_lt (length a.outgoing.pieces) (a.outgoing.front + a.outgoing.window)) refl
+  where
+    go : (c e l : Bool) → nat_lt (length a.outgoing.pieces) (a.outgoing.front + a.outgoing.window) ≡ l
+        → HasRoom (offered_at file a (cond c (cond (e && l) (Some (length a.outgoing.pieces)) None) None)).outgoing
+    go false e l q = h
+    go true false l q = h
+    go true true false q = h
+    go true true true q = let less : length a.outgoing.pieces < a.outgoing.front + a.outgoing.window = grind (arith, nat_tests, q) in
+        piece-room (piece_at (piece_size a) file (length a.outgoing.pieces)) a.outgoing less h
+
+offers-room : (n : ℕ) (file : List ℕ) (a : Account) → HasRoom a.outgoing → HasRoom (offered_times n file a).outgoing
+offers-room zero file a h = h
+offers-room (suc n) file a h = offers-room n file (offered_at file a (wants a)) (offer-room file a h)
+
+-- what serving an end leaves
+pub record ServedLeft (a b : Account) : Type 0 where
+  pub taken : b.incoming.taken ≡ a.incoming.taken
+  pub owed : b.incoming.owed ≡ a.incoming.owed
+  pub room : HasRoom a.outgoing → HasRoom b.outgoing
+
+pub served-left : (user : User) (turn : ℕ) (released : Bool) (a : Account) → ServedLeft a (served_account user turn released a)
+served-left user turn released a = let s = served-by user turn released a in subst (ServedLeft a) (sym s.is) (record {
+  taken = refl;
+  owed = refl;
+  room = λ h. offers-room (room_for s.from) user.file s.from (subst HasRoom (sym s.from_is) h);
+})

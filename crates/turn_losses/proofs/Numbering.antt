@@ -7,14 +7,13 @@ use Rattle.link_account.specs.Account.{first_terms}
 use Rattle.link_account.specs.Laws.{TakesInOrder, AcknowledgesTaken}
 use Rattle.link_run.specs.Laws.{RunsArePlays, HearingsArePlays, IsPlayed}
 use Rattle.link_run.specs.Overheard.{AgreesByXid, has_passed, is_xid, agreed_terms}
-use Rattle.turn_losses.proofs.Tracing.{release_of, untimed-of}
-use Rattle.turn_losses.proofs.NumberHear.{ns_sent}
+use Rattle.turn_losses.proofs.Tracing.{release_of, end-turn, starts-fresh}
+use Rattle.turn_bound.proofs.Value.{unlinked-of}
+use Rattle.turn_losses.proofs.NumberHear.{ns_sent, Room, Fits, fits-second}
 use Rattle.turn_losses.proofs.NumberTurn.{NumberTurn, number-turn, Begins, begins-turn}
-use Rattle.turn_losses.proofs.Room.{Room, Fits, fits-second}
 use Rattle.turn_losses.proofs.Acknowledged.{Counts}
-use Rattle.turn_losses.proofs.PeriodHolds.{SendsFirst, end-answered}
+use Rattle.turn_losses.proofs.Expiries.{SendsFirst, end-answered}
 use Rattle.turn_losses.proofs.Names.{rates, is_linked, past, sent_or, TimedRun, end_of}
-use Rattle.turn_losses.proofs.EndTurn.{end-turn, starts-fresh}
 
 -- what the laws of plays and of frames say
 pub record Plays : Type 0 where
@@ -115,7 +114,7 @@ counts-of laws w m role = record {
         let i = g.in_turn in
         subst Begins (sym g.after)
         (begins-turn i (release_of w.link t (w.deed t).mid r) g.says (ap (λ (x : Account). is_connected x.phase) (sym g.after) ∙ cc')
-        (untimed-of (rates w.tries w.period) t t r (of r (w.state t)).phase (of r (w.state t)) i.stands ua)
+        (unlinked-of (rates w.tries w.period) t t r (of r (w.state t)).phase (of r (w.state t)) i.stands ua).timer
         (fits-terms r t l) (subst IsAllowed (ap (λ x. x.offer) (sym i.setup)) (allowed w.link m r)) ua)
 
     rooms : (r : Role) (t : ℕ) → t ≤ length w.ts → is_connected (of r (w.state t)).phase ≡ true → Room (of r (w.state t))

@@ -1,44 +1,35 @@
 -- An answerer that gives up, also while the originator releases.
 use Rattle.std.proofs.Common.{◌⊎◌, inl, inr, ◌≡◌, ◌≢◌, ℕ, zero, suc, ◌+◌, ◌-◌, ◌*◌, ◌<◌, ◌≤◌, ◌&&◌, ◌||◌, not, Bool, true, false, cond}
-use Rattle.std.proofs.Common.{nat_eq, max, List, ◌∷◌, length, arith, refl, sym, ◌∙◌, ap, subst, Option, Some, None, Ok, Err}
+use Rattle.std.proofs.Common.{nat_eq, max, List, ◌∷◌, length, arith, refl, sym, ◌∙◌, ap, subst, Some, None, Ok, Err}
+use Rattle.turn_bound.proofs.Truths.{neither-first, and-two, clash, is-true}
+use Rattle.turn_bound.proofs.Value.{linked-of, connected-is}
+use Rattle.turn_bound.proofs.Speaking.{stopped}
 use Rattle.link_account.proofs.Names.{cases_lt, nat_tests, Role, Originator, Answerer, is_originator, Outgoing, ReadsWritten, waits}
 use Rattle.link_account.proofs.Names.{Arrived, LinkFault, Spent, Account, is_connected, hear, trying, MayPlay, Said, speak, speak_in}
-use Rattle.link_account.proofs.Names.{speak_linked, speak_releasing, is_some, other}
-use Rattle.link_run.proofs.Names.{Phase, Detecting, Negotiating, Establishing, Connected, Releasing, Closed, is_released, is_closed}
-use Rattle.link_run.proofs.Names.{next_break, Link, Accounts, Turn, Hears, arrival, served_at, releases, Carries}
+use Rattle.link_account.proofs.Names.{speak_linked, speak_releasing, other}
+use Rattle.link_run.proofs.Names.{Phase, Detecting, Connected, Releasing, Closed, is_released, is_closed, next_break, Link, Accounts, Turn}
+use Rattle.link_run.proofs.Names.{Hears, arrival, served_at, releases, Carries}
 use Rattle.lapm_sender.specs.Outgoing.{is_whole}
-use Rattle.link_account.specs.Speak.{speak_detecting, speak_negotiating}
 use Rattle.link_run.specs.End.{is_ready}
 use Rattle.link_run.specs.Run.{BrokenTurn, finished_at, served_ends}
 use Rattle.link_run.specs.Starved.{SpanLoses, IsStarved}
-use Rattle.turn_losses.proofs.Truths.{and-two, clash, is-true}
 use Rattle.turn_losses.proofs.Periods.{once, later-loses, loses-at, loses-last, loses-of}
 use Rattle.turn_losses.specs.Losses.{AnswererWantsAnswers}
 use Rattle.turn_losses.proofs.PollHear.{linked-connected}
-use Rattle.turn_losses.proofs.AnswerTurn.{connected-is, linked-sends}
-use Rattle.turn_losses.proofs.Tracing.{timed-run, longer}
+use Rattle.turn_losses.proofs.Tracing.{timed-run, longer, EndTurn, TurnAt, end-turn, last-turn, starts-fresh}
 use Rattle.turn_losses.proofs.Numbering.{Plays, counts-of}
-use Rattle.turn_losses.proofs.LineLaw.{is-heard, last-heard}
-use Rattle.turn_losses.proofs.PollLaws.{two-ends, turned, due-apart}
-use Rattle.turn_losses.proofs.PeriodLaws.{linked-on, answer-comes, NoneLost, StayConnected, connected-since}
-use Rattle.turn_losses.proofs.PeriodHolds.{LostIn, lost-or-none, period-cleared}
-use Rattle.turn_losses.proofs.Expiries.{Uncleared, expiries}
-use Rattle.turn_losses.proofs.HeardCount.{CountKept, count-hears}
-use Rattle.turn_losses.proofs.HeardPaused.{PausedHeard}
-use Rattle.turn_losses.proofs.Awaiting.{await-hears}
+use Rattle.turn_losses.proofs.PeriodLaws.{is-heard, last-heard, two-ends, turned, due-apart, linked-on, answer-comes, NoneLost}
+use Rattle.turn_losses.proofs.PeriodLaws.{StayConnected, connected-since}
+use Rattle.turn_losses.proofs.Expiries.{LostIn, lost-or-none, period-cleared, Uncleared, expiries}
+use Rattle.turn_losses.proofs.HeardNumber.{CountKept, count-hears, PausedHeard, await-hears}
 use Rattle.std.specs.Prelude.{nat_lt}
 use Rattle.turn_losses.proofs.Acknowledged.{Counts}
-use Rattle.turn_losses.proofs.Wanting.{LastTry, last-try}
+use Rattle.turn_losses.proofs.Wanting.{LastTry, last-try, peer-linked}
 use Rattle.turn_losses.specs.Tries.{AnswererWantsAnswer}
-use Rattle.turn_losses.proofs.Moving.{asks, try-heard, linked-phase}
-use Rattle.turn_losses.proofs.TryAnswering.{can_answer, answer-due}
+use Rattle.turn_losses.proofs.Moving.{asks, try-heard, linked-phase, can_answer, answer-due}
 use Rattle.turn_losses.proofs.Trying.{TryTurn, TriesSo, Tried, tried, tries-so}
 use Rattle.turn_losses.proofs.Names.{Rates, rates, Sends, Stands, of_arrived, is_lost, PeriodLoses, LosesEach, is_linked, EndRun, TwoEnds}
 use Rattle.turn_losses.proofs.Names.{hears_final, TimedRun, end_of}
-use Rattle.turn_losses.proofs.EndTurn.{EndTurn, TurnAt, end-turn, last-turn, starts-fresh}
-use Rattle.turn_losses.proofs.Answerer.{peer-linked}
-use Rattle.lapm_frames.specs.declared.sent.Sent.TheVariants as slots
-use Rattle.lapm_frames.specs.declared.arrived.Arrived.TheVariants as arrivals
 
 abbrev IsFree : Account → Type 0
 IsFree a = (a.outgoing.awaited ≡ false) × (a.outgoing.paused ≡ false)
@@ -122,8 +113,7 @@ pub record Released (link : Link) (t : ℕ) (mid : Accounts) : Type 0 where
   pub connected : is_connected (served_at link t mid Answerer).account.phase ≡ true
 
 not-either : (x : Bool) → not x ≡ true → x ≡ false
-not-either true e = cc
-not-either false e = refl
+not-either b e = grind (arith)
 
 pub told-release : (link : Link) (t : ℕ) (mid : Accounts) → releases link t mid ≡ true → Released link t mid
 told-release link t mid e = go (is_connected a.phase) refl
@@ -139,14 +129,10 @@ told-release link t mid e = go (is_connected a.phase) refl
         let x = and-two (is_whole a.outgoing) _ f in
         record {
           done = x.0;
-          breaks = first (waits a.own_breaks) (is_ready t (next_break link.answ.user.breaks a))
+          breaks = neither-first (waits a.own_breaks) (is_ready t (next_break link.answ.user.breaks a))
               (not-either _ x.1);
           connected = q;
         }
-      where
-        first : (x y : Bool) → x || y ≡ false → x ≡ false
-        first true y g = cc
-        first false y g = refl
     go false q f = cc
 
 -- where a Connected originator comes to release, it was told
@@ -179,9 +165,7 @@ whole-is : (o : Outgoing) → is_whole o ≡ true → o.front ≡ length o.piece
 whole-is o e = let x = (and-two o.ended (nat_eq o.front (length o.pieces)) e).1 in grind (arith, nat_tests, x)
 
 pub connected-or : (p : Phase) → is_linked p ≡ true → is_connected p ≡ false → (p ≡ Releasing) ⊎ (p ≡ Closed)
-connected-or Releasing l c = inl refl
-connected-or Closed l c = inr refl
-connected-or p l c = cc
+connected-or p l c = grind (arith)
 
 -- when it was told
 pub told-at : ReadsWritten → (w : TimedRun) → MayPlay w.link.orig.setup w.link.answ.setup → (u : ℕ) → u ≤ length w.ts
@@ -240,7 +224,7 @@ told-at reads w m (suc u) y q = subst (ToldIn w (end_of w Originator)) (next u)
 -- where the answerer is told in a turn that it is whole, its clock runs for a poll or a pause alone
 whole-stops : (w : TimedRun) → (v : ℕ) → v < length w.ts → Released w.link v (w.deed v).mid → (w.deed v).mid.answ.outgoing.awaited ≡ false
     → (w.deed v).mid.answ.outgoing.paused ≡ false → (w.deed v).mid.answ.wait.timer ≡ None
-whole-stops w v b told f g = none m.wait.timer (sends.cause ∙ still (nat_lt m.outgoing.front m.outgoing.high) idle)
+whole-stops w v b told f g = stopped m.wait.timer (sends.cause ∙ still (nat_lt m.outgoing.front m.outgoing.high) idle)
   where
     m : Account
     m = (w.deed v).mid.answ
@@ -249,8 +233,8 @@ whole-stops w v b told f g = none m.wait.timer (sends.cause ∙ still (nat_lt m.
     i = (end-turn w Answerer v b).in_turn
 
     sends : Sends (rates w.tries w.period) (v + 1) v m.outgoing m.wait.timer
-    sends = linked-sends (rates w.tries w.period) (v + 1) v Answerer i.phase m i.heard.stands
-        (ap is_connected (sym i.heard.phase) ∙ (ap is_connected (sym i.served.phase) ∙ told.connected))
+    sends = (linked-of (rates w.tries w.period) (v + 1) v Answerer i.phase m i.heard.stands
+        (ap is_connected (sym i.heard.phase) ∙ (ap is_connected (sym i.served.phase) ∙ told.connected))).sends
 
     idle : nat_lt m.outgoing.front m.outgoing.high ≡ false
     idle =
@@ -259,12 +243,7 @@ whole-stops w v b told f g = none m.wait.timer (sends.cause ∙ still (nat_lt m.
         let done : m.outgoing.high ≤ m.outgoing.front = omega (arith, all, front, longer, high) in grind (arith, nat_tests, done)
 
     still : (x : Bool) → x ≡ false → x || (m.outgoing.awaited || m.outgoing.paused) ≡ false
-    still true q = cc
-    still false q = ap (λ y. y || m.outgoing.paused) f ∙ g
-
-    none : (timer : Option ℕ) → is_some timer ≡ false → timer ≡ None
-    none None q = refl
-    none (Some x) q = cc
+    still b q = grind (arith)
 
 disc-heard : (arrived : Arrived) (turn : ℕ) (a mid : Account) → a.setup.role ≡ Answerer → is_connected a.phase ≡ true
     → of_arrived (asks Releasing) arrived ≡ true → hear turn arrived a ≡ Ok mid → is_connected mid.phase ≡ false
@@ -386,34 +365,31 @@ parted-each laws reads w may t mid cs hearing cm om last n less = at-expiry
         by (inr soon) = disc-lost s q' within un.connected soon
         by (inl late) = on (lost-or-none e o (s + 1) (w.period - 1))
           where
-            before-end : v.turn < turns
-            before-end = v.before
-
             linked-s : is_linked (o.account s).phase ≡ true
             linked-s =
                 let from = (k.own s (omega (arith, within, long))).made_from un.made (linked-connected (e.account s).phase un.connected) in
                 peer-linked w s (omega (arith, within, long)) un.connected from.1 from.2
 
             co : StayConnected o s v.turn
-            co = λ u lo hi. connected-since k' s v.turn (omega (arith, before-end)) linked-s
-                (v.was (linked-on k' s v.turn (omega (arith, lo, hi)) (omega (arith, before-end)) linked-s)) u lo hi
+            co = λ u lo hi. connected-since k' s v.turn (omega (arith, v.before)) linked-s
+                (v.was (linked-on k' s v.turn (omega (arith, lo, hi)) (omega (arith, v.before)) linked-s)) u lo hi
 
             on : LostIn e o (s + 1) (w.period - 1) ⊎ NoneLost e o (s + 1) (w.period - 1) → PeriodLoses w.period turns (t ∷ w.ts) n
             on (inl lost) = later-loses w.period t w.ts n (loses-of w Answerer s n long q' lost)
             on (inr none) = absurd (elim (cases_lt v.turn (s + w.period)) [
               | inl b ↦ parted-stops k c s v.turn within b late un co
                   (await-hears (e.heard v.turn) v.turn (e.account v.turn) (e.mid v.turn) at-v i.hears)
-                  (whole-stops w v.turn before-end v.told) (count-hears z (e.heard v.turn) v.turn (e.account v.turn) (e.mid v.turn) at-v
-                  (linked-sends z v.turn v.turn Answerer (e.account v.turn).phase (e.account v.turn) i.stands at-v) i.hears) none
+                  (whole-stops w v.turn v.before v.told) (count-hears z (e.heard v.turn) v.turn (e.account v.turn) (e.mid v.turn) at-v
+                  (linked-of z v.turn v.turn Answerer (e.account v.turn).phase (e.account v.turn) i.stands at-v).sends i.hears) none
               | inr g ↦ (let r = period-cleared k c s within un.made un.on (λ u lo hi. co u lo (omega (arith, hi, g))) none in
                   un.uncleared r.0 r.1 r.2 r.3)
             ])
               where
                 i : TurnAt w Answerer v.turn
-                i = (end-turn w Answerer v.turn before-end).in_turn
+                i = (end-turn w Answerer v.turn v.before).in_turn
 
                 at-v : is_connected (e.account v.turn).phase ≡ true
-                at-v = on-from s un.connected v.turn (omega (arith, late, p)) (omega (arith, before-end))
+                at-v = on-from s un.connected v.turn (omega (arith, late, p)) (omega (arith, v.before))
 
 -- so the run was starved
 pub all-but-last : (tries period : ℕ) (delay : Role → ℕ) (t : Turn) (ts : List Turn) → LosesEach period tries (length ts) (t ∷ ts)
@@ -437,13 +413,7 @@ pub answerer-connected : (z : Rates) (before turn : ℕ) (b : Account) (q : Phas
 answerer-connected z before turn b q fault st e r h = go q e st (ap (λ x. speak_in x turn false b) (sym e) ∙ h)
   where
     go : (x : Phase) → b.phase ≡ x → Stands z before turn Answerer x b → speak_in x turn false b ≡ Err fault → is_connected b.phase ≡ true
-    go Detecting f s q = let there : speak_detecting Answerer turn b ≡ Err fault = ap (λ y. speak_detecting y turn b) (sym r) ∙ q in cc
-    go Negotiating f s q = let there : speak_negotiating Answerer turn b ≡ Err fault = ap (λ y. speak_negotiating y turn b) (sym r)
-        ∙ q in cc
-    go Establishing f s q = absurd s
-    go Connected f s q = ap is_connected f
-    go Releasing f s q = absurd s
-    go Closed f s q = cc
+    go b f s q = grind (arith)
 
 pub answerer-gives-up : (w : TimedRun) (t : Turn) (mid : Accounts) (fault : LinkFault) → BrokenTurn w.link w.ts w.ends t mid Answerer fault
     → is_connected mid.answ.phase ≡ true

@@ -1,13 +1,246 @@
-use Rattle.std.proofs.Common.{◌⊎◌, inl, inr, ◌≡◌, ℕ, zero, suc, ◌+◌, ◌<◌, ◌≤◌, Bool, true, false, cond, arith, refl, ◌∙◌, ap, subst}
-use Rattle.link_account.proofs.Names.{is_connected}
-use Rattle.turn_losses.proofs.KeepsPolls.{Answers, StillAwaited}
-use Rattle.turn_losses.proofs.LineLaw.{is-heard}
-use Rattle.turn_losses.proofs.PollLaws.{turned, due-apart, reply-at-once, poll-fresh, polls-apart, reply-matches}
-use Rattle.turn_losses.proofs.Names.{is_poll, is_final, is_linked, poll_due, EndRun, TwoEnds, sends_poll, hears_poll, sends_final}
-use Rattle.turn_losses.proofs.Names.{hears_final}
-use Rattle.turn_losses.proofs.Truths.{clash, not-true, is-true, or-late}
-use Rattle.turn_losses.proofs.Clocks.{last}
+-- What holds of polls and their answers in every run.
+use Rattle.std.specs.Prelude.{◌≡◌, ℕ, ◌+◌, ◌<◌, ◌≤◌, true, false}
+use Rattle.link_account.specs.Account.{Account, is_connected}
+use Rattle.turn_losses.proofs.Names.{poll_due, EndRun, sends_poll, hears_poll, sends_final, hears_final, is_lost, past, sent_or, of_frame}
+use Rattle.turn_losses.proofs.Names.{of_arrived, ArrivesLate, arrives-flag, TimedRun, end_of, is_poll, is_final, TwoEnds, is_linked}
+use Rattle.std.proofs.Common.{inl, inr, zero, suc, ◌-◌, Bool, cond, List, [], ◌∷◌, length, arith, refl, sym, ◌∙◌, ap, subst, Some, None}
+use Rattle.std.proofs.Common.{◌⊎◌, ◌*◌}
+use Rattle.link_account.proofs.Names.{cases_lt, Role, Frame, Sent, Arrived, arrives, slice_get, other, of, Originator, Answerer}
+use Rattle.link_run.proofs.Names.{arrival, sent_in, Carries, Turn}
+use Rattle.turn_bound.proofs.Tied.{sent_of, none-heard, one-heard}
+use Rattle.turn_losses.proofs.PollsFresh.{WasSent, Polls, Fresh, polls-fresh, sent-soon, sent-apart}
+use Rattle.turn_losses.proofs.Tracing.{past-all, past-length, starts-fresh}
+use Rattle.lapm_frames.specs.declared.arrived.Arrived.TheVariants as arrivals
 use Rattle.turn_losses.proofs.Kept.{kept-in, kept-on}
+use Rattle.turn_bound.proofs.Truths.{clash, not-true, is-true, or-late}
+use Rattle.turn_losses.proofs.Clocks.{last}
+
+-- What a response with F = 1 answers: a poll sent a round trip before, which became due in that turn or the one before it; none became due
+-- since.
+pub record Answers (turn : ℕ) (e o : EndRun) : Type 0 where
+  pub sent : ℕ  -- the turn in which the poll was sent
+  pub round_trip : sent + (e.delay + o.delay) ≡ turn
+  pub is_sent : sends_poll e sent ≡ true
+  pub due : ℕ  -- the turn in which it became due
+  pub due_before : due ≤ sent
+  pub due_soon : sent ≤ due + 1
+  pub made : e.made due ≡ true
+  pub none_since : (t : ℕ) → due < t → t ≤ turn → e.made t ≡ true → ⊥
+
+pub record StillAwaited (a : Account) : Type 0 where
+  pub awaited : a.outgoing.awaited ≡ true
+  pub none_due : poll_due a ≡ false
+
+-- the turn so many turns ago
+pub looked : (w : TimedRun) → (k t : ℕ) → t + k < length w.ts → slice_get (past w.ts (t + k + 1)) k ≡ Some (w.deed t).turn
+looked w zero t l = ap (λ n. slice_get (past w.ts n) 0) (omega arith) ∙ ap (λ us. slice_get us 0) (w.trace.grows t (omega (arith, l)))
+looked w (suc k) t l = ap (λ n. slice_get (past w.ts n) (suc k)) (omega arith)
+    ∙ (ap (λ us. slice_get us (suc k)) (w.trace.grows (t + k + 1) (omega (arith, l))) ∙ looked w k t (omega (arith, l)))
+
+get-none : {A : Type 0} (xs : List A) (k : ℕ) → length xs ≤ k → slice_get xs k ≡ None
+get-none [] k l = refl
+get-none (x ∷ xs) zero l = absurd (omega (arith, l))
+get-none (x ∷ xs) (suc k) l = get-none xs k (omega (arith, l))
+
+-- what a line carries in a turn of a run, or in the one behind it
+pub carries-late : (w : TimedRun) (t : ℕ) → t ≤ length w.ts → (x : Turn) → Carries w.delay (past w.ts t) x → (role : Role)
+    → ArrivesLate (w.delay (other role)) t (is_lost (of role x).heard) (end_of w (other role)).slot (arrival (of role x).heard)
+carries-late w t within x carries role = record { early = early; late = late }
+  where
+    d : ℕ
+    d = w.delay (other role)
+
+    one : 1 ≤ d
+    one = w.keeps.delays (other role)
+
+    early : t < d → arrival (of role x).heard ≡ arrivals.Nothing
+    early l = let number = past-length w.ts t within in
+        sym (none-heard (sent_in (other role) (slice_get (past w.ts t) (d - 1))) (of role x).heard
+        (ap (sent_in (other role)) (get-none (past w.ts t) (d - 1) (omega (arith, number, l)))) (carries role))
+
+    late : d ≤ t → arrival (of role x).heard ≡ cond (is_lost (of role x).heard) arrivals.Nothing
+        (arrives ((end_of w (other role)).slot (t - d)))
+    late g =
+        let turn : slice_get (past w.ts t) (d - 1) ≡ Some (w.deed (t - d)).turn =
+        ap (λ n. slice_get (past w.ts n) (d - 1)) (omega (arith, g, one)) ∙ looked w (d - 1) (t - d) (omega (arith, g, one, within)) in
+        let s = (w.trace.happens (t - d) (omega (arith, g, within, one))).speaking (other role) in
+        sym (one-heard (sent_in (other role) (slice_get (past w.ts t) (d - 1))) ((end_of w (other role)).slot (t - d)) (of role x).heard
+        (ap (λ m. sent_of (sent_in (other role) m)) turn ∙ (ap sent_of s.sent_is ∙ ap (λ m. Some (sent_or m)) (sym s.sent_is)))
+        (carries role))
+
+-- both lines of a run
+pub arrives-late : (w : TimedRun) → (role : Role) → (t : ℕ) → t < length w.ts
+    → ArrivesLate (w.delay (other role)) t ((end_of w role).loses t) (end_of w (other role)).slot ((end_of w role).heard t)
+arrives-late w role t within = carries-late w t (omega (arith, within)) (w.deed t).turn (w.trace.happens t within).carries role
+
+-- a frame of some kind that is heard was sent
+pub was-sent : {delay turns : ℕ} {f : ℕ → Sent} {arrived : ℕ → Arrived} {loses : ℕ → Bool} (kind : Frame → Bool)
+    → ((t : ℕ) → t < turns → ArrivesLate delay t (loses t) f (arrived t))
+    → WasSent delay turns (λ t. of_arrived kind (arrived t)) (λ t. of_frame kind (f t))
+was-sent {delay} {turns} {f} {arrived} {loses} kind h t within is_heard = elim (cases_lt t delay) [
+  | inl l ↦ (let wrong : false ≡ true = ap (of_arrived kind) (sym ((h t within).early l)) ∙ is_heard in cc)
+  | inr g ↦ (g, by (loses t) (ap (of_arrived kind) (sym ((h t within).late g)) ∙ is_heard))
+]
+  where
+    by : (b : Bool) → of_arrived kind (cond b arrivals.Nothing (arrives (f (t - delay)))) ≡ true → of_frame kind (f (t - delay)) ≡ true
+    by b e = grind (arith)
+
+-- what is sent is heard unless it is lost
+pub is-heard : {delay turns : ℕ} {f : ℕ → Sent} {arrived : ℕ → Arrived} {loses : ℕ → Bool} (kind : Frame → Bool)
+    → ((t : ℕ) → t < turns → ArrivesLate delay t (loses t) f (arrived t))
+    → (t : ℕ) → t + delay < turns → loses (t + delay) ≡ false → of_arrived kind (arrived (t + delay)) ≡ of_frame kind (f t)
+is-heard {delay} {turns} {f} {arrived} {loses} kind h t within passes =
+    let back : t + delay - delay ≡ t = omega arith in
+    ap (of_arrived kind) ((h (t + delay) within).late (omega arith)
+    ∙ (ap (λ b. cond b arrivals.Nothing (arrives (f (t + delay - delay)))) passes ∙ ap (λ n. arrives (f n)) back))
+    ∙ arrives-flag kind (f t)
+
+-- what one role sent so long before the last turn arrives in it, unless it is lost
+pub last-heard : (kind : Frame → Bool) (w : TimedRun) (t : Turn) → Carries w.delay w.ts t → (r : Role) (s : ℕ)
+    → s + w.delay (other r) ≡ length w.ts → is_lost (of r t).heard ≡ false
+    → of_arrived kind (arrival (of r t).heard) ≡ of_frame kind ((end_of w (other r)).slot s)
+last-heard kind w t cs r s same f = ap (of_arrived kind)
+    ((carries-late w (length w.ts) (omega arith) t (subst (λ us. Carries w.delay us t) (sym (past-all w.ts)) cs) r).late
+    (omega (arith, same))
+    ∙ (ap (λ b. cond b arrivals.Nothing (arrives ((end_of w (other r)).slot (length w.ts - w.delay (other r))))) f
+    ∙ ap (λ n. arrives ((end_of w (other r)).slot n)) (omega (arith, same)))) ∙ arrives-flag kind ((end_of w (other r)).slot s)
+
+pub two-ends : (w : TimedRun) → (role : Role) → TwoEnds w.period (length w.ts) (end_of w role) (end_of w (other role))
+two-ends w role = record {
+  own = λ t l. (w.trace.happens t l).polls role;
+  other = λ t l. (w.trace.happens t l).polls (other role);
+  hears = arrives-late w role;
+  is_heard = heard role;
+  own_first = none role;
+  other_first = none (other role);
+  own_delay = w.keeps.delays role;
+  other_delay = w.keeps.delays (other role);
+  period_is = sum role;
+}
+  where
+    heard : (r : Role) → (t : ℕ) → t < length w.ts
+        → ArrivesLate (w.delay r) t (is_lost (of (other r) (w.deed t).turn).heard) (λ n. sent_or (of r (w.deed n).turn).sent)
+        (arrival (of (other r) (w.deed t).turn).heard)
+    heard Originator = arrives-late w Answerer
+    heard Answerer = arrives-late w Originator
+
+    none : (r : Role) → poll_due (of r (w.state 0)) ≡ false
+    none r = ap poll_due (starts-fresh w r)
+
+    sum : (r : Role) → w.period ≡ 2 * (w.delay r + w.delay (other r)) + 16
+    sum b = grind (arith)
+
+-- the same seen from the other end
+pub turned : {period turns : ℕ} {e o : EndRun} → TwoEnds period turns e o → TwoEnds period turns o e
+turned {period} {turns} {e} {o} k = record {
+  own = k.other;
+  other = k.own;
+  hears = k.is_heard;
+  is_heard = k.hears;
+  own_first = k.other_first;
+  other_first = k.own_first;
+  own_delay = k.other_delay;
+  other_delay = k.own_delay;
+  period_is = let p = k.period_is in omega (arith, p);
+}
+
+-- Polls that became due at one end are a period apart: while its clock runs, it was set no earlier than the last of them.
+pub record SetSince (s : ℕ) (a : Account) : Type 0 where
+  pub linked : is_linked a.phase ≡ true
+  pub set : is_connected a.phase ≡ true → (r : ℕ) → a.wait.timer ≡ Some r → s ≤ r
+
+pub set-since : {period turns : ℕ} {e o : EndRun} → TwoEnds period turns e o → (s : ℕ) → e.made s ≡ true → (t : ℕ) → s < t → t ≤ turns
+    → SetSince s (e.account t)
+set-since {period} {turns} {e} {o} k s m t less within = kept-in (λ u. SetSince s (e.account u)) (s + 1) t (omega (arith, less)) later
+    (record { linked = (k.own s first).made_linked m; set = λ c r w. let v = (k.own s first).made_timer m c r w in omega (arith, v) })
+  where
+    first : s < turns
+    first = omega (arith, less, within)
+
+    later : (u : ℕ) → s + 1 ≤ u → u < t → SetSince s (e.account u) → SetSince s (e.account (u + 1))
+    later u lo hi i = let q = k.own u (omega (arith, hi, within)) in
+        record {
+          linked = q.linked i.linked;
+          set = λ c r w. let z = q.timer c i.linked in elim (z.1 r w) [
+            | inl v ↦ omega (arith, v, lo)
+            | inr v ↦ i.set z.0 r v
+          ];
+        }
+
+own-polls : {period turns : ℕ} {e o : EndRun} → TwoEnds period turns e o
+    → Polls period turns (λ t. poll_due (e.account t)) e.made (sends_poll e) (hears_poll e)
+own-polls {period} {turns} {e} {o} k = record {
+  none_at_first = k.own_first;
+  due_from = λ t l d m. (k.own t l).due_from d m;
+  held_up = λ t l d. (k.own t l).held_up d;
+  sent_from = λ t l d m. (k.own t l).sent_from d m;
+  sent_done = λ t l d. (k.own t l).sent_done d;
+  apart = λ s t less within m n.
+      let i = set-since k s m t less (omega (arith, within)) in
+      let w = (k.own t within).made_from n i.linked in
+      let far : s ≤ w.1 = i.set w.0 w.1 w.2 in
+      let due = w.3 in omega (arith, far, due);
+}
+
+-- Polls due at one end became due at least a period apart.
+pub due-apart : {period turns : ℕ} {e o : EndRun} → TwoEnds period turns e o → (s t : ℕ) → s < t → t < turns → e.made s ≡ true
+    → e.made t ≡ true → s + period ≤ t
+due-apart {period} {turns} {e} {o} k = (own-polls k).apart
+
+-- A poll that is still due between turns became due in the last one.
+pub poll-fresh : {period turns : ℕ} {e o : EndRun} → TwoEnds period turns e o → Fresh turns (λ t. poll_due (e.account t)) e.made
+poll-fresh {period} {turns} {e} {o} k =
+    let p = k.period_is in
+    (polls-fresh period e.delay o.delay turns (λ t. poll_due (e.account t)) e.made (sends_poll e) (hears_poll e)
+    (λ t. poll_due (o.account t)) o.made (sends_poll o) (hears_poll o) (omega (arith, p)) k.own_delay k.other_delay
+    (own-polls k) (own-polls (turned k)) (was-sent is_poll k.hears) (was-sent is_poll k.is_heard)).0
+
+-- Polls are sent at least a period less one turn apart.
+pub polls-apart : {period turns : ℕ} {e o : EndRun} → TwoEnds period turns e o → (s t : ℕ) → s < t → t < turns → sends_poll e s ≡ true
+    → sends_poll e t ≡ true → s + period ≤ t + 1
+polls-apart {period} {turns} {e} {o} k =
+    sent-apart period turns (λ t. poll_due (e.account t)) e.made (sends_poll e) (hears_poll e) (own-polls k)
+    (poll-fresh k)
+
+-- A poll that became due goes in that turn or in the next one.
+pub poll-soon : {period turns : ℕ} {e o : EndRun} → TwoEnds period turns e o → (t : ℕ) → t < turns → sends_poll e t ≡ true
+    → (e.made t ≡ true) ⊎ ((s : ℕ) × (t ≡ s + 1) × (e.made s ≡ true) × (poll_due (e.account t) ≡ true))
+poll-soon {period} {turns} {e} {o} k =
+    sent-soon period turns (λ t. poll_due (e.account t)) e.made (sends_poll e) (hears_poll e) (own-polls k)
+    (poll-fresh k)
+
+pub reply-matches : {period turns : ℕ} {e o : EndRun} → TwoEnds period turns e o → (t : ℕ) → t < turns → hears_final e t ≡ true
+    → Answers t e o
+reply-matches {period} {turns} {e} {o} k t within h = elim (poll-soon k sent (omega (arith, within)) asked.1) [
+  | inl m ↦ answers sent (omega arith) (omega arith) m
+  | inr z ↦ answers z.0 (omega (arith, z.1)) (omega (arith, z.1)) z.2
+]
+  where
+    replied : (o.delay ≤ t) × (sends_final o (t - o.delay) ≡ true)
+    replied = was-sent is_final k.hears t within h
+
+    asked : (e.delay ≤ t - o.delay) × (sends_poll e (t - o.delay - e.delay) ≡ true)
+    asked = was-sent is_poll k.is_heard (t - o.delay) (omega (arith, within))
+        ((k.other (t - o.delay) (omega (arith, within))).replied replied.1)
+
+    sent : ℕ
+    sent = t - o.delay - e.delay
+
+    back : sent + (e.delay + o.delay) ≡ t
+    back = let x = asked.0 in let y = replied.0 in omega (arith, x, y)
+
+    answers : (due : ℕ) → due ≤ sent → sent ≤ due + 1 → e.made due ≡ true → Answers t e o
+    answers due before soon made = record {
+      sent = sent;
+      round_trip = back;
+      is_sent = asked.1;
+      due = due;
+      due_before = before;
+      due_soon = soon;
+      made = made;
+      none_since = λ x l m n. let far = due-apart k due x l (omega (arith, m, within)) made n in let p = k.period_is in
+          omega (arith, far, m, soon, back, p);
+    }
 
 -- an end that was Connected stays so, or is told to release or Closed, for good
 pub linked-on : {period turns : ℕ} {e o : EndRun} → TwoEnds period turns e o → (s t : ℕ) → s ≤ t → t ≤ turns
@@ -31,17 +264,8 @@ pub awaits-on : {period turns : ℕ} {e o : EndRun} → TwoEnds period turns e o
     → (m : Answers t e o) → (u : ℕ) → m.due < u → u ≤ t → (e.account u).outgoing.awaited ≡ true
 awaits-on {period} {turns} {e} {o} k t within c m = awaits
   where
-    trip : m.sent + (e.delay + o.delay) ≡ t
-    trip = m.round_trip
-
-    due-before : m.due ≤ m.sent
-    due-before = m.due_before
-
-    due-soon : m.sent ≤ m.due + 1
-    due-soon = m.due_soon
-
     before : m.due < t
-    before = omega (arith, trip, due-before, k.own_delay)
+    before = omega (arith, m.round_trip, m.due_before, k.own_delay)
 
     linked : is_linked (e.account (m.due + 1)).phase ≡ true
     linked = (k.own m.due (omega (arith, before, within))).made_linked m.made
@@ -56,9 +280,9 @@ awaits-on {period} {turns} {e} {o} k t within c m = awaits
         let w = reply-matches k u (omega (arith, g, within)) q in
         let there = w.round_trip in
         let far : w.sent + period ≤ m.sent + 1 =
-        polls-apart k w.sent m.sent (omega (arith, there, trip, g))
-        (omega (arith, trip, within)) w.is_sent m.is_sent in
-        let wrong : ⊥ = omega (arith, far, there, trip, l, due-soon, k.period_is) in absurd wrong
+        polls-apart k w.sent m.sent (omega (arith, there, m.round_trip, g))
+        (omega (arith, m.round_trip, within)) w.is_sent m.is_sent in
+        let wrong : ⊥ = omega (arith, far, there, m.round_trip, l, m.due_soon, k.period_is) in absurd wrong
 
     awaits : (u : ℕ) → m.due < u → u ≤ t → (e.account u).outgoing.awaited ≡ true
     awaits u l g = kept-in (λ v. (e.account v).outgoing.awaited ≡ true) (m.due + 1) u (omega (arith, l)) later
@@ -80,11 +304,8 @@ still-awaited {period} {turns} {e} {o} k t within c h =
     m : Answers t e o
     m = reply-matches k t within h
 
-    due-before : m.due ≤ m.sent
-    due-before = m.due_before
-
     before : m.due < t
-    before = omega (arith, m.round_trip, due-before, k.own_delay)
+    before = omega (arith, m.round_trip, m.due_before, k.own_delay)
 
     none : (b : Bool) → poll_due (e.account t) ≡ b → poll_due (e.account t) ≡ false
     none false q = q
@@ -92,7 +313,7 @@ still-awaited {period} {turns} {e} {o} k t within c h =
       where
         at : (x : ℕ) → t ≡ x → poll_due (e.account t) ≡ false
         at zero g = let wrong : ⊥ = omega (arith, g, before) in absurd wrong
-        at (suc x) g = absurd (m.none_since x (omega (arith, g, m.round_trip, due-before, k.own_delay, k.other_delay)) (omega (arith, g))
+        at (suc x) g = absurd (m.none_since x (omega (arith, g, m.round_trip, m.due_before, k.own_delay, k.other_delay)) (omega (arith, g))
             (poll-fresh k x (omega (arith, g, within)) (subst (λ n. poll_due (e.account n) ≡ true) (omega (arith, g)) q)))
 
 -- A poll that became due at an end that was Connected goes in that turn or the next one.
@@ -136,7 +357,7 @@ answer-comes {period} {turns} {e} {o} k s within m ce co lost =
         is-heard is_poll k.is_heard q (omega (arith, high, within))
         (lost (q + e.delay) (omega (arith, low, k.own_delay)) (omega (arith, high))).1 ∙ sent in
         let replied : sends_final o (q + e.delay) ≡ true =
-        reply-at-once (turned k) (q + e.delay) (omega (arith, high, within)) polled
+        (k.other (q + e.delay) (omega (arith, high, within))).replies polled
         (co (q + e.delay) (omega (arith, low)) (omega (arith, high)))
         (co (q + e.delay + 1) (omega (arith, low)) (omega (arith, high, k.other_delay))) in
         let answered : hears_final e (q + e.delay + o.delay) ≡ true =

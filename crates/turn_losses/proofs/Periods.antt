@@ -1,15 +1,14 @@
 -- A loss of a turn as one of a period, counted back from the last turn.
 use Rattle.std.proofs.Common.{◌≡◌, inl, inr, ℕ, suc, ◌+◌, ◌-◌, ◌*◌, ◌<◌, ◌≤◌, true, List, ◌∷◌, length, arith, sym, ◌∙◌, ap, subst, Some}
-use Rattle.link_account.proofs.Names.{slice_get, Role, other, of, Heard, Lost}
+use Rattle.link_account.proofs.Names.{slice_get, Role, other, of, Heard}
 use Rattle.link_run.proofs.Names.{Turn, LosesSome}
 use Rattle.link_run.specs.Starved.{IsLost, turn_at}
 use Rattle.turn_losses.proofs.Names.{is_lost, PeriodLoses, TimedRun, end_of}
-use Rattle.turn_losses.proofs.PeriodHolds.{LostIn}
+use Rattle.turn_losses.proofs.Expiries.{LostIn}
 use Rattle.turn_losses.proofs.Keeping.{turn-is}
 
 pub lost-is : (h : Heard) → is_lost h ≡ true → IsLost h
-lost-is (Lost s) e = tt
-lost-is p e = cc
+lost-is p e = grind (arith)
 
 pub once : (period n : ℕ) → (n + 1) * period ≡ n * period + period
 once period n = omega arith

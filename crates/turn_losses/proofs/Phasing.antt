@@ -1,16 +1,33 @@
--- An answerer begins only once the originator establishes the link.
-use Rattle.std.proofs.Common.{◌⊎◌, inl, inr, ◌≡◌, ℕ, ◌+◌, ◌≤◌, Bool, true, false, length, refl, sym, ◌∙◌, ap, subst, Ok, ◌<◌}
+-- How the phases of both ends stand together between the turns of a run.
+use Rattle.std.proofs.Common.{◌≡◌, ℕ, ◌<◌, true, length, map, ◌⊎◌, inl, inr, ◌+◌, ◌≤◌, Bool, false, refl, sym, ◌∙◌, ap, subst, Ok}
+use Rattle.link_run.proofs.Names.{is_released, is_closed, Accounts, Phase, Detecting, Negotiating, Establishing}
+use Rattle.turn_bound.proofs.Meeting.{Meets, meets-run, speaks-so}
+use Rattle.turn_bound.proofs.Ending.{fits}
+use Rattle.turn_bound.proofs.Tied.{Tied, tied, keeps, link_of, turn_of, state_of}
+use Rattle.turn_losses.proofs.Names.{rates, is_begun, TimedRun, past, Stands, of_frame, of_arrived, end_of}
 use Rattle.link_account.proofs.Names.{Originator, Answerer, Arrived, Account, hear, Said, speak}
-use Rattle.link_run.proofs.Names.{Phase, Detecting, Negotiating, Establishing}
 use Rattle.link_account.proofs.HearWays.{numbers-alike}
-use Rattle.turn_bound.proofs.MeetSpeak.{speaks-so}
 use Rattle.link_run.proofs.Speaking.{speaks-phase}
 use Rattle.turn_losses.proofs.Establishing.{is_sabme, says-sabme}
-use Rattle.turn_losses.proofs.Tracing.{release_of}
-use Rattle.turn_losses.proofs.Names.{rates, Stands, is_begun, of_frame, of_arrived, TimedRun, end_of}
+use Rattle.turn_losses.proofs.Tracing.{release_of, end-turn}
 use Rattle.turn_losses.proofs.Follows.{follows}
-use Rattle.turn_losses.proofs.EndTurn.{end-turn}
 use Rattle.link_account.proofs.HearWays as HearWays
+
+-- An answerer is Closed only where the originator is told to release, and begins before it.
+pub record Met (ends : Accounts) : Type 0 where
+  pub closed : is_closed ends.answ.phase ≡ true → is_released ends.orig.phase ≡ true
+  pub begun : is_begun ends.orig.phase ≡ true → is_begun ends.answ.phase ≡ true
+
+pub met : (w : TimedRun) → (u : ℕ) → u < length w.ts → Met (w.state u)
+met w u l =
+    let h = w.trace.happens u l in
+    let i : Tied w.delay w.link (past w.ts u) (w.state u) = tied w.delay w.link (past w.ts u) (w.state u) w.keeps.delays h.run h.carried in
+    let m : Meets (state_of (w.state u) i.forward i.back) = meets-run (rates w.tries w.period) (link_of w.delay w.link)
+    (map turn_of (past w.ts u)) (state_of (w.state u) i.forward i.back)
+    (fits w.tries w.period (link_of w.delay w.link) (keeps w.tries w.period w.delay w.link w.keeps)) i.run in
+    record { closed = m.closed; begun = m.begun }
+
+-- An answerer begins only once the originator establishes the link.
 
 -- only a SABME begins an answerer
 begun-by : (arrived : Arrived) (turn : ℕ) (a mid : Account) → a.setup.role ≡ Answerer → (a.phase ≡ Establishing → ⊥)

@@ -1,10 +1,10 @@
-use Rattle.std.proofs.Common.{◌⊎◌, inl, inr, ◌≡◌, ℕ, ◌||◌, Bool, true, false, refl, sym, ◌∙◌, ap, Option, Some, None, Ok}
+use Rattle.std.proofs.Common.{arith, ◌⊎◌, inl, inr, ◌≡◌, ℕ, ◌||◌, Bool, true, false, refl, sym, ◌∙◌, ap, Option, Some, None, Ok}
 use Rattle.link_account.proofs.Names.{Role, Originator, Answerer, Arrived, Account, is_connected, is_originator, hear, on_nothing}
 use Rattle.link_account.proofs.Names.{without_adp}
 use Rattle.link_run.proofs.Names.{Phase, Connected}
 use Rattle.link_account.specs.Hear.{first_wait}
 use Rattle.link_account.proofs.HearWays.{ConnectedWays, EarlyWays, by-ways}
-use Rattle.turn_losses.proofs.Truths.{or-false}
+use Rattle.turn_bound.proofs.Truths.{or-false}
 use Rattle.turn_losses.proofs.HeardNumber.{number-rows, plain-frame}
 use Rattle.turn_losses.proofs.Names.{is_poll, of_arrived, SetFrom, is_linked}
 
@@ -27,8 +27,7 @@ pub record PollHeard (role : Role) (turn : ℕ) (polled : Bool) (a b : Account) 
   pub awaits : role ≡ Originator → is_linked a.phase ≡ false → is_connected b.phase ≡ true → b.outgoing.awaited ≡ true
 
 pub linked-connected : (p : Phase) → is_connected p ≡ true → is_linked p ≡ true
-linked-connected Connected e = refl
-linked-connected p e = cc
+linked-connected p e = grind (arith)
 
 -- before it is Connected, and after
 unlinked-heard : (role : Role) (turn : ℕ) (polled : Bool) (a b : Account) → is_linked a.phase ≡ false → is_connected b.phase ≡ false
@@ -107,8 +106,7 @@ stays-heard : (role : Role) (turn : ℕ) (polled : Bool) (p : Phase) (a b : Acco
 stays-heard role turn polled p a b e f c w n = go (is_linked p) refl
   where
     go : (x : Bool) → is_linked p ≡ x → PollHeard role turn polled a b
-    go true q = ended-heard role turn polled a b (ap is_linked f ∙ q) (ap is_connected f ∙ c) w n
-    go false q = unlinked-heard role turn polled a b (ap is_linked e ∙ q) (ap is_connected f ∙ c) (ap (λ x. x.poll) w) n
+    go b q = grind (arith)
 
 connected-begins : (role : Role) (turn : ℕ) (polled : Bool) (a b : Account) (r : Role) → role ≡ r → is_linked a.phase ≡ false
     → b.phase ≡ Connected → b.owes.reply ≡ a.owes.reply → b.numbered ≡ a.numbered → b.wait ≡ first_wait r turn a.wait

@@ -1,7 +1,26 @@
-use Rattle.std.proofs.Common.{◌⊎◌, inl, inr, ◌≡◌, ℕ, zero, suc, ◌+◌, ◌-◌, ◌<◌, ◌≤◌, Bool, true, false, arith, refl, sym, ◌∙◌, subst}
+-- Polls and their answers, by the turn.
+use Rattle.std.specs.Prelude.{◌≡◌, ℕ, ◌+◌, ◌-◌, ◌<◌, ◌≤◌, Bool, true, false}
+use Rattle.std.proofs.Common.{◌⊎◌, inl, inr, zero, suc, arith, refl, sym, ◌∙◌, subst}
 use Rattle.std.proofs.lemmas.Bool.{cases_lt}
-use Rattle.turn_losses.proofs.Polls.{Polls, WasSent, Fresh}
 use Rattle.turn_losses.proofs.Clocks.{last}
+
+-- What an end does about its polls in so many turns. A poll is due between turns (before a turn), becomes due in a turn, is sent in one,
+-- and one of the other end's is heard in one.
+pub record Polls (period turns : ℕ) (due made sent heard : ℕ → Bool) : Type 0 where
+  pub none_at_first : due 0 ≡ false
+  pub due_from : (t : ℕ) → t < turns → due (t + 1) ≡ true → made t ≡ false → due t ≡ true
+  pub held_up : (t : ℕ) → t < turns → due (t + 1) ≡ true → heard t ≡ true
+  pub sent_from : (t : ℕ) → t < turns → sent t ≡ true → made t ≡ false → due t ≡ true
+  pub sent_done : (t : ℕ) → t < turns → sent t ≡ true → due (t + 1) ≡ false
+  pub apart : (s t : ℕ) → s < t → t < turns → made s ≡ true → made t ≡ true → s + period ≤ t
+
+-- what is heard was sent, as long before as the line's delay
+abbrev pub WasSent : ℕ → ℕ → (ℕ → Bool) → (ℕ → Bool) → Type 0
+WasSent delay turns heard sent = (t : ℕ) → t < turns → heard t ≡ true → (delay ≤ t) × (sent (t - delay) ≡ true)
+
+-- a poll that is due between turns became due in the last one
+abbrev pub Fresh : ℕ → (ℕ → Bool) → (ℕ → Bool) → Type 0
+Fresh turns due made = (t : ℕ) → t < turns → due (t + 1) ≡ true → made t ≡ true
 
 -- One more turn, for one end: a poll that is due after it became due in it. Else it was held up twice, by two polls of the other end in
 -- turns that follow one another.

@@ -1,33 +1,106 @@
--- An answerer that gives up while its break waits was starved: one period is let off, that in which the originator becomes Connected.
-use Rattle.std.proofs.Common.{◌⊎◌, inl, inr, ◌≡◌, ◌≢◌, ℕ, ◌+◌, ◌-◌, ◌*◌, ◌<◌, ◌≤◌, Bool, true, false, max, List, ◌∷◌, length, arith, refl}
-use Rattle.std.proofs.Common.{sym, ◌∙◌, ap, subst, Ok, cond, nat_lt}
-use Rattle.link_account.proofs.Names.{cases_lt, Role, Originator, Answerer, of, ReadsWritten, waits, is_connected, MayPlay, other, Account}
-use Rattle.link_account.proofs.Names.{Arrived, hear, nat_tests}
-use Rattle.link_run.proofs.Names.{Phase, Detecting, Establishing, Connected, Closed, is_closed, Accounts, Turn, Hears, arrival, served_at}
-use Rattle.link_run.proofs.Names.{Carries, LosesSome}
+-- While an answerer's break waits, the originator isn't told to release.
+use Rattle.std.proofs.Common.{◌⊎◌, inl, inr, ◌≡◌, ℕ, ◌+◌, ◌<◌, ◌≤◌, Bool, true, false, length, arith, refl, sym, ◌∙◌, ap, Ok, ◌≢◌, ◌-◌, ◌*◌}
+use Rattle.std.proofs.Common.{max, List, ◌∷◌, subst, cond, nat_lt}
+use Rattle.link_account.proofs.Names.{Originator, Answerer, ReadsWritten, waits, Arrived, Account, is_connected, MayPlay, hear, cases_lt}
+use Rattle.link_account.proofs.Names.{Role, of, other, nat_tests, LinkFault}
+use Rattle.link_run.proofs.Names.{Phase, Releasing, Closed, User, is_released, is_closed, served_at, Detecting, Establishing, Accounts}
+use Rattle.link_run.proofs.Names.{Turn, Hears, arrival, Carries, LosesSome}
+use Rattle.turn_bound.proofs.MeetHear.{o-hears}
+use Rattle.turn_bound.proofs.Serving.{serves-own}
+use Rattle.turn_bound.proofs.Truths.{clash, is-true, not-true}
+use Rattle.turn_losses.proofs.PollHear.{linked-connected}
+use Rattle.turn_bound.proofs.Value.{connected-is}
+use Rattle.turn_losses.proofs.PeriodLaws.{two-ends, connected-since, is-heard, last-heard, linked-on}
+use Rattle.turn_losses.proofs.Moving.{try-heard, asks, moves_on}
+use Rattle.turn_losses.proofs.Parting.{told-at, connected-or, parted-each, all-but-last}
+use Rattle.turn_losses.proofs.BreakHear.{break-heard}
+use Rattle.turn_losses.proofs.View.{waits-are, deeds-of}
+use Rattle.turn_losses.proofs.Names.{served_account, is_linked, TimedRun, end_of, is_begun, of_frame, of_arrived, is_lost, PeriodLoses}
+use Rattle.turn_losses.proofs.Names.{EndRun, TwoEnds, StandTogether, GivesUpForLosses}
+use Rattle.turn_losses.proofs.Tracing.{end-turn, last-turn, release_of, timed-run}
+use Rattle.turn_losses.proofs.Kept.{kept-in, all-or-one}
 use Rattle.link_run.specs.Starved.{SpanLoses, IsStarved, turn_at}
-use Rattle.turn_losses.proofs.Truths.{not-true, clash}
 use Rattle.turn_losses.proofs.Keeping.{turn-is}
 use Rattle.turn_losses.proofs.Periods.{lost-is, later-turn, newest, times, once}
-use Rattle.turn_losses.proofs.LineLaw.{is-heard, last-heard}
-use Rattle.turn_losses.proofs.PollLaws.{two-ends}
-use Rattle.turn_losses.proofs.PeriodLaws.{linked-on}
-use Rattle.turn_losses.proofs.Moving.{asks, moves_on, try-heard}
 use Rattle.turn_losses.proofs.Phasing.{is_established, stays-established, begun-established}
 use Rattle.turn_losses.proofs.Trying.{Tried, tried, tries-so, answers-so}
 use Rattle.turn_losses.proofs.BreakTurn.{number_of}
-use Rattle.turn_losses.proofs.View.{deeds-of}
 use Rattle.turn_losses.proofs.Flight.{no-sabme-heard, only-establishing}
 use Rattle.turn_losses.proofs.Waiting.{BreakPeriod}
-use Rattle.turn_losses.proofs.Losing.{connected-loses}
-use Rattle.turn_losses.proofs.Spending.{LastWait}
-use Rattle.turn_losses.proofs.Ending.{periods-of, number-small, none-last}
-use Rattle.turn_losses.proofs.Peering.{peer-connected, not-closed}
-use Rattle.turn_losses.proofs.Names.{is_begun, of_frame, of_arrived, is_lost, PeriodLoses, is_linked, EndRun, TwoEnds, TimedRun, end_of}
+use Rattle.turn_losses.proofs.Losing.{connected-loses, LastWait, periods-of, number-small, none-last, last-wait, originator-breaks}
 use Rattle.turn_losses.proofs.Words.{ack_of, of_word}
-use Rattle.turn_losses.proofs.EndTurn.{end-turn, last-turn}
-use Rattle.turn_losses.proofs.Kept.{all-or-one}
+use Rattle.link_account.specs.Account.{break_waits}
+use Rattle.link_run.specs.Run.{BrokenTurn}
+use Rattle.turn_losses.proofs.Numbering.{Plays}
+use Rattle.turn_losses.proofs.Wanting.{SpendsTries, LastTry, SpendsBreak, connected-spends, last-tries, originator-each, all-but-one}
+use Rattle.turn_losses.proofs.Wanting.{answerer-each}
+use Rattle.turn_losses.specs.Breaks.{GivesUpStarved}
+use Rattle.turn_losses.proofs.InTurn.{InTurn}
 
+-- no break is taken once the originator is told to release
+no-take : (user : User) (turn : ℕ) (released : Bool) (mid : Account) → released ≡ true
+    → (served_account user turn released mid).own_breaks ≡ mid.own_breaks
+no-take user turn false mid e = cc
+no-take user turn true mid e = serves-own user turn mid
+
+-- so none waits from then on
+unasked : (w : TimedRun) → (v : ℕ) → v < length w.ts → waits (served_at w.link v (w.deed v).mid Answerer).account.own_breaks ≡ false
+    → (t : ℕ) → v < t → t ≤ length w.ts → ((u : ℕ) → v < u → u ≤ t → (w.state u).orig.phase ≡ Releasing)
+    → is_linked (w.state (v + 1)).answ.phase ≡ true → is_connected (w.state t).answ.phase ≡ true → waits (w.state t).answ.own_breaks ≡ false
+unasked w v l none t before b rel linked c = kept-in (λ u. waits (w.state u).answ.own_breaks ≡ false) (v + 1) t (omega (arith, before)) step
+    (waits-are w Answerer v l (on (v + 1) (omega arith) (omega (arith, before))) ∙ none)
+  where
+    on : (u : ℕ) → v + 1 ≤ u → u ≤ t → is_connected (w.state u).answ.phase ≡ true
+    on = connected-since (two-ends w Answerer) (v + 1) t b linked c
+
+    step : (u : ℕ) → v + 1 ≤ u → u < t → waits (w.state u).answ.own_breaks ≡ false → waits (w.state (u + 1)).answ.own_breaks ≡ false
+    step u lo hi f =
+        let mid : Account = (w.deed u).mid.answ in
+        let i = (end-turn w Originator u (omega (arith, hi, b))).in_turn in
+        let g = end-turn w Answerer u (omega (arith, hi, b)) in
+        let now = on (u + 1) (omega (arith, lo)) (omega (arith, hi)) in
+        let released = (o-hears ((end_of w Originator).heard u) u (w.state u).orig (w.deed u).mid.orig i.role_is i.hears).released
+        (ap is_released (rel u (omega (arith, lo)) (omega (arith, hi)))) in
+        waits-are w Answerer u (omega (arith, hi, b)) now
+        ∙ (ap waits (no-take w.link.answ.user u (is_released (w.deed u).mid.orig.phase) mid released)
+        ∙ elim (break-heard ((end_of w Answerer).heard u) u (w.state u).answ mid
+        (connected-is (w.state u).answ.phase (on u lo (omega (arith, hi)))) (g.connected now) g.in_turn.hears).own [
+          | inl q ↦ ap waits q.0 ∙ f
+          | inr x ↦ clash (waits (w.state u).answ.own_breaks) x.0 f
+        ])
+
+-- an originator that isn't Closed as it has heard wasn't before
+unclosed : (arrived : Arrived) (turn : ℕ) (a mid : Account) → a.setup.role ≡ Originator → hear turn arrived a ≡ Ok mid
+    → is_closed mid.phase ≡ false → a.phase ≡ Closed → mid.phase ≡ Releasing
+unclosed arrived turn a mid r h n e = go mid.phase refl
+    ((o-hears arrived turn a mid r h).released (ap is_released e)) n
+  where
+    go : (p : Phase) → mid.phase ≡ p → is_released p ≡ true → is_closed p ≡ false → p ≡ Releasing
+    go p q x y = grind (arith)
+
+pub not-closed : (arrived : Arrived) (turn : ℕ) (a mid : Account) → a.setup.role ≡ Originator → hear turn arrived a ≡ Ok mid
+    → is_closed mid.phase ≡ false → a.phase ≡ Closed → ⊥
+not-closed arrived turn a mid r h n e = elim (try-heard arrived turn a mid r h Releasing refl (unclosed arrived turn a mid r h n e)) [
+  | inl x ↦ (let wrong : Closed ≡ Releasing = sym e ∙ x.0 in cc)
+  | inr z ↦ z.1 refl
+]
+
+-- Where the originator is linked as an answerer's break waits, it is Connected.
+pub peer-connected : ReadsWritten → (w : TimedRun) → MayPlay w.link.orig.setup w.link.answ.setup → (u : ℕ) → u ≤ length w.ts
+    → ((w.state u).orig.phase ≡ Closed → ⊥) → is_linked (w.state u).orig.phase ≡ true → is_connected (w.state u).answ.phase ≡ true
+    → waits (w.state u).answ.own_breaks ≡ true → is_connected (w.state u).orig.phase ≡ true
+peer-connected reads w m u b open-so l c wt = is-true (is_connected (w.state u).orig.phase)
+    (λ e. elim (connected-or (w.state u).orig.phase l e) [ inl q ↦ told q | inr q ↦ open-so q ])
+  where
+    told : (w.state u).orig.phase ≡ Releasing → ⊥
+    told e =
+        let v = told-at reads w m u b e in
+        let x = v.before in
+        let g = end-turn w Answerer v.turn (omega (arith, x, b)) in
+        clash (waits (w.state u).answ.own_breaks) wt (unasked w v.turn (omega (arith, x, b)) v.told.breaks u x b v.since
+        (g.linked ∙ linked-connected (w.deed v.turn).mid.answ.phase (ap is_connected (sym g.in_turn.served.phase) ∙ v.told.connected)) c)
+
+-- An answerer that gives up while its break waits was starved: one period is let off, that in which the originator becomes Connected.
 pub of-period : (period : ℕ) (delay : Role → ℕ) (t : Turn) (ts : List Turn) (n : ℕ) → PeriodLoses period (length ts) (t ∷ ts) n
     → SpanLoses period (max (delay Originator) (delay Answerer)) (t ∷ ts) n
 of-period period delay t ts n h = let behind = h.in_period.behind in let before = h.in_period.before in record {
@@ -41,8 +114,7 @@ max-second : (a b : ℕ) → b ≤ max a b
 max-second a b = grind (arith)
 
 connected-begun : (p : Phase) → is_connected p ≡ true → is_begun p ≡ true
-connected-begun Connected e = refl
-connected-begun p e = cc
+connected-begun p e = grind (arith)
 
 -- a span of the run with its last turn loses something
 abbrev Loses : TimedRun → Turn → ℕ → Type 0
@@ -105,9 +177,6 @@ unlinked-loses reads w may t cs mid hearing s n q answ un later = sabme (is_lost
     before-x : i.set ≤ x
     before-x = let b = i.before in omega (arith, b)
 
-    after-x : x + 1 ≤ i.set + w.period
-    after-x = i.within
-
     u : ℕ
     u = i.set + o.delay
 
@@ -115,7 +184,7 @@ unlinked-loses reads w may t cs mid hearing s n q answ un later = sabme (is_lost
     u-in = omega (arith, before-x, within, k.period_is, k.other_delay)
 
     u-low : s < u + e.delay
-    u-low = omega (arith, after-x, k.period_is)
+    u-low = omega (arith, i.within, k.period_is)
 
     u-high : u + e.delay ≤ s + w.period
     u-high = omega (arith, before-x, k.period_is)
@@ -297,3 +366,83 @@ answerer-breaks reads w may t mid cs hearing going cm l waiting = elim (all-or-o
       | inl z ↦ absurd (one-joins w mid n m z x joins)
       | inr z ↦ elim (cases_lt m n) [ inl y ↦ absurd (one-joins w mid m n y joins x) | inr y ↦ absurd (other (omega (arith, z, y))) ]
     ]
+
+-- Whatever an end gives up for, the run was starved.
+pub record Base : Type 0 where
+  pub plays : Plays
+  pub together : StandTogether
+  pub reads : ReadsWritten
+  pub quiet : GivesUpForLosses
+
+only-releasing : (q : Phase) → is_released q ≡ true → is_closed q ≡ false → q ≡ Releasing
+only-releasing p g h = grind (arith)
+
+waiting-is : (c w : Bool) → cond c w false ≡ true → (c ≡ true) × (w ≡ true)
+waiting-is b w e = grind (arith)
+
+pub gives-up-starved : Base → GivesUpStarved
+gives-up-starved laws tries period delay link ts before t mid role fault kt run cs broken = by (break_waits b) refl
+  where
+    turns : ℕ
+    turns = length ts
+
+    b : Account
+    b = (served_at link turns mid role).account
+
+    by : (x : Bool) → break_waits b ≡ x → IsStarved tries period delay (t ∷ ts)
+    by false q = (laws.quiet tries period delay link ts before t mid role fault kt run cs broken q).starved
+    by true q = go role fault broken (waiting-is (is_connected b.phase) (waits b.own_breaks) q)
+      where
+        whole : TimedRun
+        whole = timed-run tries period delay link ts before kt run.run run.carried
+
+        at : (r : Role) → InTurn tries period link r turns (of r before) (arrival (of r t).heard) (of r mid)
+            (served_at link turns mid r).account
+        at = last-turn whole t mid broken.hearing
+
+        long : (r : Role) → 1 ≤ (served_at link turns mid r).account.setup.period
+        long r = let i = at r in omega (arith, i.b_period, i.long)
+
+        mid-connected : (r : Role) → is_connected (served_at link turns mid r).account.phase ≡ true → is_connected (of r mid).phase ≡ true
+        mid-connected r c = ap is_connected (sym (at r).served.phase) ∙ c
+
+        try-of : (r : Role) → is_connected (of r mid).phase ≡ true → SpendsTries turns (served_at link turns mid r).account
+            → LastTry tries period turns (of r before)
+        try-of = last-tries laws.plays whole run.may_play t mid broken.hearing
+
+        wait-of : (r : Role) → is_connected (of r mid).phase ≡ true → SpendsBreak turns (served_at link turns mid r).account
+            → LastWait tries period turns (of r before)
+        wait-of r = last-wait (at r)
+
+        orig : is_connected mid.orig.phase ≡ true → waits (served_at link turns mid Originator).account.own_breaks ≡ true
+            → SpendsTries turns (served_at link turns mid Originator).account ⊎ SpendsBreak turns
+            (served_at link turns mid Originator).account → IsStarved tries period delay (t ∷ ts)
+        orig cm w (inl s) = all-but-one tries period delay t ts
+            (originator-each laws.plays laws.together whole run.may_play (try-of Originator cm s))
+        orig cm w (inr s) =
+            let each = originator-breaks laws.together whole t mid cs broken.hearing cm
+            (wait-of Originator cm s) w in
+            record { spared = tries + 1; each = λ n few other. of-period period delay t ts n (each n (omega (arith, few))) }
+
+        answ : is_connected mid.answ.phase ≡ true → waits (served_at link turns mid Answerer).account.own_breaks ≡ true
+            → SpendsTries turns (served_at link turns mid Answerer).account ⊎ SpendsBreak turns
+            (served_at link turns mid Answerer).account → IsStarved tries period delay (t ∷ ts)
+        answ cm w (inl s) = on (is_released mid.orig.phase) refl
+          where
+            on : (x : Bool) → is_released mid.orig.phase ≡ x → IsStarved tries period delay (t ∷ ts)
+            on false f = all-but-one tries period delay t ts
+                (answerer-each laws.plays whole run.may_play t mid broken.hearing f (try-of Answerer cm s))
+            on true f = all-but-last tries period delay t ts
+                (parted-each laws.plays laws.reads whole run.may_play t mid cs broken.hearing cm
+                (only-releasing mid.orig.phase f broken.going) (try-of Answerer cm s))
+        answ cm w (inr s) = answerer-breaks laws.reads whole run.may_play t mid cs broken.hearing broken.going cm (wait-of Answerer cm s) w
+
+        go : (r : Role) (f : LinkFault) → BrokenTurn link ts before t mid r f
+            → (is_connected (served_at link turns mid r).account.phase ≡ true)
+            × (waits (served_at link turns mid r).account.own_breaks ≡ true) → IsStarved tries period delay (t ∷ ts)
+        go Originator f x (c, w) = orig (mid-connected Originator c) w
+            (connected-spends turns (release_of link turns mid Originator) (served_at link turns mid Originator).account f
+            (connected-is (served_at link turns mid Originator).account.phase c) (long Originator) x.broken)
+        go Answerer f x (c, w) = answ (mid-connected Answerer c) w
+            (connected-spends turns false (served_at link turns mid Answerer).account f
+            (connected-is (served_at link turns mid Answerer).account.phase c) (long Answerer) x.broken.1)

@@ -1,23 +1,22 @@
 use Rattle.std.proofs.Common.{◌⊎◌, inl, inr, ◌≡◌, ℕ, suc, ◌+◌, ◌<◌, ◌≤◌, Bool, true, false, cond, nat_lt, List, [], ◌∷◌, length, arith}
 use Rattle.std.proofs.Common.{refl, sym, ◌∙◌, ap, subst, None, Ok}
+use Rattle.turn_bound.proofs.Value.{linked-of, unlinked-of}
 use Rattle.link_account.proofs.Names.{nat_tests, Role, Originator, Answerer, Arrived, Account, is_connected, Said, speak, cases_lt, of}
-use Rattle.link_run.proofs.Names.{Phase, Detecting, Negotiating, Establishing, Connected, Releasing, Closed, is_busy, is_closed}
-use Rattle.link_run.proofs.Names.{is_released, Link, Accounts, Turn, RunOf, GoingTurn, start, arrival, served_at, said_at, releases}
-use Rattle.link_run.proofs.Names.{Carries, IsCarried}
+use Rattle.link_run.proofs.Names.{Phase, is_busy, is_closed, is_released, Link, Accounts, Turn, RunOf, GoingTurn, start, arrival, served_at}
+use Rattle.link_run.proofs.Names.{said_at, releases, Carries, IsCarried, Hears}
 use Rattle.turn_bound.proofs.AtMostOne.{OneDue, one-hears}
 use Rattle.turn_losses.proofs.PollHear.{PollHeard}
-use Rattle.turn_losses.proofs.PollSpeak.{poll-speaks}
+use Rattle.turn_losses.proofs.PollTurn.{poll-speaks, poll-turn}
 use Rattle.turn_losses.proofs.InTurn.{InTurn, in-turn}
-use Rattle.turn_losses.proofs.PollTurn.{poll-turn}
-use Rattle.turn_losses.proofs.AnswerTurn.{end-answers, linked-sends}
-use Rattle.turn_losses.proofs.HeardCount.{CountKept, count-hears}
-use Rattle.turn_losses.proofs.Awaiting.{await-hears}
-use Rattle.turn_losses.proofs.Polling.{Early}
+use Rattle.turn_losses.proofs.Answering.{end-answers}
+use Rattle.turn_losses.proofs.HeardNumber.{CountKept, count-hears, await-hears}
+use Rattle.turn_losses.proofs.Trace.{Early}
 use Rattle.turn_bound.proofs.Tied.{keeps}
 use Rattle.turn_losses.proofs.Names.{Rates, rates, Stands, Served, Deed, Happens, Trace, TimedRun, past, sent_or, is_poll, is_final}
-use Rattle.turn_losses.proofs.Names.{of_arrived, is_linked, PollTurn, KeepsTime}
+use Rattle.turn_losses.proofs.Names.{of_arrived, is_linked, PollTurn, KeepsTime, end_of}
 use Rattle.lapm_frames.specs.declared.heard.Heard.TheVariants as heards
 use Rattle.frame_check.specs.declared.check.Check.TheVariants as checks
+use Rattle.link_account.specs.Account.{fresh}
 
 served-heard : (role : Role) (turn breaks : ℕ) (busy polled : Bool) (a b c : Account) → Served turn breaks busy b c
     → PollHeard role turn polled a b → PollHeard role turn polled a c
@@ -39,20 +38,7 @@ served-heard role turn breaks busy polled a b c s h = record {
 
 pub silent-of : (z : Rates) (before turn : ℕ) (r : Role) (p : Phase) (a : Account) → Stands z before turn r p a → r ≡ Answerer
     → is_connected p ≡ true → a.numbered ≡ false → a.wait.timer ≡ None
-silent-of z before turn Answerer Connected a st e f n = (st.silent n).1
-silent-of z before turn q x a st e f n = cc
-
-pub untimed-of : (z : Rates) (before turn : ℕ) (r : Role) (p : Phase) (a : Account) → Stands z before turn r p a → is_linked p ≡ false
-    → a.wait.timer ≡ None
-untimed-of z before turn Originator Detecting a st e = st.timer
-untimed-of z before turn Originator Negotiating a st e = st.0.timer
-untimed-of z before turn Originator Establishing a st e = st.0.timer
-untimed-of z before turn Answerer Detecting a st e = st.timer
-untimed-of z before turn Answerer Negotiating a st e = st.timer
-untimed-of z before turn Answerer Establishing a st e = absurd st
-untimed-of z before turn r Connected a st e = cc
-untimed-of z before turn r Releasing a st e = cc
-untimed-of z before turn r Closed a st e = cc
+silent-of z before turn q x a st e f n = grind (arith)
 
 -- a turn of one end
 module _ {tries period : ℕ} {link : Link} {role : Role} {turn : ℕ} {a : Account} {arrived : Arrived} {mid b : Account}
@@ -84,11 +70,11 @@ module _ {tries period : ℕ} {link : Link} {role : Role} {turn : ℕ} {a : Acco
         calm = λ c x. s.reply ∙ one.calm (ap is_connected (sym s.phase) ∙ c) (ap is_released (sym s.phase) ∙ x);
         none = λ r c. s.answer ∙ one.none r (ap is_closed (sym s.phase) ∙ c);
       })
-      i.none_due early (λ e. untimed-of z turn turn role a.phase a i.stands e)
+      i.none_due early (λ e. (unlinked-of z turn turn role a.phase a i.stands e).timer)
       (λ r e n. silent-of z (turn + 1) turn role i.phase b i.b_stands r (ap is_connected (sym (s.phase ∙ i.heard.phase)) ∙ e) n)
       i.b_period (λ e. ap (λ o. o.awaited) s.longer.outgoing ∙ await-hears arrived turn a mid e i.hears)
       mid.outgoing.count (ap (λ o. o.count) s.longer.outgoing)
-      (λ e. served-count (count-hears z arrived turn a mid e (linked-sends z turn turn role a.phase a i.stands e) i.hears))
+      (λ e. served-count (count-hears z arrived turn a mid e (linked-of z turn turn role a.phase a i.stands e).sends i.hears))
 
 -- an end speaks as its role does
 abbrev pub release_of : Link → ℕ → Accounts → Role → Bool
@@ -97,8 +83,7 @@ release_of link turn mid Answerer = false
 
 pub said-as : (link : Link) (turn : ℕ) (mid : Accounts) (role : Role)
     → said_at link turn mid role ≡ speak turn (release_of link turn mid role) (served_at link turn mid role).account
-said-as link turn mid Originator = refl
-said-as link turn mid Answerer = refl
+said-as link turn mid b = grind (arith)
 
 abbrev pub AllEarly : Accounts → Type 0
 AllEarly ends = (role : Role) → Early role (of role ends)
@@ -325,3 +310,49 @@ traced-turn tries period delay link ts before t after k run g c =
     let w = traced tries period delay link ts before k run c.1 in
     let d = turn-happens tries period delay link ts before t after k run c.1 c.0 g w.early in
     (d.0, d.1, longer period delay link ts before t d.0 after w d.1 d.2)
+
+-- The turns of an end of a run, one by one.
+abbrev pub TurnAt : TimedRun → Role → ℕ → Type 0
+TurnAt w r u = InTurn w.tries w.period w.link r u ((end_of w r).account u) ((end_of w r).heard u) ((end_of w r).mid u)
+    ((end_of w r).served u)
+
+-- what it says then
+pub record EndTurn (w : TimedRun) (r : Role) (u : ℕ) : Type 0 where
+  pub in_turn : TurnAt w r u
+  pub said : Said
+  pub says : speak u (release_of w.link u (w.deed u).mid r) ((end_of w r).served u) ≡ Ok said
+  pub slot : (end_of w r).slot u ≡ said.sent
+  pub after : (end_of w r).account (u + 1) ≡ said.account
+  pub linked : is_linked ((end_of w r).account (u + 1)).phase ≡ is_linked ((end_of w r).mid u).phase
+  pub connected : is_connected ((end_of w r).account (u + 1)).phase ≡ true → is_connected ((end_of w r).mid u).phase ≡ true
+
+pub end-turn : (w : TimedRun) → (r : Role) → (u : ℕ) → u < length w.ts → EndTurn w r u
+end-turn w r u l =
+    let h = w.trace.happens u l in
+    let s = h.speaking r in
+    let mid : Accounts = (w.deed u).mid in
+    let i : TurnAt w r u = subst (λ n. InTurn w.tries w.period w.link r n (of r (w.state u)) ((end_of w r).heard u) (of r mid)
+    (served_at w.link n mid r).account) h.number
+    (in-turn w.tries w.period w.delay w.link (past w.ts u) (w.state u) w.keeps h.run h.carried (w.deed u).turn mid
+    (subst (λ n. Hears n (w.state u) (w.deed u).turn mid) (sym h.number) h.hearing) r) in
+    let says = sym (said-as w.link u mid r) ∙ s.says in
+    let k = poll-speaks u (release_of w.link u mid r) ((end_of w r).served u) s.said says in
+    record {
+      in_turn = i;
+      said = s.said;
+      says = says;
+      slot = ap sent_or s.sent_is;
+      after = s.after_is;
+      linked = ap (λ (x : Account). is_linked x.phase) s.after_is ∙ (k.linked ∙ ap is_linked i.served.phase);
+      connected = λ c. ap is_connected (sym i.served.phase) ∙ (k.connected
+          (ap (λ (x : Account). is_connected x.phase) (sym s.after_is) ∙ c)).0;
+    }
+
+-- the turn behind a run
+pub last-turn : (w : TimedRun) (t : Turn) (mid : Accounts) → Hears (length w.ts) w.ends t mid → (r : Role)
+    → InTurn w.tries w.period w.link r (length w.ts) (of r w.ends) (arrival (of r t).heard) (of r mid)
+    (served_at w.link (length w.ts) mid r).account
+last-turn w = in-turn w.tries w.period w.delay w.link w.ts w.ends w.keeps w.run w.carried
+
+pub starts-fresh : (w : TimedRun) (r : Role) → (end_of w r).account 0 ≡ fresh (of r w.link).setup
+starts-fresh w b = grind (arith)

@@ -1,28 +1,29 @@
 -- The tries of an originator by the turn: when each went, and what is lost where none is answered.
-use Rattle.std.proofs.Common.{◌⊎◌, inl, inr, ◌≡◌, ℕ, ◌+◌, ◌-◌, ◌*◌, ◌<◌, ◌≤◌, not, Bool, true, false, length, arith, refl, sym, ◌∙◌, ap}
-use Rattle.std.proofs.Common.{subst, Ok}
+use Rattle.std.proofs.Common.{◌⊎◌, inl, inr, ◌≡◌, ℕ, ◌+◌, ◌-◌, ◌*◌, ◌<◌, ◌≤◌, Bool, true, false, length, arith, refl, sym, ◌∙◌, ap, subst}
+use Rattle.std.proofs.Common.{Ok, Err}
+use Rattle.turn_bound.proofs.MeetHear.{o-hears}
+use Rattle.turn_bound.proofs.Truths.{clash, not-true}
 use Rattle.link_account.proofs.Names.{is_some, cases_lt, Originator, Answerer, offer_in, written, ReadsWritten, Sent, Arrived, Account}
-use Rattle.link_account.proofs.Names.{MayPlay, Said, speak}
-use Rattle.link_run.proofs.Names.{Phase, Detecting, Negotiating, Establishing, Connected, Releasing, Closed, is_released, is_closed}
-use Rattle.link_run.proofs.Names.{arrival, Link}
-use Rattle.turn_losses.proofs.Truths.{not-true}
+use Rattle.link_account.proofs.Names.{MayPlay, Said, speak, Spent, is_connected, says}
+use Rattle.link_account.proofs.SpeakWays.{Breaks, why-broken}
+use Rattle.link_run.proofs.Names.{Phase, Negotiating, Establishing, Releasing, is_released, is_closed, arrival, Link, Accounts, served_at}
+use Rattle.link_run.proofs.Names.{releases}
 use Rattle.turn_losses.proofs.Numbering.{allowed}
-use Rattle.turn_losses.proofs.Numbered.{numbered-linked}
-use Rattle.turn_losses.proofs.Tracing.{release_of}
-use Rattle.turn_losses.proofs.LineLaw.{is-heard}
-use Rattle.turn_losses.proofs.PollLaws.{two-ends}
-use Rattle.turn_losses.proofs.PeriodLaws.{NoneLost}
-use Rattle.turn_losses.proofs.PeriodHolds.{LostIn, lost-or-none}
+use Rattle.turn_losses.proofs.Follows.{numbered-linked}
+use Rattle.turn_losses.proofs.Tracing.{release_of, EndTurn, end-turn, timed-run, last-turn, starts-fresh}
+use Rattle.turn_losses.proofs.PeriodLaws.{is-heard, two-ends, NoneLost}
+use Rattle.turn_losses.proofs.Expiries.{LostIn, lost-or-none}
 use Rattle.turn_losses.proofs.Moving.{is_trying, asks, moves_on, TryGoesOn, TryBegins, try-heard, TriesAgain, TryStands, TryIsNew, try-says}
-use Rattle.turn_losses.proofs.Moving.{releasing-stays}
-use Rattle.turn_losses.proofs.TryAnswering.{can_answer, AnswerDue, answer-due, says-due}
-use Rattle.turn_losses.proofs.Setups.{Met, met}
-use Rattle.turn_losses.proofs.Phasing.{is_established, begun-established}
+use Rattle.turn_losses.proofs.Moving.{can_answer, AnswerDue, answer-due, says-due}
+use Rattle.turn_losses.proofs.Phasing.{Met, met, is_established, begun-established}
 use Rattle.turn_losses.proofs.Clocks.{Ticked, Unanswered, last, chain}
 use Rattle.turn_losses.proofs.Names.{rates, Stands, is_begun, of_frame, of_arrived, is_linked, sent_or, EndRun, TwoEnds, TimedRun, end_of}
+use Rattle.turn_losses.proofs.Names.{LosesEach}
 use Rattle.turn_losses.proofs.Clocks.Ticked.{Begins, Expires, Stays}
-use Rattle.turn_losses.proofs.EndTurn.{EndTurn, end-turn}
 use Rattle.turn_losses.proofs.InTurn.{InTurn}
+use Rattle.turn_losses.proofs.Periods.{once, loses-of}
+use Rattle.turn_losses.proofs.Wanting.{all-but-one}
+use Rattle.turn_losses.specs.Tries.{OriginatorWantsFrame}
 
 -- A turn after which an end tries: the try begins in it, or goes on unanswered, and goes again or not.
 abbrev pub GoesUnanswered : Phase → Arrived → Account → Type 0
@@ -74,7 +75,8 @@ module _ {tries period : ℕ} {link : Link} {turn : ℕ} {a : Account} {arrived 
       go (inl (f, inl x)) = again (heard (sym i.served.phase ∙ f)) x
       go (inl (f, inr x)) = stands (heard (sym i.served.phase ∙ f)) x
       go (inr (f, q, set, count, sends)) = inl (
-        (λ x. releasing-stays arrived turn a mid (x ∙ q) i.hears (sym i.served.phase ∙ f)),
+        (λ x. clash (is_released mid.phase) ((o-hears arrived turn a mid i.role_is i.hears).released (ap is_released (x ∙ q)))
+            (ap is_released (sym i.served.phase ∙ f))),
         set,
         count,
         sends,
@@ -176,27 +178,7 @@ answerable : (p q : Phase) (n : Bool) → is_trying p ≡ true → (q ≡ Establ
     → (p ≡ Negotiating → is_begun q ≡ false) → (p ≡ Establishing → (n ≡ false) × (is_closed q ≡ false))
     → (p ≡ Releasing → is_begun q ≡ true)
     → can_answer p q n ≡ true
-answerable Detecting q n t e r x y z = cc
-answerable Connected q n t e r x y z = cc
-answerable Closed q n t e r x y z = cc
-answerable Negotiating Detecting n t e r x y z = refl
-answerable Negotiating Negotiating n t e r x y z = refl
-answerable Negotiating Establishing n t e r x y z = absurd (e refl)
-answerable Negotiating Connected n t e r x y z = let w = x refl in cc
-answerable Negotiating Releasing n t e r x y z = absurd (r refl)
-answerable Negotiating Closed n t e r x y z = let w = x refl in cc
-answerable Establishing Detecting n t e r x y z = refl
-answerable Establishing Negotiating n t e r x y z = refl
-answerable Establishing Establishing n t e r x y z = absurd (e refl)
-answerable Establishing Connected n t e r x y z = ap not (y refl).0
-answerable Establishing Releasing n t e r x y z = absurd (r refl)
-answerable Establishing Closed n t e r x y z = let w = (y refl).1 in cc
-answerable Releasing Detecting n t e r x y z = let w = z refl in cc
-answerable Releasing Negotiating n t e r x y z = let w = z refl in cc
-answerable Releasing Establishing n t e r x y z = absurd (e refl)
-answerable Releasing Connected n t e r x y z = refl
-answerable Releasing Releasing n t e r x y z = absurd (r refl)
-answerable Releasing Closed n t e r x y z = refl
+answerable b q n t e r x y z = grind (arith)
 
 -- The answerer answers in the turn in which it hears.
 pub answers-so : ReadsWritten → (w : TimedRun) → MayPlay w.link.orig.setup w.link.answ.setup → (p : Phase) → is_trying p ≡ true → (u : ℕ)
@@ -252,23 +234,98 @@ unanswered-loses reads w m p t s within x = go (lost-or-none e o (s + 1) (w.peri
     k : TwoEnds w.period (length w.ts) e o
     k = two-ends w Originator
 
-    per : w.period ≡ 2 * (e.delay + o.delay) + 16
-    per = k.period_is
-
-    d : 1 ≤ e.delay
-    d = k.own_delay
-
     go : LostIn e o (s + 1) (w.period - 1) ⊎ NoneLost e o (s + 1) (w.period - 1) → LostIn e o (s + 1) (w.period - 1)
     go (inl lost) = lost
     go (inr none) =
         let v : ℕ = s + e.delay in
         let y : ℕ = v + o.delay in
         let reaches : of_arrived (asks p) (o.heard v) ≡ true = is-heard (asks p) k.is_heard s
-        (omega (arith, within, per)) (none v (omega (arith, d)) (omega (arith, per))).1 ∙ x.asked in
+        (omega (arith, within, k.period_is)) (none v (omega (arith, k.own_delay)) (omega (arith, k.period_is))).1 ∙ x.asked in
         let answered : of_frame (moves_on p) (o.slot v) ≡ true = answers-so reads w m p t v
-        (omega (arith, within, per)) (x.ran v (omega (arith, d)) (omega (arith, per))) reaches in
-        let hears : of_arrived (moves_on p) (e.heard y) ≡ true = is-heard (moves_on p) k.hears v (omega (arith, within, per))
-        (none y (omega (arith, d)) (omega (arith, per))).0
+        (omega (arith, within, k.period_is)) (x.ran v (omega (arith, k.own_delay)) (omega (arith, k.period_is))) reaches in
+        let hears : of_arrived (moves_on p) (e.heard y) ≡ true = is-heard (moves_on p) k.hears v (omega (arith, within, k.period_is))
+        (none y (omega (arith, k.own_delay)) (omega (arith, k.period_is))).0
         ∙ answered in
-        let wrong : true ≡ false = sym hears ∙ (x.stayed y (omega (arith, d)) (omega (arith, per))).0 in
+        let wrong : true ≡ false = sym hears ∙ (x.stayed y (omega (arith, k.own_delay)) (omega (arith, k.period_is))).0 in
         cc
+
+-- An originator that gives up while it tries a frame.
+
+-- which try is spent
+pub which-try : (turn : ℕ) (release : Bool) (b : Account) (segment since : ℕ) → is_connected b.phase ≡ false
+    → speak turn release b ≡ Err (Spent segment since)
+    → (is_trying b.phase ≡ true) × (turn ≡ b.wait.try_set + b.setup.period) × (b.wait.try_count ≡ b.setup.tries)
+which-try turn release b segment since c h = go (why-broken turn release b (Spent segment since) h)
+  where
+    trying : ((b.phase ≡ Negotiating) × (b.setup.role ≡ Originator)) ⊎ ((b.phase ≡ Establishing) ⊎ (b.phase ≡ Releasing))
+        → is_trying b.phase ≡ true
+    trying (inl p) = ap is_trying p.0
+    trying (inr (inl p)) = ap is_trying p
+    trying (inr (inr p)) = ap is_trying p
+
+    go : Breaks turn release b (Spent segment since)
+        → (is_trying b.phase ≡ true) × (turn ≡ b.wait.try_set + b.setup.period) × (b.wait.try_count ≡ b.setup.tries)
+    go b = grind (arith)
+
+pub originator-wants-frame : ReadsWritten → OriginatorWantsFrame
+originator-wants-frame reads tries period delay link ts before t mid segment since kt run cs broken
+    unlinked = (each, all-but-one tries period delay t ts (λ n l. each n (omega (arith, l))))
+  where
+    turns : ℕ
+    turns = length ts
+
+    w : TimedRun
+    w = timed-run tries period delay link ts before kt run.run run.carried
+
+    e : EndRun
+    e = end_of w Originator
+
+    b : Account
+    b = (served_at link turns mid Originator).account
+
+    i : InTurn tries period link Originator turns before.orig (arrival t.orig.heard) mid.orig b
+    i = last-turn w t mid broken.hearing Originator
+
+    why : (is_trying b.phase ≡ true) × (turns ≡ b.wait.try_set + b.setup.period) × (b.wait.try_count ≡ b.setup.tries)
+    why = which-try turns (releases link turns mid) b segment since (ap is_connected i.served.phase ∙ unlinked) broken.broken
+
+    p : Phase
+    p = mid.orig.phase
+
+    trying : is_trying p ≡ true
+    trying = ap is_trying (sym i.served.phase) ∙ why.0
+
+    due : turns ≡ mid.orig.wait.try_set + period
+    due = let q = why.1 in let set = ap (λ v. v.try_set) i.served.wait in omega (arith, q, i.b_period, set)
+
+    count : mid.orig.wait.try_count ≡ tries
+    count = ap (λ v. v.try_count) (sym i.served.wait) ∙ (why.2 ∙ i.b_tries)
+
+    tries-on : TriesSo period turns p e
+    tries-on = tries-so reads w run.may_play p trying
+
+    none : (w.state 0).orig.phase ≡ p → ⊥
+    none q = clash (is_trying p) trying (ap is_trying (sym q) ∙ ap (λ (x : Account). is_trying x.phase) (starts-fresh w Originator))
+
+    goes-on : TryGoesOn p (arrival t.orig.heard) before.orig mid.orig ⊎ TryBegins turns p before.orig mid.orig
+        → TryGoesOn p (arrival t.orig.heard) before.orig mid.orig
+    goes-on (inl x) = x
+    goes-on (inr (_, _, _, set, _)) = absurd (omega (arith, set, due, i.long))
+
+    still : TryGoesOn p (arrival t.orig.heard) before.orig mid.orig
+    still = goes-on (try-heard (arrival t.orig.heard) turns before.orig mid.orig i.role_is i.hears p trying refl)
+
+    account-is : (w.state turns).orig ≡ before.orig
+    account-is = ap (λ (x : Accounts). x.orig) w.last
+
+    each : LosesEach period (tries + 1) turns ts
+    each n less =
+        let wait : (w.state turns).orig.wait ≡ mid.orig.wait = ap (λ (x : Account). x.wait) account-is ∙ sym still.1 in
+        let set = ap (λ v. v.try_set) wait in
+        let x = unanswered period turns p e tries-on none tries turns (omega arith)
+        (ap (λ (y : Account). y.phase) account-is ∙ still.0) (ap (λ v. v.try_count) wait ∙ count) (omega (arith, set, due)) n
+        (omega (arith, less)) in
+        let one = once period n in
+        let q = x.1 in
+        loses-of w Originator x.0 n i.long q
+        (unanswered-loses reads w run.may_play p trying x.0 (omega (arith, q, one)) x.2)

@@ -1,16 +1,14 @@
 -- A break that waits by the turn: when its BRK became due, and what is lost before it becomes due again.
-use Rattle.std.proofs.Common.{inl, inr, ◌≡◌, ℕ, ◌+◌, ◌-◌, ◌*◌, ◌<◌, ◌≤◌, ◌&&◌, Bool, true, false, arith, refl, sym, ◌∙◌, ap}
+use Rattle.std.proofs.Common.{inl, inr, ◌≡◌, ℕ, ◌+◌, ◌-◌, ◌*◌, ◌%◌, ◌<◌, ◌≤◌, true, false, arith, refl, sym, ◌∙◌, ap}
 use Rattle.link_account.proofs.Names.{cases_lt, waits, Account, is_connected}
-use Rattle.turn_losses.proofs.Truths.{clash, no-and}
-use Rattle.turn_losses.proofs.LineLaw.{was-sent, is-heard}
-use Rattle.turn_losses.proofs.PollLaws.{turned}
-use Rattle.turn_losses.proofs.PeriodLaws.{NoneLost}
+use Rattle.turn_bound.proofs.Truths.{clash}
+use Rattle.turn_losses.proofs.PeriodLaws.{was-sent, is-heard, turned, NoneLost}
 use Rattle.turn_losses.proofs.Clocks.{Ticked, chain}
-use Rattle.turn_losses.proofs.BreakTurn.{Deeds, BreakTurn, number_of, brk_due}
-use Rattle.turn_losses.proofs.Windows.{Breaking}
-use Rattle.turn_losses.proofs.Soon.{brk-goes, ack-goes}
+use Rattle.turn_losses.proofs.BreakTurn.{Deeds, OwnTurn, wait-ends, BreakTurn, number_of, brk_due}
+use Rattle.turn_losses.proofs.Windows.{Breaking, brk-goes, ack-goes}
 use Rattle.turn_losses.proofs.Names.{of_frame, of_arrived, EndRun, TwoEnds}
 use Rattle.turn_losses.proofs.Clocks.Ticked.{Begins, Expires, Stays}
+use Rattle.turn_losses.proofs.BreakTurn.OwnTurn.{Stays as OwnStays, Ends, Takes, Expires as OwnExpires}
 use Rattle.turn_losses.proofs.Words.{ack_of, any_brk, brk_of, of_word}
 
 -- the end is Connected in these turns, and waits with one number
@@ -32,33 +30,23 @@ count_of e u = (e.account u).own_breaks.count
 ticks : {period turns : ℕ} (number : ℕ) {e : EndRun} {d : ℕ → Deeds} → Breaking period turns e d → (t : ℕ) → t < turns
     → Waits number (e.account (t + 1))
     → Ticked period t (λ u. Waits number (e.account u)) (λ v. Unit {0}) (Made d) (IsSet e) (count_of e)
-ticks {period} {turns} number {e} {d} h t l y =
-    go (is_connected (e.account t).phase) refl (waits (e.account t).own_breaks) refl (d t).made refl
+ticks {period} {turns} number {e} {d} h t l y = by x.own
   where
     x : BreakTurn period t (e.heard t) (e.slot t) (d t) (e.account t) (e.account (t + 1))
     x = h.turn t l y.connected
 
-    newly : (is_connected (e.account t).phase && waits (e.account t).own_breaks) ≡ false
-        → Ticked period t (λ u. Waits number (e.account u)) (λ v. Unit {0}) (Made d) (IsSet e) (count_of e)
-    newly f = let z = x.newly y.waiting f in Begins (x.made_set z.0).1 z.1 z.0
+    was : waits (e.account t).own_breaks ≡ true → (e.account (t + 1)).own_breaks.answered ≡ (e.account t).own_breaks.answered
+        → Waits number (e.account t)
+    was g q = record { connected = x.waited g; waiting = g; numbered = ap (λ n. n % 2) (sym q) ∙ y.numbered }
 
-    go : (a : Bool) → is_connected (e.account t).phase ≡ a → (b : Bool) → waits (e.account t).own_breaks ≡ b → (m : Bool) → (d t).made ≡ m
+    by : OwnTurn period t (e.heard t) (d t).made (e.account t).own_breaks (e.account (t + 1)).own_breaks
         → Ticked period t (λ u. Waits number (e.account u)) (λ v. Unit {0}) (Made d) (IsSet e) (count_of e)
-    go false f b g m q = newly (no-and (is_connected (e.account t).phase) (waits (e.account t).own_breaks) f)
-    go true f false g m q = newly (ap (λ z. is_connected (e.account t).phase && z) g ∙ ap (λ z. z && false) f)
-    go true f true g m q = by m q
-      where
-        was : Waits number (e.account t)
-        was = record { connected = f; waiting = g; numbered = sym (x.number f g y.waiting) ∙ y.numbered }
-
-        by : (m : Bool) → (d t).made ≡ m
-            → Ticked period t (λ u. Waits number (e.account u)) (λ v. Unit {0}) (Made d) (IsSet e) (count_of e)
-        by true q = Expires (e.account t).own_breaks.set was refl
-            (elim (x.made_late q f) [ inl z ↦ sym z.1 | inr z ↦ clash (waits (e.account t).own_breaks) g z.0 ])
-            (x.made_set q).1
-            (λ n r. elim (x.counts f g y.waiting n r) [ inl z ↦ z.1 | inr z ↦ clash (d t).made q z.0 ]) q
-        by false q = Stays was (λ s r. (x.kept_set q f y.waiting).1 ∙ r)
-            (λ n r. elim (x.counts f g y.waiting n r) [ inl z ↦ clash (d t).made z.0 q | inr z ↦ z.1 ]) tt
+    by (OwnStays m n q) = let count = ap (λ o. o.count) q in Stays (was (ap waits (sym q) ∙ y.waiting) (ap (λ o. o.answered) q))
+        (λ s r. ap (λ o. o.set) q ∙ r) (λ n r. omega (arith, count, r)) tt
+    by (Ends m w v r) = clash (waits (e.account (t + 1)).own_breaks) y.waiting v
+    by (Takes m w r v s z) = Begins s z m
+    by (OwnExpires m w s n q) = let count = ap (λ o. o.count) q in Expires (e.account t).own_breaks.set
+        (was w (ap (λ o. o.answered) q)) refl (sym s) (ap (λ o. o.set) q) (λ n r. omega (arith, count, r)) m
 
 -- a period of a waiting break
 pub record BreakPeriod (period turns number : ℕ) (e : EndRun) (d : ℕ → Deeds) (s : ℕ) : Type 0 where
@@ -85,33 +73,27 @@ pub break-answered : {period turns : ℕ} (number : ℕ) {e o : EndRun} {d d' : 
     → ((t : ℕ) → s + e.delay ≤ t → t < s + period → (d' t).answers ≡ false) → NoneLost e o (s + 1) (period - 1)
     → (z : ℕ) × (z + o.delay ≡ s + period) × (s < z) × (of_frame (of_word (ack_of number)) (o.slot z) ≡ true)
 break-answered {period} {turns} number {e} {o} {d} {d'} k h h' first small s within bp co na na' lost = go
-    (brk-goes k h h' first s (omega (arith, p, within)) (λ t a b. (bp.stays t a (omega (arith, b, p))).connected)
-    (λ t a b. (bp.stays t a (omega (arith, b, p))).waiting) (λ t a b. na t a (omega (arith, b, p))) (inr bp.made))
+    (brk-goes k h h' first s (omega (arith, k.period_is, within)) (λ t a b. (bp.stays t a (omega (arith, b, k.period_is))).connected)
+    (λ t a b. (bp.stays t a (omega (arith, b, k.period_is))).waiting) (λ t a b. na t a (omega (arith, b, k.period_is))) (inr bp.made))
   where
-    p : period ≡ 2 * (e.delay + o.delay) + 16
-    p = k.period_is
-
     dl : 1 ≤ e.delay
     dl = k.own_delay
 
-    dl' : 1 ≤ o.delay
-    dl' = k.other_delay
-
     go : (y : ℕ) × (s ≤ y) × (y < s + 14) × (of_frame (of_word (brk_of (number_of (e.account (y + 1))))) (e.slot y) ≡ true)
         → (z : ℕ) × (z + o.delay ≡ s + period) × (s < z) × (of_frame (of_word (ack_of number)) (o.slot z) ≡ true)
-    go (y, lo, hi, sent) = answered (ack-goes (turned k) h' x number small (omega (arith, p, within, hi, dl, dl'))
-        (co x (omega (arith, lo, dl)) (omega (arith, hi, p))) (λ t a b. co t (omega (arith, a, lo)) (omega (arith, b, hi, p, dl, dl')))
-        (λ t a b q. numbered t a (omega (arith, b, hi, p, dl, dl')) q)
-        (λ t a b. na' t (omega (arith, a, lo)) (omega (arith, b, hi, p, dl, dl'))) heard)
+    go (y, lo, hi, sent) = answered (ack-goes (turned k) h' x number small (omega (arith, k.period_is, within, hi, dl, k.other_delay))
+        (λ t a b. co t (omega (arith, a, lo)) (omega (arith, b, hi, k.period_is, dl, k.other_delay)))
+        (λ t a b q. numbered t a (omega (arith, b, hi, k.period_is, dl, k.other_delay)) q)
+        (λ t a b. na' t (omega (arith, a, lo)) (omega (arith, b, hi, k.period_is, dl, k.other_delay))) heard)
       where
         x : ℕ
         x = y + e.delay
 
         heard : of_arrived (of_word (brk_of number)) (o.heard x) ≡ true
-        heard = is-heard (of_word (brk_of number)) k.is_heard y (omega (arith, hi, p, within))
-            (lost x (omega (arith, lo, dl)) (omega (arith, hi, p))).1
+        heard = is-heard (of_word (brk_of number)) k.is_heard y (omega (arith, hi, k.period_is, within))
+            (lost x (omega (arith, lo, dl)) (omega (arith, hi, k.period_is))).1
             ∙ (ap (λ n. of_frame (of_word (brk_of n)) (e.slot y))
-            (sym (bp.stays (y + 1) (omega (arith, lo)) (omega (arith, hi, p))).numbered) ∙ sent)
+            (sym (bp.stays (y + 1) (omega (arith, lo)) (omega (arith, hi, k.period_is))).numbered) ∙ sent)
 
         numbered : (t : ℕ) → x ≤ t → t < s + period → of_arrived (of_word any_brk) (o.heard t) ≡ true
             → of_arrived (of_word (brk_of number)) (o.heard t) ≡ true
@@ -137,7 +119,7 @@ break-answered {period} {turns} number {e} {o} {d} {d'} k h h' first small s wit
             v = z + o.delay
 
             soon : v ≤ s + period
-            soon = omega (arith, b, hi, p, dl, dl')
+            soon = omega (arith, b, hi, k.period_is, dl, k.other_delay)
 
             ends : v < s + period → ⊥
             ends less =
@@ -147,5 +129,5 @@ break-answered {period} {turns} number {e} {o} {d} {d'} k h h' first small s wit
                 (omega (arith, less, within))
                 (lost v (omega (arith, a, lo, dl)) (omega (arith, less))).0 ∙ q in
                 clash (waits (e.account (v + 1)).own_breaks) there.waiting
-                ((h.turn v (omega (arith, less, within)) there.connected).ends here.connected here.waiting
+                (wait-ends (h.turn v (omega (arith, less, within)) there.connected).own here.waiting
                 (ap (λ n. of_arrived (of_word (ack_of n)) (e.heard v)) here.numbered ∙ comes))

@@ -1,22 +1,30 @@
 -- Why a Connected end breaks, and what was lost then.
 use Rattle.std.proofs.Common.{◌⊎◌, inl, inr, ◌≡◌, ℕ, ◌+◌, ◌*◌, ◌<◌, ◌≤◌, Bool, true, false, length, arith, sym, ◌∙◌, ap, Some, Err, subst}
+use Rattle.std.proofs.Common.{◌≢◌, max, List, ◌∷◌, refl, None}
 use Rattle.link_account.proofs.Names.{nat_tests, Role, other, of, waits, Arrived, LinkFault, Account, is_connected, speak, IsAllowed}
-use Rattle.link_account.proofs.Names.{MayPlay, false≢true}
+use Rattle.link_account.proofs.Names.{MayPlay, false≢true, cases_lt, Originator, Answerer}
+use Rattle.turn_bound.proofs.Value.{linked-of, connected-is}
 use Rattle.link_run.proofs.Names.{Connected, Releasing, Phase, Detecting, Negotiating, Establishing, Turn, Accounts, Hears, arrival}
-use Rattle.link_run.proofs.Names.{served_at, Link}
-use Rattle.turn_losses.proofs.Periods.{once, loses-of}
-use Rattle.turn_losses.proofs.AnswerTurn.{linked-sends, connected-is}
+use Rattle.link_run.proofs.Names.{served_at, Link, releases, LosesSome, is_released}
+use Rattle.turn_losses.proofs.Periods.{once, loses-of, later-turn}
 use Rattle.link_account.proofs.SpeakWays.{Ended, TryEnds, ReleaseEnds, TimerEnds, BreakEnds, Breaks, Undetected, Spends, why-broken}
-use Rattle.turn_losses.proofs.HeardCount.{CountKept, count-hears}
-use Rattle.turn_losses.proofs.PollLaws.{two-ends}
-use Rattle.turn_losses.proofs.PeriodHolds.{period-loses}
-use Rattle.turn_losses.proofs.Expiries.{Uncleared, expiries}
+use Rattle.turn_losses.proofs.HeardNumber.{CountKept, count-hears}
+use Rattle.turn_losses.proofs.PeriodLaws.{two-ends, connected-since}
+use Rattle.turn_losses.proofs.Expiries.{period-loses, Uncleared, expiries}
 use Rattle.turn_losses.proofs.Acknowledged.{Counts}
 use Rattle.turn_losses.proofs.Names.{Rates, rates, Sends, PeriodLoses, LosesEach, is_linked, EndRun, TwoEnds, TimedRun, end_of}
-use Rattle.turn_losses.proofs.Numbering.{Plays, allowed, fits-at}
-use Rattle.turn_losses.proofs.Room.{begins-roomy}
+use Rattle.turn_losses.proofs.Names.{StandTogether, past, of_arrived, is_poll, Stands}
+use Rattle.turn_losses.proofs.Numbering.{Plays, allowed, fits-at, counts-of}
+use Rattle.turn_losses.proofs.NumberHear.{begins-roomy}
 use Rattle.turn_losses.proofs.InTurn.{InTurn}
-use Rattle.turn_losses.proofs.EndTurn.{last-turn}
+use Rattle.turn_losses.proofs.Tracing.{last-turn, timed-run, silent-of, end-turn}
+use Rattle.link_run.specs.Starved.{SpanLoses, IsStarved}
+use Rattle.turn_bound.specs.Together.{Together}
+use Rattle.turn_losses.specs.Losses.{OriginatorWantsAnswers, OriginatorIsStarved, AnswererWantsAnswers}
+use Rattle.turn_losses.proofs.Clocks.{last}
+use Rattle.turn_losses.proofs.PollHear.{PollHeard, linked-connected}
+use Rattle.turn_losses.proofs.Follows.{numbered-linked}
+use Rattle.turn_bound.proofs.Truths.{clash, is-true}
 
 -- the segments' clock expires with the last try
 pub record SpendsTries (turn : ℕ) (b : Account) : Type 0 where
@@ -80,20 +88,17 @@ module _ {tries period : ℕ} {link : Link} {role : Role} {turn : ℕ} {a : Acco
       z = rates tries period
 
       sends : Sends z (turn + 1) turn b.outgoing b.wait.timer
-      sends = linked-sends z (turn + 1) turn role i.phase b i.b_stands (ap is_connected (sym i.heard.phase) ∙ cm)
+      sends = (linked-of z (turn + 1) turn role i.phase b i.b_stands (ap is_connected (sym i.heard.phase) ∙ cm)).sends
 
       mid-count : mid.outgoing.count ≡ tries
       mid-count = ap (λ o. o.count) (sym i.served.longer.outgoing) ∙ (why.count ∙ sends.tries_are)
 
-      some-tries : 1 ≤ tries
-      some-tries = i.rated.tries
-
       from : (is_connected a.phase ≡ true) ⊎ (is_linked a.phase ≡ false) → LastTry tries period turn a
-      from (inr u) = let c = begins u cm in absurd (omega (arith, c, mid-count, some-tries))
-      from (inl ca) = by (count-hears z arrived turn a mid ca (linked-sends z turn turn role a.phase a i.stands ca) i.hears)
+      from (inr u) = let c = begins u cm in absurd (omega (arith, c, mid-count, i.rated.tries))
+      from (inl ca) = by (count-hears z arrived turn a mid ca (linked-of z turn turn role a.phase a i.stands ca).sends i.hears)
         where
           by : CountKept a mid → LastTry tries period turn a
-          by (inl c) = absurd (omega (arith, c, mid-count, some-tries))
+          by (inl c) = absurd (omega (arith, c, mid-count, i.rated.tries))
           by (inr (c, w)) = record {
             connected = ca;
             set = why.set;
@@ -150,3 +155,120 @@ wants-answers w role c l both n less = lost-at (expiries k c w.tries l.set l.con
         let end : s + w.period ≤ turns = omega (arith, q, same) in
         loses-of w role s n long q (period-loses k c s end x.made x.on
         (λ u a b. both s u (omega (arith, end, long)) a (omega (arith, b, end)) x.made x.connected (x.on u a b)) x.uncleared)
+
+-- An end that gives up was starved.
+
+-- both ends stand together before each turn
+pub peer-connected-at : StandTogether → (w : TimedRun) → (u : ℕ) → u ≤ length w.ts → is_connected (w.state u).orig.phase ≡ true
+    → is_connected (w.state u).answ.phase ≡ true
+peer-connected-at together w u l c = ap is_connected (by.answ (connected-is (w.state u).orig.phase c))
+  where
+    by : Together (w.state u)
+    by = elim (cases_lt u (length w.ts)) [
+      | inl y ↦ (let h = w.trace.happens u y in
+          together w.tries w.period w.delay w.link (past w.ts u) (w.state u) w.keeps h.run h.carried)
+      | inr y ↦ subst Together (sym (ap w.state (omega (arith, l, y)) ∙ w.last))
+          (together w.tries w.period w.delay w.link w.ts w.ends w.keeps w.run w.carried)
+    ]
+
+pub originator-each : Plays → StandTogether → (w : TimedRun) → MayPlay w.link.orig.setup w.link.answ.setup
+    → LastTry w.tries w.period (length w.ts) w.ends.orig → LosesEach w.period w.tries (length w.ts) w.ts
+originator-each laws together w may last = wants-answers w Originator (counts-of laws w may Originator)
+    (subst (λ (x : Accounts). LastTry w.tries w.period (length w.ts) x.orig) (sym w.last) last)
+    (λ s u a b l m c. peer-connected-at together w u l)
+
+pub originator-wants : Plays → StandTogether → OriginatorWantsAnswers
+originator-wants laws together tries period delay link ts before t mid segment since kt run cs broken cm quiet =
+    originator-each laws together w run.may_play
+    (last-try laws w run.may_play t mid broken.hearing Originator (releases link (length ts) mid) _ (ap is_connected cm) quiet
+    broken.broken)
+  where
+    w : TimedRun
+    w = timed-run tries period delay link ts before kt run.run run.carried
+
+-- the spans hold those periods
+span-loses : (period delay : ℕ) (t : Turn) (ts : List Turn) (n : ℕ) → PeriodLoses period (length ts) ts n
+    → SpanLoses period delay (t ∷ ts) n
+span-loses period delay t ts n h =
+    let behind = h.in_period.behind in let before = h.in_period.before in let within = h.within in
+    record {
+      turn = h.turn;
+      within = omega (arith, within);
+      in_span = record { behind = omega (arith, behind); before = omega (arith, before) };
+      lost = subst LosesSome (sym (later-turn h.turn t ts within)) h.lost;
+    }
+
+-- all but the earliest span, or all of them
+pub all-but-one : (tries period : ℕ) (delay : Role → ℕ) (t : Turn) (ts : List Turn) → LosesEach period tries (length ts) ts
+    → IsStarved tries period delay (t ∷ ts)
+all-but-one tries period delay t ts h = record {
+  spared = tries;
+  each = λ n few other. span-loses period (max (delay Originator) (delay Answerer)) t ts n (h n (less n few other));
+}
+  where
+    less : (n : ℕ) → n ≤ tries → n ≢ tries → n < tries
+    less n few other = elim (cases_lt n tries) [ inl l ↦ l | inr g ↦ absurd (other (same n few g)) ]
+      where
+        same : (x : ℕ) → x ≤ tries → tries ≤ x → x ≡ tries
+        same x a b = omega (arith, a, b)
+
+pub originator-starved : Plays → StandTogether → OriginatorIsStarved
+originator-starved laws together tries period delay link ts before t mid segment since kt run cs broken cm quiet =
+    all-but-one tries period delay t ts
+    (originator-wants laws together tries period delay link ts before t mid segment since kt run cs broken cm quiet)
+
+-- A Connected answerer that gives up was starved.
+connected-open : (p : Phase) → is_linked p ≡ true → is_released p ≡ false → is_connected p ≡ true
+connected-open p l r = grind (arith)
+
+clocked : (z : Rates) (turn : ℕ) (a : Account) → Stands z turn turn Answerer a.phase a → is_connected a.phase ≡ true → (s : ℕ)
+    → a.wait.timer ≡ Some s → a.numbered ≡ true
+clocked z turn a st c s q = is-true a.numbered
+    (λ n. let wrong : None ≡ Some s = sym (silent-of z turn turn Answerer a.phase a st refl c n) ∙ q in cc)
+
+-- its clock runs once it heard a number, so its peer is Connected or was
+pub peer-linked : (w : TimedRun) → (u : ℕ) → (l : u < length w.ts) → is_connected (w.state u).answ.phase ≡ true → (s : ℕ)
+    → (w.state u).answ.wait.timer ≡ Some s → is_linked (w.state u).orig.phase ≡ true
+peer-linked w u l c s q = numbered-linked w Answerer u (omega (arith, l))
+    (clocked (rates w.tries w.period) u (w.state u).answ (end-turn w Answerer u l).in_turn.stands c s q)
+
+pub answerer-each : Plays → (w : TimedRun) → MayPlay w.link.orig.setup w.link.answ.setup → (t : Turn) (mid : Accounts)
+    → Hears (length w.ts) w.ends t mid → is_released mid.orig.phase ≡ false → LastTry w.tries w.period (length w.ts) w.ends.answ
+    → LosesEach w.period w.tries (length w.ts) w.ts
+answerer-each laws w may t mid hearing going last = wants-answers w Answerer (counts-of laws w may Answerer)
+    (subst (λ (x : Accounts). LastTry w.tries w.period turns x.answ) (sym w.last) last) both
+  where
+    turns : ℕ
+    turns = length w.ts
+
+    linked-last : is_linked w.ends.orig.phase ≡ true
+    linked-last = ap (λ (x : Accounts). is_linked x.orig.phase) (sym w.last)
+        ∙ numbered-linked w Answerer turns (omega arith) (ap (λ (x : Accounts). x.answ.numbered) w.last
+        ∙ clocked (rates w.tries w.period) turns w.ends.answ (last-turn w t mid hearing Answerer).stands last.connected last.set last.runs)
+
+    heard : PollHeard Originator turns (of_arrived is_poll (arrival t.orig.heard)) w.ends.orig mid.orig
+    heard = (last-turn w t mid hearing Originator).polls
+
+    peer-last : is_connected w.ends.orig.phase ≡ true
+    peer-last = elim (heard.from (connected-open mid.orig.phase (heard.linked linked-last) going)) [
+      | inl c ↦ c
+      | inr u ↦ clash (is_linked w.ends.orig.phase) linked-last u
+    ]
+
+    both : (s u : ℕ) → s < turns → s ≤ u → u ≤ turns → (w.deed s).made Answerer ≡ true → is_connected (w.state s).answ.phase ≡ true
+        → is_connected (w.state u).answ.phase ≡ true → is_connected (w.state u).orig.phase ≡ true
+    both s u l low high made c c' =
+        let from = ((w.trace.happens s l).polls Answerer).made_from made (linked-connected (w.state s).answ.phase c) in
+        connected-since (two-ends w Originator) s turns (omega arith)
+        (peer-linked w s l c from.1 from.2) (ap (λ (x : Accounts). is_connected x.orig.phase) w.last ∙ peer-last) u low high
+
+pub answerer-wants : Plays → AnswererWantsAnswers
+answerer-wants laws tries period delay link ts before t mid segment since kt run cs broken cm quiet
+    going = (each, all-but-one tries period delay t ts each)
+  where
+    w : TimedRun
+    w = timed-run tries period delay link ts before kt run.run run.carried
+
+    each : LosesEach period tries (length ts) ts
+    each = answerer-each laws w run.may_play t mid broken.hearing going
+        (last-try laws w run.may_play t mid broken.hearing Answerer false _ (ap is_connected cm) quiet broken.broken.1)

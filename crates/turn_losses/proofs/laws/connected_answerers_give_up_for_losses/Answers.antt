@@ -1,5 +1,5 @@
 use Rattle.turn_losses.proofs.Numbering.{Plays}
-use Rattle.turn_losses.proofs.Answerer.{answerer-wants}
+use Rattle.turn_losses.proofs.Wanting.{answerer-wants}
 use Rattle.turn_losses.proofs.laws.connected_answerers_give_up_for_losses.Goals as goal
 
 pub returns : goal.returns

@@ -1,5 +1,5 @@
 use Rattle.turn_losses.proofs.Numbering.{Plays}
-use Rattle.turn_losses.proofs.Starving.{originator-wants, originator-starved}
+use Rattle.turn_losses.proofs.Wanting.{originator-wants, originator-starved}
 use Rattle.turn_losses.proofs.laws.connected_originators_give_up_for_losses.Goals as goal
 
 pub returns : goal.returns

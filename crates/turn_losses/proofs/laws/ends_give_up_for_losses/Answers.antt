@@ -1,6 +1,5 @@
 use Rattle.turn_losses.specs.Tries.{GivesUpForLosses}
-use Rattle.turn_losses.proofs.GivingUp.{gives-up}
-use Rattle.turn_losses.proofs.Unbroken.{gives-up-unbroken}
+use Rattle.turn_losses.proofs.GivingUp.{gives-up, gives-up-unbroken}
 use Rattle.turn_losses.proofs.laws.ends_give_up_for_losses.Goals as goal
 
 pub returns : goal.returns

@@ -1,5 +1,5 @@
 use Rattle.turn_losses.proofs.Numbering.{Plays}
-use Rattle.turn_losses.proofs.Law.{gives-up-starved}
+use Rattle.turn_losses.proofs.Sparing.{gives-up-starved}
 use Rattle.turn_losses.proofs.laws.ends_give_up_starved.Goals as goal
 
 pub returns : goal.returns

@@ -1,5 +1,4 @@
-use Rattle.turn_losses.proofs.Detecting.{wants-pattern, undetected-starved}
-use Rattle.turn_losses.proofs.Undetected.{undetected-on-time}
+use Rattle.turn_losses.proofs.Detecting.{wants-pattern, undetected-starved, undetected-on-time}
 use Rattle.turn_losses.proofs.laws.patterns_are_missed_for_losses.Goals as goal
 
 pub returns : goal.returns

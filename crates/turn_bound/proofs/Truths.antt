@@ -1,58 +1,56 @@
 -- What follows of two truths, of one that contradicts itself, and of a phase that isn't linked.
-use Rattle.std.proofs.Common.{◌≡◌, ◌&&◌, ◌||◌, Bool, true, false, refl, sym, ◌∙◌}
+use Rattle.std.proofs.Common.{arith, ◌≡◌, ◌&&◌, ◌||◌, Bool, true, false, refl, sym, ◌∙◌}
 use Rattle.link_account.proofs.Names.{is_connected}
-use Rattle.link_run.proofs.Names.{Phase, Connected}
-use Rattle.turn_losses.proofs.Names.{is_linked}
+use Rattle.link_run.proofs.Names.{Phase}
+use Rattle.link_account.specs.Laws.{has_begun as is_linked}
 
 pub clash : {A : Type 0} (b : Bool) → b ≡ true → b ≡ false → A
 clash b e f = let wrong : true ≡ false = sym e ∙ f in cc
 
 pub is-true : (b : Bool) → (b ≡ false → ⊥) → b ≡ true
-is-true true f = refl
-is-true false f = absurd (f refl)
+is-true b f = grind (arith)
 
 pub not-true : (b : Bool) → (b ≡ true → ⊥) → b ≡ false
-not-true true f = absurd (f refl)
-not-true false f = refl
+not-true b f = grind (arith)
 
 pub and-true : (b c : Bool) → b ≡ true → c ≡ true → b && c ≡ true
-and-true true c e f = f
-and-true false c e f = cc
+and-true b c e f = grind (arith)
 
 pub and-two : (b c : Bool) → b && c ≡ true → (b ≡ true) × (c ≡ true)
-and-two true c e = (refl, e)
-and-two false c e = cc
+and-two b c e = grind (arith)
 
 pub and-second : (b c : Bool) → b && c ≡ true → c ≡ true
 and-second b c e = (and-two b c e).1
 
 pub and-not : (b c : Bool) → b ≡ true → b && c ≡ false → c ≡ false
-and-not true c e f = f
-and-not false c e f = cc
+and-not b c e f = grind (arith)
+
+pub or-false-both : (b c : Bool) → b || c ≡ false → (b ≡ false) × (c ≡ false)
+or-false-both b c e = grind (arith)
+
+pub neither-first : (b c : Bool) → b || c ≡ false → b ≡ false
+neither-first b c e = (or-false-both b c e).0
+
+pub neither-second : (b c : Bool) → b || c ≡ false → c ≡ false
+neither-second b c e = (or-false-both b c e).1
 
 pub and-drop : (b c : Bool) → c ≡ false → b && c ≡ false
-and-drop true c e = e
-and-drop false c e = refl
+and-drop b c e = grind (arith)
 
 pub no-and : (b c : Bool) → b ≡ false → b && c ≡ false
-no-and true c e = cc
-no-and false c e = refl
+no-and b c e = grind (arith)
 
 pub or-first : (b c : Bool) → b ≡ true → b || c ≡ true
-or-first true c e = refl
-or-first false c e = cc
+or-first b c e = grind (arith)
 
 pub or-late : (b c : Bool) → c ≡ true → b || c ≡ true
-or-late true c e = refl
-or-late false c e = e
+or-late b c e = grind (arith)
 
 pub or-true : (b : Bool) → b || true ≡ true
 or-true b = or-late b true refl
 
 pub or-false : (b : Bool) → b || false ≡ b
-or-false true = refl
-or-false false = refl
+or-false b = grind (arith)
 
 pub unlinked-connected : (p : Phase) → is_linked p ≡ false → is_connected p ≡ false
-unlinked-connected Connected e = cc
-unlinked-connected p e = refl
+unlinked-connected p e = grind (arith)
