@@ -1,8 +1,7 @@
 -- Flags in a row, the last of which may be cut, and the bits of slots.
-use Rattle.std.proofs.Common.{◌≡◌, ℕ, zero, suc, ◌+◌, ◌-◌, ◌*◌, ◌/◌, ◌%◌, ◌<◌, ◌≤◌, inl, inr, Bool, false, List, [], ◌∷◌, ◌++◌, length}
-use Rattle.std.proofs.Common.{take, get_or, arith, append_assoc, length-append, refl, sym, ◌∙◌, ap}
-use Rattle.std.proofs.lemmas.Bool.{cases_lt}
-use Rattle.std.proofs.lemmas.List.{append-nil, take_more}
+use Rattle.std.proofs.Common.{◌≡◌, ℕ, zero, suc, ◌+◌, ◌-◌, ◌*◌, ◌/◌, ◌%◌, ◌<◌, ◌≤◌, Bool, List, [], ◌∷◌, ◌++◌, length}
+use Rattle.std.proofs.Common.{take, arith, append_assoc, length-append, refl, sym, ◌∙◌, ap}
+use Rattle.std.proofs.lemmas.List.{append-nil}
 use Rattle.frame_check.specs.Bits.{low_bits}
 use Rattle.bit_stuffing.specs.declared.pen.Pen.{Pen}
 use Rattle.bit_stuffing.specs.BitSlot.{line_bits}
@@ -25,25 +24,6 @@ length-fill n =
 pub flags-snoc : (n : ℕ) → flags n ++ flag ≡ flags (suc n)
 flags-snoc zero = refl
 flags-snoc (suc n) = append_assoc flag (flags n) flag ∙ ap (λ t. flag ++ t) (flags-snoc n)
-
--- one more bit
-pub fill-snoc : (n : ℕ) → fill (n + 1) ≡ fill n ++ get_or flag (n % 8) false ∷ []
-fill-snoc n = elim (cases_lt (n % 8) 7) [ inl few ↦ same_flag few | inr last ↦ next_flag last ]
-  where
-    same_flag : n % 8 < 7 → fill (n + 1) ≡ fill n ++ get_or flag (n % 8) false ∷ []
-    same_flag few =
-        let whole : (n + 1) / 8 ≡ n / 8 = omega arith in
-        let cut : (n + 1) % 8 ≡ n % 8 + 1 = omega arith in
-        rw (whole, cut) (ap (λ t. flags (n / 8) ++ t) (take_more flag (n % 8) false (omega arith))
-        ∙ sym (append_assoc (flags (n / 8)) (take (n % 8) flag) (get_or flag (n % 8) false ∷ [])))
-
-    next_flag : 7 ≤ n % 8 → fill (n + 1) ≡ fill n ++ get_or flag (n % 8) false ∷ []
-    next_flag last =
-        let whole : (n + 1) / 8 ≡ suc (n / 8) = omega arith in
-        let cut : (n + 1) % 8 ≡ 0 = omega arith in
-        let seven : n % 8 ≡ 7 = omega arith in
-        rw (whole, cut, seven)
-        (append-nil (flags (suc (n / 8))) ∙ sym (flags-snoc (n / 8)) ∙ sym (append_assoc (flags (n / 8)) (take 7 flag) (false ∷ [])))
 
 -- the phase behind slots
 pub phase-append : (size phase : ℕ) (slots : List Slot) (slot : Slot)

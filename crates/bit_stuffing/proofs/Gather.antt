@@ -2,10 +2,9 @@
 use Rattle.std.proofs.Common.{◌≡◌, ◌≢◌, ℕ, zero, suc, ◌+◌, ◌-◌, ◌*◌, ◌<◌, ◌≤◌, Bool, true, false, List, [], ◌∷◌, ◌++◌, length, arith}
 use Rattle.std.proofs.Common.{length-append, append_assoc, cond, refl, sym, ◌∙◌, ap, subst}
 use Rattle.std.proofs.lemmas.List.{append-nil}
-use Rattle.std.proofs.lemmas.List.Elements.{All-append, All-cons, All-nil}
 use Rattle.frame_check.specs.declared.sizes.TheConstants.{WHOLE}
 use Rattle.frame_check.specs.Bits.{low_bits, bits_of}
-use Rattle.frame_check.proofs.BitLists.{length-low_bits, length-bits_of, bits_of-snoc}
+use Rattle.frame_check.proofs.BitLists.{length-low_bits, length-bits_of}
 use Rattle.bit_stuffing.specs.declared.piece.Piece.{Piece}
 use Rattle.bit_stuffing.specs.declared.piece.Piece.TheVariants.{Whole, Ragged, Aborted, TooLong, TooShort}
 use Rattle.bit_stuffing.specs.declared.piece.TheConstants.{SHORTEST}
@@ -66,18 +65,6 @@ pub keeps-part : (octets : List ℕ) (part held new : ℕ) (kept : List Bool) (b
 keeps-part octets part held new kept b e h =
     (ap (λ l. l ++ b ∷ []) h.0 ∙ append_assoc (bits_of octets) (low_bits held part) (b ∷ []) ∙ ap (λ l. bits_of octets ++ l) (sym e), h.1)
 
-pub keeps-octet : (octets : List ℕ) (part held new : ℕ) (kept : List Bool) (b : Bool) → held ≡ 7 → new < 256
-    → low_bits (held + 1) new ≡ low_bits held part ++ b ∷ [] → KeepsBits false octets part held kept
-    → KeepsBits false (octets ++ new ∷ []) 0 0 (kept ++ b ∷ [])
-keeps-octet octets part held new kept b seven small e h =
-    let p = keeps-part octets part held new kept b e h in
-    let eight : held + 1 ≡ 8 = omega arith in
-    let bits : kept ++ b ∷ [] ≡ bits_of octets ++ low_bits 8 new = rw eight at p.0 in (
-      bits ∙ sym (append-nil (bits_of (octets ++ new ∷ [])) ∙ bits_of-snoc octets new),
-      All-append (λ octet. octet < 256) octets (new ∷ []) h.1
-          (All-cons (λ octet. octet < 256) new [] small (All-nil (λ octet. octet < 256))),
-    )
-
 -- how many bits octets take
 pub carried-length : (bits : List Bool) (octets : List ℕ) → Carries bits octets → length (removed 5 bits) ≡ 8 * length octets
 carried-length bits octets h = sym (ap length (is_removed h.stuffs)) ∙ length-bits_of octets
@@ -95,9 +82,6 @@ keeps-length g bits h e =
       length-bits_of g.octets,
       length-low_bits g.held g.part,
     )
-
-pub judge-long : (g : Gathering) (bits : List Bool) → Gathers g bits → g.over ≡ true → Judged bits TooLong
-judge-long g bits h e = subst (λ o. KeepsBits o g.octets g.part g.held (removed 5 bits)) e h.keeps
 
 pub judge-held : (g : Gathering) (bits : List Bool) → Gathers g bits → g.over ≡ false → g.held ≢ 0 → g.held < 8
     → 8 * length g.octets + g.held ≤ 8 * WHOLE → Judged bits Ragged

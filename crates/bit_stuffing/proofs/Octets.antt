@@ -2,7 +2,6 @@
 use Rattle.std.proofs.Common.{◌≡◌, ℕ, zero, suc, ◌+◌, ◌-◌, ◌*◌, ◌/◌, ◌%◌, ◌^◌, ◌<◌, ◌≤◌, Bool, true, false, ◌&&◌, if◌then◌else◌, nat_eq}
 use Rattle.std.proofs.Common.{List, [], ◌∷◌, ◌++◌, arith, append_assoc, refl, sym, ◌∙◌, ap, subst, inl, inr}
 use Rattle.std.proofs.lemmas.Bool.{cases_lt, false≢true, eqb-true, and_parts}
-use Rattle.std.proofs.lemmas.List.{append-nil}
 use Rattle.std.proofs.lemmas.List.Elements.{All-append, All-cons, All-nil}
 use Rattle.frame_check.proofs.BitLists.{bits_of-snoc}
 use Rattle.frame_check.specs.Bits.{low_bits, octet_bits, bits_of}
@@ -177,10 +176,6 @@ pub record HasPushed (g : Gathering) (line : List Bool) (place rest count bits :
   pub gathers : Gathers g (line ++ front)
   pub spelled : front ++ low_bits (count - place) rest ≡ low_bits count bits
 
-pub pushed-none : (g : Gathering) (line : List Bool) (count bits : ℕ) → Gathers g line → HasPushed g line 0 bits count bits
-pushed-none g line count bits h = let all : count - 0 ≡ count = omega arith in
-    record { front = []; gathers = subst (Gathers g) (sym (append-nil line)) h; spelled = ap (λ n. low_bits n bits) all }
-
 pub pushed-more : (g h : Gathering) (line : List Bool) (place rest count bits : ℕ) → place < count
     → ((line : List Bool) → Gathers g line → Gathers h (line ++ nat_eq (rest % 2) 1 ∷ [])) → HasPushed g line place rest count bits
     → HasPushed h line (place + 1) (rest / 2) count bits
@@ -189,23 +184,6 @@ pushed-more g h line place rest count bits l push p = record {
   gathers = subst (Gathers h) (append_assoc line p.front (nat_eq (rest % 2) 1 ∷ [])) (push (line ++ p.front) p.gathers);
   spelled = spelled-more p.front place rest count bits l p.spelled;
 }
-
-pub pushed-all : (g : Gathering) (line : List Bool) (place rest count bits : ℕ) → count ≤ place → HasPushed g line place rest count bits
-    → Gathers g (line ++ low_bits count bits)
-pushed-all g line place rest count bits l p =
-    let none : count - place ≡ 0 = omega arith in
-    let all : p.front ≡ low_bits count bits = sym (append-nil p.front) ∙ ap (λ n. p.front ++ low_bits n rest) (sym none) ∙ p.spelled in
-    subst (λ xs. Gathers g (line ++ xs)) all p.gathers
-
--- an octet above a part
-pub join-bound : (part held octet : ℕ) → held < 8 → part < 2 ^ held → octet < 256
-    → (octet * 2 ^ held < 65536) × (part + octet * 2 ^ held < 65536) × ((part + octet * 2 ^ held) / 256 < 2 ^ held)
-join-bound part held octet low small fits = below8 (λ k. part < 2 ^ k
-    → (octet * 2 ^ k < 65536) × (part + octet * 2 ^ k < 65536) × ((part + octet * 2 ^ k) / 256 < 2 ^ k))
-    (λ s. (omega arith, omega arith, omega arith)) (λ s. (omega arith, omega arith, omega arith))
-    (λ s. (omega arith, omega arith, omega arith)) (λ s. (omega arith, omega arith, omega arith))
-    (λ s. (omega arith, omega arith, omega arith)) (λ s. (omega arith, omega arith, omega arith))
-    (λ s. (omega arith, omega arith, omega arith)) (λ s. (omega arith, omega arith, omega arith)) held low small
 
 -- the same for four bits
 

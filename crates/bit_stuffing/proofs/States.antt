@@ -18,9 +18,6 @@ shut = record { ones = 7; since = None }
 pub flag-open : (run (open_at 0) flag ≡ open_at 0) × Still (open_at 0) flag
 flag-open = (refl, still-of (open_at 0) flag refl)
 
-pub flag-shut : (run shut flag ≡ open_at 0) × Still shut flag
-flag-shut = (refl, still-of shut flag refl)
-
 pub run-flags : (n : ℕ) → (run (open_at 0) (flags n) ≡ open_at 0) × Still (open_at 0) (flags n)
 run-flags zero = (refl, tt)
 run-flags (suc n) =

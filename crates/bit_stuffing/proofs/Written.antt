@@ -3,7 +3,7 @@ use Rattle.std.proofs.Common.{◌≡◌, ℕ, zero, suc, ◌+◌, ◌-◌, ◌*�
 use Rattle.std.proofs.Common.{length}
 use Rattle.std.proofs.Common.{take, drop, get_or, bit_and, arith, length-append, length-drop, refl, sym, ◌∙◌, ap, append_assoc}
 use Rattle.std.proofs.lemmas.Grind.{flat_map-append}
-use Rattle.std.proofs.lemmas.List.{append-nil, take_more, take_all, take-append-drop, get_or-drop}
+use Rattle.std.proofs.lemmas.List.{append-nil, take_more, take-append-drop, get_or-drop}
 use Rattle.std.proofs.lemmas.Nat.{and_mask}
 use Rattle.frame_check.specs.Bits.{low_bits, octet_bits, bits_of}
 use Rattle.frame_check.proofs.BitLists.{length-low_bits, get_or-low_bits, bits_of-snoc, bits_of-append}
@@ -178,6 +178,3 @@ flag-part from place b low high e =
     let bit : get_or (drop from flag) (place - from) false ≡ b =
     get_or-drop from flag (place - from) false ∙ ap (λ i. get_or flag i false) at_place ∙ sym e in
     rw (n, sym bit) (take_more (drop from flag) (place - from) false (omega (arith, length-drop from flag)))
-
-pub flag-all : (from : ℕ) → take (8 - from) (drop from flag) ≡ drop from flag
-flag-all from = take_all (8 - from) (drop from flag) (omega (arith, length-drop from flag))

@@ -10,7 +10,6 @@ use Rattle.scramblers.specs.declared.mode.Mode.TheVariants.{Call, Answer}
 use Rattle.scramblers.specs.Mode.{tap_of}
 use Rattle.scramblers.specs.Scrambles.{Descrambles}
 use Rattle.symbol_map.specs.declared.sample.Sample.{Sample}
-use Rattle.symbol_map.specs.Distance.{quarter_turned}
 use Rattle.symbol_map.specs.Laws.{turned_label}
 use Rattle.symbol_map.specs.Points.{point_of}
 use Rattle.trellis_tables.specs.Laws.{far_from}
@@ -56,10 +55,6 @@ length-turned (suc turns) labels = length-map (labels_turned turns labels) turne
 take-turned : (turns n : ℕ) (labels : List ℕ) → take n (labels_turned turns labels) ≡ labels_turned turns (take n labels)
 take-turned zero n labels = refl
 take-turned (suc turns) n labels = take-map turned_label n (labels_turned turns labels) ∙ ap (map turned_label) (take-turned turns n labels)
-
-length-turned_by : (turns : ℕ) (samples : List Sample) → length (turned_by turns samples) ≡ length samples
-length-turned_by zero samples = refl
-length-turned_by (suc turns) samples = length-map (turned_by turns samples) quarter_turned ∙ length-turned_by turns samples
 
 -- they give what the labels give
 unturned : (tap turns : ℕ) (labels : List ℕ) (bits : List Bool) → IsPickedUp tap (labels_turned turns labels) bits

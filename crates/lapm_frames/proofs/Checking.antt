@@ -1,8 +1,7 @@
 -- Frames with their check: the octets tell by which check they are judged, and are one frame or have one fault.
 use Rattle.std.proofs.Common.{Bool, true, false, ◌≡◌, ℕ, ◌-◌, ◌*◌, ◌%◌, ◌≤◌, nat_eq, false, if◌then◌else◌, is_some, List, length, take}
 use Rattle.std.proofs.Common.{Result, Ok, Err, refl, sym, ◌∙◌, ap, subst, arith}
-use Rattle.std.specs.Prelude.{slice_index_or, IfSome, IfNone, IfOk, IfErr, ◌↔◌}
-use Rattle.std.specs.Result.{result_ok}
+use Rattle.std.specs.Prelude.{slice_index_or, IfOk, IfErr, ◌↔◌}
 use Rattle.std.proofs.lemmas.Bool.{ne_eqb}
 use Rattle.frame_check.specs.declared.check.Check.{Check}
 use Rattle.frame_check.specs.declared.check.Check.TheVariants.{Sixteen}
@@ -117,17 +116,6 @@ pub long-enough : (used : Check) (whole : List ℕ) → Passes used whole → co
 long-enough used whole p = omega (arith, length-checked used p.octets whole p.checked)
 
 -- the frame alone
-
-pub ok-some : (check : Check) (sender : Role) (dlci : ℕ) (whole : List ℕ) (r : Result Frame CheckedFault)
-    → IfOk r (SpellsFrame check sender dlci whole) → IfSome (result_ok r) (SpellsFrame check sender dlci whole)
-ok-some check sender dlci whole (Ok frame) h = h
-ok-some check sender dlci whole (Err fault) h = tt
-
-pub ok-none : (check : Check) (sender : Role) (dlci : ℕ) (whole : List ℕ) (r : Result Frame CheckedFault)
-    → ((frame : Frame) → SpellsFrame check sender dlci whole frame → r ≡ Ok frame)
-    → IfNone (result_ok r) ((frame : Frame) → SpellsFrame check sender dlci whole frame → ⊥)
-ok-none check sender dlci whole (Ok frame) h = tt
-ok-none check sender dlci whole (Err fault) h = λ frame s. cc (h frame s)
 
 -- ends that agreed on the check of 16 bits judge all octets by it
 pub sixteen-heard : (whole : List ℕ) → check_heard Sixteen whole ≡ Sixteen

@@ -109,10 +109,6 @@ back-replied w srej o i forward slot rest h =
     (replies_in rest) slot.told [] h
     (omega arith) (omega (arith, h.told.each.0.high, h.range.nexts)) tt
 
--- an SREJ's number is found
-pub chosen_with : ℕ → Outgoing → Outgoing
-chosen_with n o = record o { chosen = with_number n o.chosen }
-
 pub back-selected : (w : ℕ) (srej : Bool) (o : Outgoing) (i : Incoming) (forward : List Slot) (command pf : Bool) (nr n told : ℕ)
     (rest : List Slot)
     → Goes w srej o i forward ((record { sent = slots.Frame (Srej command nr pf); number = n; told = told }) ∷ rest) → nr ≡ n % 128

@@ -422,14 +422,6 @@ info-right pieces n (s ∷ ss) h e = go (nat_eq s.number n) refl (info-right pie
     go true z ih k = h.0.1 ∙ ap (λ m. slice_index_or pieces m []) (eqb-true s.number n z)
     go false z ih k = ih k
 
-among-within : (pieces : List (List ℕ)) (n : ℕ) (ss : List Segment) → AreRight pieces ss → is_among n ss ≡ true → n < length pieces
-among-within pieces n [] h e = absurd (false≢true e)
-among-within pieces n (s ∷ ss) h e = go (nat_eq s.number n) refl (among-within pieces n ss h.1) e
-  where
-    go : (b : Bool) → nat_eq s.number n ≡ b → (is_among n ss ≡ true → n < length pieces) → (b || is_among n ss) ≡ true → n < length pieces
-    go true z ih k = omega (arith, h.0.0, eqb-true s.number n z)
-    go false z ih k = ih k
-
 -- the first of a list from a place on
 infos-are : (taken rest : List (List ℕ)) (ss : List Segment) (n : ℕ) (done : List (List ℕ)) → length done ≡ n
     → ((k : ℕ) → n ≤ k → k < n + length taken → info_of k ss ≡ slice_index_or (done ++ (taken ++ rest)) k [])

@@ -1,5 +1,5 @@
 -- Survivors of samples without noise, and what they release.
-use Rattle.std.proofs.Common.{◌≡◌, ℕ, ◌+◌, ◌<◌, ◌≤◌, ◌⊎◌, inl, inr, Bool, true, nat_eq, List, ◌++◌, length, map, take, drop, arith}
+use Rattle.std.proofs.Common.{◌≡◌, ℕ, ◌+◌, ◌≤◌, ◌⊎◌, inl, inr, Bool, true, nat_eq, List, ◌++◌, length, map, take, drop, arith}
 use Rattle.std.proofs.Common.{append_assoc, None, refl, sym, ◌∙◌, ap, subst, eq-eqb}
 use Rattle.std.proofs.lemmas.Bool.{cases_lt, cases_eq, eqb-true}
 use Rattle.std.proofs.lemmas.List.{take-map, take_all, take-append-drop, length-take-le}
@@ -9,12 +9,11 @@ use Rattle.trellis_tables.specs.Sequences.{Leads, cost}
 use Rattle.trellis_tables.specs.Table.{next_state}
 use Rattle.trellis_tables.specs.Laws.{far_from}
 use Rattle.trellis_tables.proofs.Sequences.{Leads-take}
-use Rattle.exact_decoder.specs.Surviving.Trellises.{IsSequence, HasLaws}
+use Rattle.exact_decoder.specs.Surviving.Trellises.{IsSequence}
 use Rattle.shared_terms.specs.Prefix.{IsPrefixOf}
 use Rattle.exact_decoder.specs.Surviving.Orders.{Beats}
 use Rattle.exact_decoder.specs.Surviving.Survivors.{IsSurvivor, IsReleased, LostIs}
 use Rattle.exact_decoder.proofs.Surviving.Fronts.{lost-once}
-use Rattle.exact_decoder.proofs.Surviving.V32.{v32-has-laws}
 use Rattle.exact_decoder.specs.Surviving.V32.{v32_code}
 use Rattle.exact_decoder.specs.Decoder.{Decoding, DecoderStands, heard}
 use Rattle.noise_bound.specs.Noiseless.{v32_from, IsNoiseless}
@@ -22,10 +21,6 @@ use Rattle.exact_decoder.specs.Laws.{IsOnlyLeast}
 use Rattle.noise_bound.specs.NoiselessLaws.{Follows}
 use Rattle.noise_bound.proofs.NoiselessCosts.{length-points, cost-own, no-cost-own}
 use Rattle.noise_bound.proofs.Agreeing.{Survives, AreNear, cheaper, few-from_one, few-from_any}
-
-pub v32_has_laws : (start : ℕ) → start < 8 → HasLaws (v32_from start) 8 32 2
-v32_has_laws start low =
-    v32-has-laws _ start (eq-eqb start start refl) (λ state e. subst (λ s. s < 8) (sym (eqb-true state start e)) low)
 
 -- sent labels survive at their end, from whatever states sequences start
 pub sent-survives : (starts : ℕ → Bool) (from end : ℕ) (labels : List ℕ) → starts from ≡ true → Leads next_state from labels end

@@ -4,7 +4,6 @@ use Rattle.std.proofs.Common.{take, drop, get_or, refl, sym, ap, subst, ◌∙�
 use Rattle.std.proofs.Common.{take-append-drop}
 use Rattle.std.proofs.lemmas.Bool.{and_parts, not-true, false≢true, ne_eqb}
 use Rattle.std.proofs.lemmas.List.{take_all}
-use Rattle.std.proofs.lemmas.List.Folds.{list_all_more}
 use Rattle.std.specs.List.{list_all, onto_first}
 use Rattle.noise_script.specs.Lines.{lines_of, without_return, is_blank, is_in_word, words_of}
 
@@ -16,11 +15,6 @@ is_no_blank octet = not (is_blank octet)
 
 some-cons : (x : ℕ) (xs : List ℕ) → x ∷ xs ≢ []
 some-cons x xs e = cc
-
--- one octet more passes a test
-pub passes-more : (test : ℕ → Bool) (xs : List ℕ) (i : ℕ) → i < length xs → list_all test (take i xs) ≡ true → test (get_or xs i 0) ≡ true
-    → list_all test (take (i + 1) xs) ≡ true
-passes-more test xs i h a b = list_all_more test xs i 0 h ∙ rw (a, b) refl
 
 pub no-feed : (octet : ℕ) → octet ≢ 10 → is_no_feed octet ≡ true
 no-feed octet h = rw (ne_eqb octet 10 h) refl

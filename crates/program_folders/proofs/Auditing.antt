@@ -10,8 +10,7 @@ use Rattle.std.specs.Cmp.Lexicographic.{slice_cmp, nat_list_cmp_total}
 use Rattle.std.specs.declared.cmp.Ordering.{Ordering}
 use Rattle.std.specs.declared.cmp.Ordering.TheVariants.{Less, Equal, Greater}
 use Rattle.std.proofs.lemmas.Slice.Eq.{bytes_eq-Decides}
-use Rattle.outside_calls.specs.Folder.{Files, FolderState, held_at, octets_at, raised, Rose, CountsStand, KeepsName, OnlyReads, OnlyWrites}
-use Rattle.outside_calls.specs.Folder.{HasCause}
+use Rattle.outside_calls.specs.Folder.{Files, FolderState, held_at, octets_at, Rose, CountsStand, KeepsName, OnlyReads, OnlyWrites}
 use Rattle.frame_check.specs.Octets.{AreOctets}
 use Rattle.outside_calls.specs.Folder.{ReadsFront, TellsOctets, Appended, Created}
 use Rattle.outside_calls.specs.declared.folder.FolderFault.{FolderFault}
@@ -136,13 +135,6 @@ module _ (n : Swallowed) where
   rose-inner : (a b r : ℕ) → Rose a b → Rose (sum_of a r) (sum_of b r)
   rose-inner a b r h = omega (arith, h)
 
-  rose-own : (a r : ℕ) → Rose (sum_of a r) (sum_of a (raised r))
-  rose-own a r = omega arith
-
-  pub reads-cause : {T : Type 0} (i j : FolderState) (r f f' : ℕ) (result : Result T FolderFault)
-      → HasCause f f' i.refusals j.refusals result → HasCause f f' (sum_of i.refusals r) (sum_of j.refusals r) result
-  reads-cause i j r f f' result h = record { failed = h.failed; memory = λ e. rose-inner i.refusals j.refusals r (h.memory e) }
-
   pub reads-stand : (i j : FolderState) (text : List ℕ) (r : ℕ) → CountsStand i j
       → CountsStand (audit_state i n text r) (audit_state j n text r)
   reads-stand i j text r h = record {
@@ -199,14 +191,6 @@ module _ (n : Swallowed) where
     said = refl;
     read_faults = λ q. refl;
   }
-
-  pub swallows-creation : (i : FolderState) (text : List ℕ) (r : ℕ) (name : List ℕ) → bytes_eq name n.trace ≡ false
-      → bytes_eq name n.got_o ≡ true ⊎ bytes_eq name n.got_a ≡ true → Created (audit_state i n text r) (audit_state i n text r) name
-  swallows-creation i text r name e s t = absurd (untold i name e s t)
-
-  pub swallows : (i : FolderState) (text piece : List ℕ) (r : ℕ) (name : List ℕ) → bytes_eq name n.trace ≡ false
-      → bytes_eq name n.got_o ≡ true ⊎ bytes_eq name n.got_a ≡ true → Appended (audit_state i n text r) (audit_state i n text r) name piece
-  swallows i text piece r name e s t = absurd (untold i name e s t)
 
   pub reads-on-ok : (i : FolderState) (text : List ℕ) (r : ℕ) (name : List ℕ) (at : ℕ) (before after : List ℕ)
       (result : Result ℕ FolderFault)

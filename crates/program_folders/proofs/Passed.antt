@@ -3,7 +3,7 @@ use Rattle.std.specs.Prelude.{◌≡◌, ◌≢◌, ℕ, IsTrue, List, [], Some,
 use Rattle.std.proofs.Common.{arith, Bool, true, false, refl, ap}
 use Rattle.std.specs.Str.{bytes_eq}
 use Rattle.std.proofs.lemmas.Slice.Eq.{bytes_eq-Decides}
-use Rattle.outside_calls.specs.Folder.{FolderState, held_at, octets_at, FaultsStand, CountsStand, Rose}
+use Rattle.outside_calls.specs.Folder.{FolderState, held_at, octets_at, FaultsStand, CountsStand}
 use Rattle.program_folders.specs.Audited.{Swallowed, audit_tells, audit_state}
 use Rattle.program_folders.specs.Passed.{OnlyPassed}
 use Rattle.program_folders.proofs.Auditing.{at-name, at-other, told}
@@ -21,12 +21,6 @@ pub faults-stand-inside : (a b : FolderState) (n m : Swallowed) (text more : Lis
     → FaultsStand (audit_state a n text r) (audit_state b m more s) → FaultsStand a b
 faults-stand-inside a b n m text more r s p h =
     record { reads = h.reads; writes = p.reads.write_faults; says = p.reads.say_faults }
-
--- and a count of reading that rose is its own
-pub rose-inside : (a b : FolderState) (n m : Swallowed) (text more : List ℕ) (r s : ℕ) (name : List ℕ)
-    → Rose ((audit_state a n text r).read_faults name) ((audit_state b m more s).read_faults name)
-    → Rose (a.read_faults name) (b.read_faults name)
-rose-inside a b n m text more r s name h = h
 
 -- ---- what it holds
 

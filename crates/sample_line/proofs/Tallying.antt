@@ -18,10 +18,9 @@ use Rattle.lapm_frames.specs.declared.sent.Sent.{Sent}
 use Rattle.lapm_frames.specs.declared.sent.Sent.TheVariants as sent
 use Rattle.sample_line.specs.declared.tally.Tally.{Tally}
 use Rattle.sample_line.specs.declared.tally.Tally.TheVariants.{Silent, AsSent, Other}
-use Rattle.lapm_frames.specs.declared.heard.Heard.{Heard}
 use Rattle.lapm_frames.specs.declared.heard.Heard.TheVariants as heard
-use Rattle.sample_line.specs.Outcomes.{IsSilent, IsPattern, IsWhatWasSent, IsLostAs, IsHeardAs}
-use Rattle.sample_line.specs.Tallies.{Tallies, carries, after_octets, after_pattern}
+use Rattle.sample_line.specs.Outcomes.{IsSilent, IsPattern, IsWhatWasSent}
+use Rattle.sample_line.specs.Tallies.{Tallies, carries, after_octets}
 
 snoc-some : {X : Type 0} (xs : List X) (x : X) → xs ++ x ∷ [] ≡ [] → ⊥
 snoc-some [] x e = absurd cc
@@ -190,35 +189,4 @@ next-pattern sender dlci (sent.Frame frame) octets patterns p e h = absurd (fals
 next-pattern sender dlci sent.Odp octets patterns p e h = own-more seen.Odp octets patterns p (is-odp p e) h.0 h.2
 next-pattern sender dlci sent.Adp octets patterns p e h = own-more seen.Adp octets patterns p (is-adp p e) h.0 h.2
 
-pub pattern-more : (sender : Role) (dlci : ℕ) (s : Sent) (octets : List (List ℕ)) (patterns : List Seen) (p : Seen) (t : Tally)
-    → Tallies sender dlci s octets patterns t → Tallies sender dlci s octets (patterns ++ p ∷ []) (after_pattern (carries s p) t)
-pattern-more sender dlci s octets patterns p t h = go (carries s p) t refl h
-  where
-    not-silent : IsSilent octets (patterns ++ p ∷ []) → ⊥
-    not-silent q = snoc-some patterns p q.1
-
-    not-sent : carries s p ≡ false → IsWhatWasSent sender dlci s octets (patterns ++ p ∷ []) → ⊥
-    not-sent e w = false≢true (sym e ∙ (last-pattern sender dlci s octets patterns p w).0)
-
-    go : (b : Bool) (t : Tally) → carries s p ≡ b → Tallies sender dlci s octets patterns t
-        → Tallies sender dlci s octets (patterns ++ p ∷ []) (after_pattern b t)
-    go true Silent e h = first-pattern sender dlci s octets patterns p e h
-    go false Silent e h = (not-silent, not-sent e)
-    go true AsSent e h = next-pattern sender dlci s octets patterns p e h
-    go false AsSent e h = (not-silent, not-sent e)
-    go b Other e h = (
-      not-silent,
-      λ w.
-          let last = last-pattern sender dlci s octets patterns p w in
-          elim last.2 [ inl none ↦ h.0 (last.1, none) | inr sent ↦ h.1 sent ],
-    )
-
 -- outcomes
-
-pub silent-outcome : (sender : Role) (dlci : ℕ) (s : Sent) (octets : List (List ℕ)) (patterns : List Seen) (h : Heard)
-    → IsSilent octets patterns → IsLostAs s h
-    → IsHeardAs sender dlci s octets patterns h
-silent-outcome sender dlci s octets patterns heard.Nothing silent lost = (lost, silent)
-silent-outcome sender dlci s octets patterns (heard.Lost t) silent lost = (lost.0, lost.1, silent)
-silent-outcome sender dlci s octets patterns (heard.Passed t) silent lost = absurd lost
-silent-outcome sender dlci s octets patterns heard.Chance silent lost = absurd lost

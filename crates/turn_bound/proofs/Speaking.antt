@@ -1,14 +1,14 @@
 use Rattle.std.proofs.Common.{◌≡◌, ℕ, ◌+◌, ◌-◌, ◌*◌, ◌≤◌, ◌||◌, Bool, true, false, cond, nat_eq, length, arith, refl, sym, ◌∙◌, ap, subst}
 use Rattle.std.proofs.Common.{Option, Some, None, Ok, ◌<◌, ◌&&◌, nat_le}
 use Rattle.link_account.proofs.Names.{nat_tests, Role, Originator, Answerer, Outgoing, next_number, BreakWord, OwnBreaks, ticked, Account}
-use Rattle.link_account.proofs.Names.{is_connected, is_originator, Said, may_send, speak_linked, Frame, Disc, trying, speak, speak_in}
+use Rattle.link_account.proofs.Names.{is_connected, is_originator, Said, may_send, speak_linked, Frame, trying, speak, speak_in}
 use Rattle.link_account.proofs.Names.{speak_releasing, is_some}
 use Rattle.link_run.proofs.Names.{Setup, Phase, Connected, is_closed, Detecting, Negotiating, Establishing, Releasing}
 use Rattle.lapm_sender.specs.Outgoing.{after_next}
 use Rattle.break_signals.specs.Breaks.{after_brk}
 use Rattle.link_account.specs.Speak.{timer_expires, breaking, running, says_segment}
-use Rattle.link_account.proofs.SpeakWays.{AllSaid, Steps, steps-so, polling_at, Expired, ConnectedWays, by-linked, next-keeps, OnSaid}
-use Rattle.link_account.proofs.SpeakWays.{Tries as TryWays, tries-alike, by-tries, linked-so, Ways, by-ways, answers_alone}
+use Rattle.link_account.proofs.SpeakWays.{AllSaid, Steps, steps-so, polling_at, Expired, ConnectedWays, by-linked, next-keeps}
+use Rattle.link_account.proofs.SpeakWays.{Tries as TryWays, linked-so, Ways, by-ways, answers_alone}
 use Rattle.turn_bound.proofs.Value.{Rates, AreRates, is_waiting, Sends, lasts, one_if, sender_value, Breaks, is_breaking, break_left, value}
 use Rattle.turn_bound.proofs.Value.{lives, IsOf, IsAck, IsSilent, LinkedIn, Linked, Stands, Runs, left, time_left, try_left, linked_lives}
 use Rattle.turn_bound.proofs.Value.{Tries, tries_fit}
@@ -398,14 +398,6 @@ speaks-well z total breaks turn role p release a said y k h e er all f =
 
 pub stopped : (m : Option ℕ) → is_some m ≡ false → m ≡ None
 stopped b e = grind (arith)
-
-released-says : (turn : ℕ) (a : Account) (said : Said) → speak_releasing turn (trying Releasing turn a) ≡ Ok said
-    → is_connected said.account.phase ≡ false
-released-says turn a said h = subst (OnSaid P) h
-    (by-tries P turn (Disc true) (trying Releasing turn a) (tries-alike P turn (Disc true) (trying Releasing turn a) (λ w. refl) refl))
-  where
-    P : Said → Type 0
-    P s = is_connected s.account.phase ≡ false
 
 -- an end that stays Connected isn't told to release
 pub linked-says : (turn : ℕ) (release : Bool) (a : Account) (said : Said) → a.phase ≡ Connected → is_connected said.account.phase ≡ true

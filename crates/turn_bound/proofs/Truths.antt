@@ -37,9 +37,6 @@ neither-second b c e = (or-false-both b c e).1
 pub and-drop : (b c : Bool) → c ≡ false → b && c ≡ false
 and-drop b c e = grind (arith)
 
-pub no-and : (b c : Bool) → b ≡ false → b && c ≡ false
-no-and b c e = grind (arith)
-
 pub or-first : (b c : Bool) → b ≡ true → b || c ≡ true
 or-first b c e = grind (arith)
 

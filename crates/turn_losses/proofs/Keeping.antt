@@ -2,21 +2,14 @@ use Rattle.std.proofs.Common.{◌≡◌, ℕ, ◌+◌, ◌-◌, ◌<◌, ◌&&�
 use Rattle.turn_losses.proofs.Names.{TwoEnds, of_frame, of_arrived, is_poll, is_final, Deed, past, sent_or, sends_poll, hears_poll}
 use Rattle.turn_losses.proofs.Names.{sends_final, hears_final, TimedRun, end_of}
 use Rattle.turn_losses.proofs.PeriodLaws.{polls-apart, still-awaited, reply-matches, two-ends, Answers, StillAwaited, looked}
-use Rattle.link_account.proofs.Names.{slice_get, Role, Originator, Answerer, other, of, Frame, Sent, Heard, is_connected}
+use Rattle.link_account.proofs.Names.{slice_get, Role, Originator, Answerer, other, of, Frame, Heard, is_connected}
 use Rattle.link_run.proofs.Names.{Accounts, Spoken, Turn, arrival, sent_in, sent_ago}
 use Rattle.link_run.specs.Overheard.{passes_in}
 use Rattle.link_run.specs.Starved.{turn_at}
-use Rattle.turn_losses.specs.Polls.{is_frame_of, sends_of, PollsIn, PollsKeepApart, RepliesAtOnce, AnswersPoll, AnswersMatchPolls}
+use Rattle.turn_losses.specs.Polls.{sends_of, PollsIn, PollsKeepApart, RepliesAtOnce, AnswersPoll, AnswersMatchPolls}
 use Rattle.turn_losses.proofs.Tracing.{OneMore, traced-turn, past-all, past-before, timed-run, timed-of}
 use Rattle.turn_bound.proofs.Truths.{and-not}
 use Rattle.lapm_frames.specs.declared.sent.Sent.TheVariants as slots
-
-same-kind : (is : Frame → Bool) (sent : Sent) → is_frame_of is sent ≡ of_frame is sent
-same-kind is slots.Mark = refl
-same-kind is slots.Flags = refl
-same-kind is slots.Odp = refl
-same-kind is slots.Adp = refl
-same-kind is (slots.Frame frame) = refl
 
 sends-kind : (is : Frame → Bool) (m : Option Spoken) (s : Spoken) → m ≡ Some s → sends_of is m ≡ of_frame is (sent_or m)
 sends-kind is b s e = grind (arith)

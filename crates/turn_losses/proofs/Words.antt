@@ -23,10 +23,6 @@ abbrev pub any_brk : BreakWord → Bool
 any_brk (Brk m l) = true
 any_brk (Ack m l) = false
 
-abbrev pub any_ack : BreakWord → Bool
-any_ack (Brk m l) = false
-any_ack (Ack m l) = true
-
 -- a BRKACK is due, of any number or of this one
 abbrev pub pends : Option BreakWord → Bool
 pends None = false

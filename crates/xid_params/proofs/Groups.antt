@@ -1,7 +1,6 @@
 -- Groups as they are passed, the faults of a field, and the first of these.
 use Rattle.std.proofs.Common.{◌≡◌, ◌≢◌, ℕ, suc, ◌+◌, ◌-◌, ◌/◌, ◌%◌, ◌<◌, ◌≤◌, ◌⊎◌, inl, inr, true, false, List, [], ◌∷◌, ◌++◌, length}
 use Rattle.std.proofs.Common.{nat_eq, cond, Option, Some, None, append_assoc, length-append, arith, refl, sym, ◌∙◌, ap, subst}
-use Rattle.std.specs.Prelude.{unwrap_or}
 use Rattle.std.specs.List.{flat_map}
 use Rattle.std.proofs.lemmas.Bool.Decides.{nat_tests}
 use Rattle.std.proofs.lemmas.List.{append-nil}
@@ -11,8 +10,7 @@ use Rattle.xid_params.specs.declared.fault.XidFault.TheVariants.{Format, Group, 
 use Rattle.xid_params.specs.declared.offer.Offer.{Offer}
 use Rattle.xid_params.specs.Parts.{Part, group_octets, named}
 use Rattle.xid_params.specs.Parameters.{ParametersSpell}
-use Rattle.xid_params.specs.Offers.{Passes, IsEnd, GroupsSpell, OfferSpelling}
-use Rattle.xid_params.specs.Terms.{default_offer}
+use Rattle.xid_params.specs.Offers.{Passes}
 use Rattle.xid_params.specs.Faults.{place_of, place_behind, IsGroupCut, IsGroupWrong, GroupHas, InnerHas, FormatHas, Has, IsFirst}
 use Rattle.xid_params.specs.Faults.{FirstFault, ParameterHas}
 use Rattle.xid_params.specs.Gathered.{IsOffered, Offers}
@@ -455,23 +453,3 @@ group-room groups rest tail content after offered identifier r e p =
       omega (arith, length-append content after, length-append (flat_map group_octets p.groups) rest),
       omega (arith, length-append content after),
     )
-
--- the end of the groups
-pub groups-end : (groups rest : List ℕ) (offered : Option Offer) → IsEnd rest → GroupsPassed (130 ∷ groups) rest offered
-    → OfferSpelling (130 ∷ groups) (unwrap_or offered default_offer)
-groups-end groups rest None ends p =
-    record {
-      groups = p.groups;
-      rest = rest;
-      passes = p.passes;
-      ends = ends;
-      offers = subst (λ named_groups. GroupsSpell named_groups default_offer) (sym p.offers) refl;
-    }
-groups-end groups rest (Some offer) ends p =
-    record {
-      groups = p.groups;
-      rest = rest;
-      passes = p.passes;
-      ends = ends;
-      offers = subst (λ named_groups. GroupsSpell named_groups offer) (sym p.offers.alone) p.offers.spells;
-    }

@@ -46,9 +46,6 @@ fault-to parts identifier tail at (Value place) (e, w) = omega arith
 fault-to parts identifier tail at (Group place) w = absurd w
 fault-to parts identifier tail at Format w = absurd w
 
-two-tails : (count : ℕ) (value rest : List ℕ) (e : count ∷ rest ≡ length value ∷ value) → count ≡ length value
-two-tails count value rest e = cc
-
 -- a cut parameter isn't whole
 whole-not-cut : (tail value rest : List ℕ) → tail ≡ length value ∷ (value ++ rest) → IsParameterCut tail → ⊥
 whole-not-cut [] value rest e h = cc

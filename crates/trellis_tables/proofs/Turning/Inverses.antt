@@ -8,10 +8,6 @@ use Rattle.trellis_tables.specs.Differential.Turned.{turned, before, unturned}
 use Rattle.trellis_tables.specs.Differential.Laws.{AreTurns}
 use Rattle.trellis_tables.proofs.Turning.Places.{length-turned, length-unturned, get_or-turned, get_or-unturned, sum-take_more}
 
--- before the first place stands 0, and before each other the number at the place before
-before-zero : (y : List ℕ) → before y 0 ≡ 0
-before-zero y = refl
-
 before-suc : (y : List ℕ) (n : ℕ) → before y (n + 1) ≡ get_or y n 0
 before-suc y n = grind (arith, nat_tests)
 
