@@ -146,13 +146,17 @@ unnumbers kind.Ua command pf tail low =
 unnumbers kind.Dm command pf tail low =
     unnumbers-by kind.Dm (codes "dm") 0x0f false command pf (λ info. None) tail (λ info. refl) (not-false command) refl (bare tail) tt
 unnumbers kind.Frmr command pf tail low =
-    unnumbers-by kind.Frmr (codes "frmr") 0x87 false command pf Some tail (λ info. refl) (not-false command) refl (λ few. (few, refl)) (omega arith)
+    unnumbers-by kind.Frmr (codes "frmr") 0x87 false command pf Some tail (λ info. refl) (not-false command) refl (λ few. (few, refl))
+    (omega arith)
 unnumbers kind.Xid command pf tail low =
-    unnumbers-by kind.Xid (codes "xid") 0xaf command command pf Some tail (λ info. refl) (λ h. absurd (h refl)) refl (λ few. (few, refl)) (omega arith)
+    unnumbers-by kind.Xid (codes "xid") 0xaf command command pf Some tail (λ info. refl) (λ h. absurd (h refl)) refl (λ few.
+    (few, refl)) (omega arith)
 unnumbers kind.Test command pf tail low =
-    unnumbers-by kind.Test (codes "test") 0xe3 command command pf Some tail (λ info. refl) (λ h. absurd (h refl)) refl (λ few. (few, refl)) (omega arith)
+    unnumbers-by kind.Test (codes "test") 0xe3 command command pf Some tail (λ info. refl) (λ h. absurd (h refl)) refl (λ few.
+    (few, refl)) (omega arith)
 unnumbers kind.Ui command pf tail low =
-    unnumbers-by kind.Ui (codes "ui") 0x03 command command pf Some tail (λ info. refl) (λ h. absurd (h refl)) refl (λ few. (few, refl)) (omega arith)
+    unnumbers-by kind.Ui (codes "ui") 0x03 command command pf Some tail (λ info. refl) (λ h. absurd (h refl)) refl (λ few. (few, refl))
+    (omega arith)
 
 low-bits : (octet control : ℕ) (pf : Bool) → marked octet pf ≡ control → control % 4 ≡ 3 → octet % 4 ≡ 3
 low-bits octet control true e low = omega (arith, e, low)

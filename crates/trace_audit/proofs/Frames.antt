@@ -15,7 +15,8 @@ use Rattle.line_texts.specs.FrameText.{kind_word, poll_word, number_word}
 use Rattle.trace_audit.specs.Cutting.{behind, first_of, front_of, rest_of, is_no_space}
 use Rattle.trace_audit.specs.Pieces.{behind_shape, behind_frame, behind_signal, behind_lost, behind_heard, behind_sent}
 use Rattle.trace_audit.specs.Grammar.{Shape, Numbered, Supervisory, Commanding, Responding, Rejecting, Exchanging, Unnumbered, count_bound}
-use Rattle.trace_audit.specs.Grammar.{shape_of, shape_named, FrameWords, AreInRange, IsBreak, count_word, information_word, shape_text, IsFrameText}
+use Rattle.trace_audit.specs.Grammar.{shape_of, shape_named, FrameWords, AreInRange, IsBreak, count_word, information_word, shape_text}
+use Rattle.trace_audit.specs.Grammar.{IsFrameText}
 use Rattle.trace_audit.specs.Grammar.{IsSignal, odp, adp, frame, IsHeard, nothing, lost, passed, IsSent, mark, flags, none, signal}
 use Rattle.trace_audit.proofs.Fronts.{chained, either, behind-is, front-rest}
 use Rattle.trace_audit.proofs.Shapes.{Stops, shape-reads, shape-is}

@@ -123,7 +123,8 @@ finished-at : {z : Rates} {total more : ℕ} {user : User} {turn : ℕ} {role : 
 finished-at true r s t h all dead none = cc
 finished-at false r s t h all dead none = finished s t h.breaks all dead none
 
-lives-linked : (turn : ℕ) (role : Role) (a : Account) → a.phase ≡ Connected → lives turn role a.phase a ≡ false → linked_lives turn a ≡ false
+lives-linked : (turn : ℕ) (role : Role) (a : Account) → a.phase ≡ Connected → lives turn role a.phase a ≡ false
+    → linked_lives turn a ≡ false
 lives-linked turn role a e f = subst (λ p. lives turn role p a ≡ false) e f
 
 released-not : (p : Phase) → p ≡ Connected → is_released p ≡ false
@@ -239,7 +240,8 @@ standstill z link totals turn s t u f h g oo oa before after dead dead' calm_o c
     let sound' = sound-after z link totals turn s t u f h g oo oa in
     let dead_o = neither-first (lives turn Originator s.orig.phase s.orig) (lives turn Answerer s.answ.phase s.answ) dead in
     let dead_a = neither-second (lives turn Originator s.orig.phase s.orig) (lives turn Answerer s.answ.phase s.answ) dead in
-    let dead_o' = neither-first (lives (turn + 1) Originator s'.orig.phase s'.orig) (lives (turn + 1) Answerer s'.answ.phase s'.answ) dead' in
+    let dead_o' = neither-first (lives (turn + 1) Originator s'.orig.phase s'.orig) (lives
+    (turn + 1) Answerer s'.answ.phase s'.answ) dead' in
     let dead_a' = neither-second (lives (turn + 1) Originator s'.orig.phase s'.orig)
     (lives (turn + 1) Answerer s'.answ.phase s'.answ) dead' in
     let po : s.orig.phase ≡ Connected = dead-connected turn s.orig.phase s.orig h.going dead_o in

@@ -107,7 +107,8 @@ pub quiet-well : (z : Rates) (total breaks turn : ℕ) (role : Role) (a : Accoun
     → (o : Owes) (t : TheirBreaks) → IsAck t.ack
     → HeardAs z total breaks turn 0 role Connected a Connected (record a { owes = o; their_breaks = t })
 quiet-well z total breaks turn role a h e o t ack = connected-well z total breaks turn 0 role a _
-    (same-heard z total turn a.outgoing a.wait.timer h.sends) (same-changed z breaks turn a.own_breaks h.breaks) ack h.silent e refl refl refl
+    (same-heard z total turn a.outgoing a.wait.timer h.sends) (same-changed z breaks turn a.own_breaks h.breaks) ack h.silent e refl refl
+    refl
     refl
 
 answered-lengths : (turn number : ℕ) (b : OwnBreaks) → (after_answer turn number b).lengths ≡ b.lengths
@@ -367,7 +368,8 @@ a-xid : (z : Rates) (total breaks turn : ℕ) (p : Phase) (a : Account) (offer :
 a-xid z total breaks turn p a offer info dead none k u f = (
   Negotiating,
   idle-well z total breaks turn Answerer p Negotiating a _ (on-terms a (agree offer a.setup.offer) u
-      (agreed-windows offer a.setup.offer (read-windows info offer f) (k.tx_window, k.rx_window))) refl refl refl refl (sym dead) (sym none) refl,
+      (agreed-windows offer a.setup.offer (read-windows info offer f) (k.tx_window, k.rx_window))) refl refl refl refl (sym dead)
+      (sym none) refl,
 )
 
 default-windows : (a : Account) (z : Rates) → IsOf z a.setup

@@ -318,7 +318,8 @@ module _ {z : Rates} {user : User} {turn : ℕ} {role : Role} {a : Account} {arr
 
               pays : (x : Said) → Pays turn b.special d x.account
                   → held_value (turn + 1) x.account + 3 ≤ held_value turn a + eight_if polled
-              pays x (Replies e less) = let q = t.asked unreplied (sym s.serves.reply ∙ e) in omega (arith, less, base, q.1, ap eight_if q.0)
+              pays x (Replies e less) = let q = t.asked unreplied (sym s.serves.reply
+                  ∙ e) in omega (arith, less, base, q.1, ap eight_if q.0)
               pays x (Much less) = omega (arith, less, base, t.gain)
               pays x (Srejs e n less) =
                   omega (arith, less, base, t.calm (sym s.serves.srej ∙ e) (ap (λ x. is_some x.ack) (sym s.serves.ack) ∙ n))

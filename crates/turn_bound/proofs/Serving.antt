@@ -201,7 +201,11 @@ before-by : (user : User) (turn : ℕ) (a : Account)
     → (s : ServedBy user turn a (before_asking user turn a)) × (s.own ≡ a.own_breaks)
 before-by user turn a = go (is_connected a.phase)
   where
-    by : (given : ℕ) → (g : Account) → g ≡ record a { incoming = record a.incoming { given = given }; breaks_told = length a.their_breaks.lengths }
+    by : (given : ℕ) → (g : Account) → g ≡ record a {
+      incoming = record a.incoming { given = given };
+      breaks_told = length
+          a.their_breaks.lengths;
+    }
         → (s : ServedBy user turn a (after_busy (is_busy turn user.busy) (offered user.file g))) × (s.own ≡ a.own_breaks)
     by given g e =
         let k = offers-well user.file g in

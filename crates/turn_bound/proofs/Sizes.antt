@@ -2,7 +2,8 @@ use Rattle.std.proofs.Common.{take, drop, ◌++◌, length-take, length-drop, �
 use Rattle.std.proofs.Common.{subst, Some, None, Ok, ◌+◌, ◌*◌, List, [], ◌∷◌, ◌⊎◌, inl, inr, length, arith, ◌<◌, ◌≤◌, zero, suc, nat_lt}
 use Rattle.std.proofs.Common.{length-append}
 use Rattle.turn_bound.proofs.Serving.{served-by}
-use Rattle.link_account.proofs.Names.{Outgoing, Arrived, Account, is_connected, wants, after_offer, hear, Said, speak, Role, Originator, Answerer, of}
+use Rattle.link_account.proofs.Names.{Outgoing, Arrived, Account, is_connected, wants, after_offer, hear, Said, speak, Role, Originator}
+use Rattle.link_account.proofs.Names.{Answerer, of}
 use Rattle.link_run.proofs.Names.{User, offered_at, offered_times, room_for, Link, Accounts, Turn, RunOf, arrival}
 use Rattle.link_run.proofs.Speaking.{speaks-pieces}
 use Rattle.turn_bound.proofs.Run.{served_account}

@@ -322,17 +322,18 @@ module _ (z : Rates) (total breaks turn : ℕ) (release : Bool) (a : Account) (y
       → value z total breaks (turn + 1) Originator q b + lasts z.room (lives turn Originator p a) (lives (turn + 1) Originator q b)
       ≤ value z total breaks turn Originator p a
       → P z total breaks turn release Originator a y k st er all b
-  tried p e q b phase keeps opens stands setup outgoing own falls = now z total breaks turn release Originator a y k st er all p e q b (record {
-    phase = phase;
-    keeps = keeps;
-    opens = λ x. opens;
-    stands = stands;
-    setup = setup;
-    pieces = ap (λ o. o.pieces) outgoing;
-    ended = ap (λ o. o.ended) outgoing;
-    lengths = ap (λ o. o.lengths) own;
-    falls = falls;
-  })
+  tried p e q b phase keeps opens stands setup outgoing own falls = now z total breaks turn release Originator a y k st er all p e q b
+      (record {
+        phase = phase;
+        keeps = keeps;
+        opens = λ x. opens;
+        stands = stands;
+        setup = setup;
+        pieces = ap (λ o. o.pieces) outgoing;
+        ended = ap (λ o. o.ended) outgoing;
+        lengths = ap (λ o. o.lengths) own;
+        falls = falls;
+      })
 
   o-ways : Ways (λ s. P z total breaks turn release Originator a y k st er all s.account) turn release a
   o-ways = record {

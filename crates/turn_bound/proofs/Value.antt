@@ -268,7 +268,8 @@ pub connected-is : (p : Phase) → is_connected p ≡ true → p ≡ Connected
 connected-is p e = grind (arith)
 
 -- by what phases are
-pub linked-of : (z : Rates) (before turn : ℕ) (role : Role) (p : Phase) (a : Account) → Stands z before turn role p a → is_connected p ≡ true
+pub linked-of : (z : Rates) (before turn : ℕ) (role : Role) (p : Phase) (a : Account) → Stands z before turn role p a
+    → is_connected p ≡ true
     → Linked z before turn role a
 linked-of z before turn role p a s e = grind (arith)
 

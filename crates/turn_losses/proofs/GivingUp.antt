@@ -125,7 +125,8 @@ none-taken tries period delay link (t ∷ ts) ends k (before, run, g) c r none =
     let s : SpeaksAt (said_at link turn g.mid r) (of r t) (of r ends) = g.speaking r in
     let own = served-taken tries period delay link ts before k run c.1 r none
     (none-taken tries period delay link ts before k run c.1 r none) t g.mid g.hearing in
-    let said = speaks-well z (length b.outgoing.pieces) (length (of r link).user.breaks) turn r i.phase (release_of link turn g.mid r) b s.said
+    let said = speaks-well z (length b.outgoing.pieces) (length (of r link).user.breaks) turn r i.phase
+    (release_of link turn g.mid r) b s.said
     i.rated (subst (IsOf z) (i.setup ∙ sym i.b_setup) i.is_of) i.b_stands (i.served.phase ∙ i.heard.phase) i.b_role (omega arith)
     (sym (said-as link turn g.mid r) ∙ s.says) in
     ap taken s.after_is ∙ (ap (λ (l : List ℕ). length l) said.1.lengths ∙ own)

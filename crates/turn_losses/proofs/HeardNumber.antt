@@ -155,7 +155,8 @@ module _ (turn : ℕ) (a : Account) where
     srej = λ command pf nr n f e. h (Srej command nr pf) _ _ _ _ _ (facts (Srej command nr pf)
         (record o { chosen = with_number n o.chosen }) _ _ refl
         (λ z s. let r = meant-range o.front (o.high - 1) nr n e in let l : o.front < o.high = grind (arith, nat_tests, f) in
-        heard-selected z turn turn o a.wait.timer n s r.0 (omega (arith, r.1, l))) (sym (or-false a.owes.reply)) (λ u. inl u) (λ g. refl) (λ u. u)
+        heard-selected z turn turn o a.wait.timer n s r.0 (omega (arith, r.1, l))) (sym (or-false a.owes.reply)) (λ u. inl u)
+        (λ g. refl) (λ u. u)
         (λ u. cc));
   }
 

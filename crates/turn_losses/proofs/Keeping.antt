@@ -96,7 +96,8 @@ answers-match tries period delay link ts before t after k run g c role cb h =
         hears = ap (λ (x : Turn). of_arrived is_final (arrival (of role x).heard)) turn ∙ (sym (passes-kind is_final (of role t).heard) ∙ h)
 
         still : StillAwaited (of role (w.state n))
-        still = still-awaited ends n (omega arith) (ap (λ (x : Accounts). is_connected (of role x).phase) m.before_is ∙ ap is_connected cb) hears
+        still = still-awaited ends n (omega arith) (ap (λ (x : Accounts). is_connected (of role x).phase) m.before_is
+            ∙ ap is_connected cb) hears
 
         a : Answers n (end_of w role) (end_of w (other role))
         a = reply-matches ends n (omega arith) hears

@@ -55,7 +55,8 @@ turn-of w r u l c = moved (by (i.polls.from mid-connected))
 
     says : SaidBreaks u b g.said
     says = breaks-said u b g.said (subst (λ t. IsAck t.ack) (sym i.served.ack) mid-linked.ack)
-        (linked-says u (release_of w.link u (w.deed u).mid r) b g.said (i.served.phase ∙ connected-is mid.phase mid-connected) after g.says).0
+        (linked-says u (release_of w.link u (w.deed u).mid r) b g.said (i.served.phase
+        ∙ connected-is mid.phase mid-connected) after g.says).0
 
     moved : (d : Deeds) × (d.answers ≡ is_some b.owes.answer) × BreakTurn w.period u arrived g.said.sent d a g.said.account
         × (waits g.said.account.own_breaks ≡ waits b.own_breaks) → (d : Deeds) × TurnOf w r u d

@@ -411,7 +411,8 @@ pub ack-goes : {period turns : ℕ} {e o : EndRun} {d : ℕ → Deeds} → TwoEn
     → of_arrived (of_word (brk_of number)) (e.heard x) ≡ true
     → (z : ℕ) × (x ≤ z) × (z < x + 6) × (of_frame (of_word (ack_of number)) (e.slot z) ≡ true)
 ack-goes {period} {turns} {e} {o} {d} k h x number small within c same na asks = elim
-    (until (λ t. of_frame (of_word (ack_of number)) (e.slot t) ≡ true) (λ t. pends_of number (e.account (t + 1)).their_breaks.ack ≡ true) x 6 step) [
+    (until (λ t. of_frame (of_word (ack_of number)) (e.slot t) ≡ true) (λ t. pends_of number (e.account
+    (t + 1)).their_breaks.ack ≡ true) x 6 step) [
       | inl y ↦ y
       | inr all ↦ absurd (none-held all)
     ]
@@ -433,9 +434,11 @@ ack-goes {period} {turns} {e} {o} {d} k h x number small within c same na asks =
         let one = once (sends_final e) (period - 1) turns (λ s t. replies-apart k s t) x 6 (omega (arith, p)) within in
         let one' = once (sends_poll e) (period - 1) turns (λ s t. polls-far k s t) x 6 (omega (arith, p)) within in
         let two = hurries-twice k h x 6 (omega (arith, p)) within c in
-        let none = no-hits (λ t. (d t).acks) x 6 (λ t a b. ((turn t a b).ack_from (any-due (e.account (t + 1)).their_breaks.ack (all t a b))).1) in
+        let none = no-hits (λ t. (d t).acks) x 6 (λ t a b. ((turn t a b).ack_from (any-due (e.account (t + 1)).their_breaks.ack
+        (all t a b))).1) in
         let five = after-acks (λ t. (e.account t).special) (λ t. (d t).acks) x 6
-        (λ t a b q. absurd ((turn t a (omega (arith, b))).special_ack q (any-due (e.account (t + 1)).their_breaks.ack (all t a (omega (arith, b))))))
+        (λ t a b q. absurd ((turn t a (omega (arith, b))).special_ack q (any-due (e.account (t + 1)).their_breaks.ack (all t a (omega
+        (arith, b))))))
         in
         let zero-answers = no-hits (λ t. (d t).answers) x 6 na in
         omega (arith, held, one, one', two, none, five, zero-answers)

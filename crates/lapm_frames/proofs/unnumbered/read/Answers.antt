@@ -29,9 +29,11 @@ returns-in_err-fits-clause-err c =
     (sym c.with_control.ensures ∙ c.in-Some.is) c.mark-octet.ensures.marked c.requires in
     let direction = sym (ap (λ parts. parts.command) c.parts-parts.ensures.parts)
     ∙ alike c.parts-parts.result.command c.args.command c.if-parts-command.false in
-    let limit = c.longest.ensures ∙ ap (λ b. if b then INFO else 0) (c.is_some.ensures ∙ some-map (λ info. info.now) c.parts-parts.result.info
+    let limit = c.longest.ensures ∙ ap (λ b. if b then INFO else 0) (c.is_some.ensures
+    ∙ some-map (λ info. info.now) c.parts-parts.result.info
     ∙ ap (λ parts. is_some parts.info) c.parts-parts.ensures.parts) ∙ by.longest in
-    rw (p.1, p.2) (unnumbered-long c.args.command c.args.control c.args.tail.now c.mark-octet.result.0 c.mark-octet.result.0 c.mark-octet.result.1
+    rw (p.1, p.2) (unnumbered-long c.args.command c.args.control c.args.tail.now c.mark-octet.result.0 c.mark-octet.result.0
+    c.mark-octet.result.1
     _ c.in_err-fits.field-0.0 refl (by.has direction) c.requires c.mark-octet.ensures.unmarked c.mark-octet.ensures.marked
     (c.in_err-fits.ensures.err.0, subst (λ n. n < length c.args.tail.now) limit c.in_err-fits.ensures.err.1))
 
@@ -41,7 +43,8 @@ returns-clause-ok c = λ sender dlci.
     (sym c.with_control.ensures ∙ c.in-Some.is) c.mark-octet.ensures.marked c.requires in
     let direction = sym (ap (λ parts. parts.command) c.parts-parts.ensures.parts)
     ∙ alike c.parts-parts.result.command c.args.command c.if-parts-command.false in
-    let limit = c.longest.ensures ∙ ap (λ b. if b then INFO else 0) (c.is_some.ensures ∙ some-map (λ info. info.now) c.parts-parts.result.info
+    let limit = c.longest.ensures ∙ ap (λ b. if b then INFO else 0) (c.is_some.ensures
+    ∙ some-map (λ info. info.now) c.parts-parts.result.info
     ∙ ap (λ parts. is_some parts.info) c.parts-parts.ensures.parts) ∙ by.longest in
     let few = subst (λ n. length c.args.tail.now ≤ n) limit c.in_ok-fits.ensures.ok in
     subst (λ (frame : Frame). FrameSpelling frame sender dlci (address_of c.args.command sender dlci ∷ c.args.control ∷ c.args.tail.now))

@@ -22,7 +22,8 @@ loop-place-preserved c =
       displaced = take_more_set samples place c.displaced.result room
           ∙ ap (λ (xs : List Sample). xs ++ c.displaced.result ∷ []) i.displaced
           ∙ displaced-more c.args.script.now c.args.self.now.sender c.args.self.now.symbol labels place _ _ c.displaced.result within refl
-          (c.offsets.ensures.value place (subst (λ n. place < n) (sym (length-take-le c.args.count _ c.requires.few)) c.loop-place-test.true)) (c.displaced.ensures ∙ ap (displaced _) c.point.ensures);
+          (c.offsets.ensures.value place (subst (λ n. place < n) (sym (length-take-le c.args.count _ c.requires.few))
+          c.loop-place-test.true)) (c.displaced.ensures ∙ ap (displaced _) c.point.ensures);
     }
 
 pub displaced-requires : goal.displaced-requires
