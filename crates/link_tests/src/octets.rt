@@ -1,7 +1,7 @@
 // Each kind of frame, read and written, and each fault at its first place.
 use super::assert_row;
 use frame_check::{INFO, Info, Whole};
-use lapm_frames::{Frame, FrameFault, read, write};
+use lapm_frames::{Frame, FrameFault, FrameKind, read, write};
 use shared_terms::Role;
 
 const ORIGINATOR: Role = Role::Originator;
@@ -173,6 +173,57 @@ fn spells(fields: &Fields, sender: Role, channel: u8, octets: &[u8]) -> bool {
 fn frames_by_their_octets(rt: HostRuntime) {
     for (name, fields, sender, channel, octets) in FRAMES {
         assert_row(&rt, name, spells(fields, *sender, *channel, octets));
+    }
+}
+
+/// The kinds of frames by their names in texts, with the control octets of ITU-T V.42 without N(S) and P/F.
+const KINDS: &[(&str, u8)] = &[
+    ("i", 0x00),
+    ("rr", 0x01),
+    ("rnr", 0x05),
+    ("rej", 0x09),
+    ("srej", 0x0d),
+    ("sabme", 0x6f),
+    ("disc", 0x43),
+    ("ua", 0x63),
+    ("dm", 0x0f),
+    ("frmr", 0x87),
+    ("xid", 0xaf),
+    ("test", 0xe3),
+    ("ui", 0x03),
+];
+
+/// Names and octets of no kind: with P/F, of an I frame with a number, and of the mode without extended numbers.
+const NO_KINDS: &[(&str, u8)] = &[
+    ("", 0x11),
+    ("r", 0x7f),
+    ("rrr", 0x02),
+    ("sabm", 0x2f),
+    ("I", 0xff),
+];
+
+/// Whether it is the kind with this name and this octet.
+fn is_kind(kind: Option<FrameKind>, name: &str, control: u8) -> bool {
+    match kind {
+        Some(kind) => {
+            let parts = kind.parts(true, 0, 0, false, &[]);
+            parts.name == name.as_bytes() && parts.control == control
+        }
+        None => false,
+    }
+}
+
+#[test]
+fn kinds_by_their_names_and_octets(rt: HostRuntime) {
+    for (name, control) in KINDS {
+        let named = is_kind(FrameKind::named(name.as_bytes()), name, *control);
+        let found = is_kind(FrameKind::with_control(*control), name, *control);
+        assert_row(&rt, name, named && found);
+    }
+    for (name, control) in NO_KINDS {
+        let named = FrameKind::named(name.as_bytes()).is_some();
+        let found = FrameKind::with_control(*control).is_some();
+        assert_row(&rt, name, !named && !found);
     }
 }
 
