@@ -1,7 +1,6 @@
 -- Whether one of finitely many does something can be told, where it can be told of each. Numbers, octets, and the frames that can be sent
 -- are finitely many.
-use Rattle.std.proofs.Common.{◌≡◌, inl, inr, ℕ, zero, suc, ◌<◌, ◌≤◌, Bool, true, false, List, [], ◌∷◌, length, arith, subst}
-use Rattle.std.proofs.lemmas.Bool.{cases_lt}
+use Rattle.std.proofs.Common.{inl, inr, ℕ, zero, suc, ◌<◌, ◌≤◌, Bool, true, false, List, [], ◌∷◌, length, arith}
 use Rattle.std.proofs.lemmas.List.Elements.{All-nil, All-cons, All-head, All-tail}
 use Rattle.frame_check.specs.Octets.{AreOctets}
 use Rattle.frame_check.specs.declared.sizes.TheConstants.{INFO}
@@ -15,14 +14,8 @@ use Rattle.line_ends.proofs.Deciding.{Decided}
 any-flag : (P : Bool → Type 0) → ((flag : Bool) → Decided (P flag)) → Decided ((flag : Bool) × P flag)
 any-flag P d = go (d false) (d true)
   where
-    neither : (P false → ⊥) → (P true → ⊥) → (flag : Bool) → P flag → ⊥
-    neither n m false p = n p
-    neither n m true p = m p
-
     go : Decided (P false) → Decided (P true) → Decided ((flag : Bool) × P flag)
-    go (inl p) e = inl (false, p)
-    go (inr n) (inl p) = inl (true, p)
-    go (inr n) (inr m) = inr (λ h. neither n m h.0 h.1)
+    go b e = grind (arith)
 
 -- one of so many numbers
 pub record SomeBelow (most : ℕ) (P : ℕ → Type 0) : Type 0 where
@@ -34,19 +27,8 @@ any-below : (most : ℕ) (P : ℕ → Type 0) → ((n : ℕ) → Decided (P n)) 
 any-below zero P d = inr (λ h. omega (arith, h.below))
 any-below (suc most) P d = go (any-below most P d) (d most)
   where
-    same : (n : ℕ) → most ≤ n → n < suc most → n ≡ most
-    same n k l = omega (arith, k, l)
-
-    none : (SomeBelow most P → ⊥) → (P most → ⊥) → (n : ℕ) → n < suc most → P n → ⊥
-    none f g n l p = elim (cases_lt n most) [
-      | inl k ↦ f (record { number = n; below = k; does = p })
-      | inr k ↦ g (subst P (same n k l) p)
-    ]
-
     go : Decided (SomeBelow most P) → Decided (P most) → Decided (SomeBelow (suc most) P)
-    go (inl h) e = inl (record { number = h.number; below = omega (arith, h.below); does = h.does })
-    go (inr f) (inl p) = inl (record { number = most; below = omega arith; does = p })
-    go (inr f) (inr g) = inr (λ h. none f g h.number h.below h.does)
+    go b e = grind (arith)
 
 -- one list of so many octets at most
 pub record SomeOctets (most : ℕ) (P : List ℕ → Type 0) : Type 0 where
@@ -102,16 +84,14 @@ any-number : (P : ℕ → Type 0) → ((n : ℕ) → P n → n < 128) → ((n : 
 any-number P few d = go (any-below 128 P d)
   where
     go : Decided (SomeBelow 128 P) → Decided (SomeNumber P)
-    go (inl h) = inl (h.number, h.does)
-    go (inr f) = inr (λ h. f (record { number = h.0; below = few h.0 h.1; does = h.1 }))
+    go b = grind (arith)
 
 any-info : (P : List ℕ → Type 0) → ((info : List ℕ) → P info → (length info ≤ INFO) × AreOctets info)
     → ((info : List ℕ) → Decided (P info)) → Decided (SomeInfo P)
 any-info P are d = go (any-octets INFO P d)
   where
     go : Decided (SomeOctets INFO P) → Decided (SomeInfo P)
-    go (inl h) = inl (h.octets, h.does)
-    go (inr f) = inr (λ h. f (record { octets = h.0; are = (are h.0 h.1).1; few = (are h.0 h.1).0; does = h.1 }))
+    go b = grind (arith)
 
 -- frames by what their kind has
 abbrev SomeNumbered : (ℕ → ℕ → Bool → List ℕ → Frame) → (Frame → Type 0) → Type 0

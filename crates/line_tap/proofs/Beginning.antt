@@ -1,5 +1,5 @@
 -- A tap before its first turn.
-use Rattle.std.proofs.Common.{◌≡◌, ℕ, ◌*◌, ◌≤◌, Bool, true, false, [], length, arith, refl, sym, ◌∙◌, ap, subst, min}
+use Rattle.std.proofs.Common.{◌≡◌, ℕ, ◌*◌, ◌≤◌, Bool, true, [], length, arith, refl, sym, ◌∙◌, ap, subst, min}
 use Rattle.shared_terms.specs.declared.role.Role.TheVariants.{Originator, Answerer}
 use Rattle.xid_params.specs.declared.offer.Offer.{Offer}
 use Rattle.xid_params.specs.declared.terms.Terms.{Terms}
@@ -16,12 +16,10 @@ use Rattle.line_tap.specs.Tap.{TapAfter}
 use Rattle.line_tap.specs.Turns.{no_octets}
 
 lowered-low : (b : Bool) (n : ℕ) → 1 ≤ n → 1 ≤ lowered b n
-lowered-low true n h = omega (arith, h)
-lowered-low false n h = h
+lowered-low b n h = grind (arith)
 
 lowered-high : (b : Bool) (n : ℕ) → n ≤ 127 → lowered b n ≤ 127
-lowered-high true n h = omega (arith, h)
-lowered-high false n h = h
+lowered-high b n h = grind (arith)
 
 pub window-low : (o a : Offer) → IsAllowed o → IsAllowed a → 1 ≤ (agree o a).window_o
 window-low o a h k = lowered-low _ (min o.tx_window a.rx_window) (omega (arith, h.tx_window_low, k.rx_window_low))
@@ -37,8 +35,7 @@ pub other-high : (o a : Offer) → IsAllowed o → IsAllowed a → (agree o a).w
 other-high o a h k = lowered-high _ (min a.tx_window o.rx_window) (omega (arith, k.tx_window_high, h.rx_window_high))
 
 lowered-few : (b : Bool) (n : ℕ) → b ≡ true → lowered b n ≤ 64
-lowered-few true n e = omega arith
-lowered-few false n e = absurd cc
+lowered-few b n e = grind (arith)
 
 -- with SREJ both are small
 pub window-few : (o a : Offer) → ((agree o a).srej ≡ true → (agree o a).window_o ≤ 64)

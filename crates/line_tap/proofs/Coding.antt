@@ -2,7 +2,7 @@
 use Rattle.std.proofs.Common.{◌≡◌, ◌∙◌, ◌*◌, ◌<◌, ◌≤◌, ℕ, suc, Bool, true, false, ◌&&◌, nat_eq, List, [], ◌∷◌, ◌++◌, length}
 use Rattle.std.proofs.Common.{take, map, refl, sym, ap, subst, arith, All, length-append}
 use Rattle.std.specs.List.{flat_map}
-use Rattle.std.proofs.lemmas.Bool.{false≢true, eqb-true}
+use Rattle.std.proofs.lemmas.Bool.{eqb-true}
 use Rattle.std.proofs.Math.Seq.{take-append_seam}
 use Rattle.std.proofs.lemmas.List.Elements.{All-head, All-tail}
 use Rattle.scramblers.proofs.Readings.{Descrambles_once}
@@ -69,13 +69,10 @@ reads_back-test : each_below 32 reads_back ≡ true
 reads_back-test = refl
 
 both : (a b : Bool) → (a && b) ≡ true → (a ≡ true) × (b ≡ true)
-both true b e = (refl, e)
-both false b e = absurd (false≢true e)
+both a b e = grind (arith)
 
 the-one : NoDistanceIsEqual → (xs : List Sample) (point : Sample) → is_one xs point ≡ true → xs ≡ point ∷ []
-the-one none [] point e = absurd (false≢true e)
-the-one none (s ∷ []) point e = ap (λ x. x ∷ []) ((none s point).0 (eqb-true (distance_of s point) 0 e))
-the-one none (s ∷ t ∷ rest) point e = absurd (false≢true e)
+the-one none xs point e = grind (arith)
 
 point-back : NoDistanceIsEqual → (label : ℕ) → label < 32
     → (length (sample_octets (point_of label)) ≡ 4) × (samples_in (sample_octets (point_of label)) ≡ point_of label ∷ [])

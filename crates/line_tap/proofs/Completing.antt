@@ -1,5 +1,5 @@
 -- From every answer to that which right inputs have.
-use Rattle.std.proofs.Common.{◌≡◌, ◌⊎◌, inl, inr, ℕ, ◌≤◌, ◌<◌, true, nat_eq, List, [], ◌++◌, length, take, drop, IsTrue, Result, refl, sym}
+use Rattle.std.proofs.Common.{◌≡◌, ◌⊎◌, inl, inr, ℕ, ◌≤◌, ◌<◌, true, nat_eq, List, [], ◌++◌, length, take, drop, IsTrue, Result, sym}
 use Rattle.std.proofs.Common.{◌∙◌, ap, subst, arith}
 use Rattle.std.specs.Prelude.{slice_index}
 use Rattle.std.proofs.lemmas.Bool.Decides.{nat_tests}
@@ -20,7 +20,7 @@ use Rattle.line_tap.specs.Ends.{TapEnd, TapOf}
 use Rattle.line_tap.specs.Ends as ends
 use Rattle.line_tap.specs.Laws.{TellsOnce}
 use Rattle.command_base.specs.declared.status.Status.{Status}
-use Rattle.command_base.specs.declared.status.Status.TheVariants.{BadScript, BadRecording, TooLong, LineLost, ChanceMatch, BadTap, NoMemory}
+use Rattle.command_base.specs.declared.status.Status.TheVariants.{BadScript, BadRecording, TooLong, NoMemory}
 use Rattle.command_base.specs.declared.stop.Stop.{Stop}
 use Rattle.command_base.specs.declared.stop.Stop.TheVariants as stops
 use Rattle.command_base.specs.Inputs.{IsWithin, IsLonger}
@@ -131,10 +131,7 @@ answered once scripts old before new n s script bodies found end left last r e t
 -- the end that an answer names
 own-tapped : (old before : FolderState) (n : TapNames) (answer : Status) → TappedBy LIMITS old before n answer
     → (found : TapEnd) × (answer ≡ answer_of found) × Tapped LIMITS old before n found
-own-tapped old before n (LineLost role symbol) e = (ends.LineLost role symbol, refl, e)
-own-tapped old before n (ChanceMatch role turn) e = (ends.ChanceMatch role turn, refl, e)
-own-tapped old before n (BadTap role turn) e = (ends.BadTap role turn, refl, e)
-own-tapped old before n answer e = absurd e
+own-tapped old before n answer e = grind (arith)
 
 pub completes-of : TellsOnce → ScriptsAreOne → NoFaultInScripts
     → (words : List (List ℕ)) (old new : FolderState) (n : TapNames) (s : Status)

@@ -22,7 +22,6 @@ use Rattle.bit_stuffing.specs.Sent.{SlotAdds, wholes, whole_at}
 use Rattle.bit_stuffing.specs.Tails.{LastPiecesAreFound, behind}
 use Rattle.bit_stuffing.proofs.Found.{pieces-none}
 use Rattle.shared_terms.specs.declared.role.Role.{Role}
-use Rattle.shared_terms.specs.declared.role.Role.TheVariants.{Originator, Answerer}
 use Rattle.lapm_frames.specs.declared.frame.Frame.{Frame}
 use Rattle.lapm_frames.specs.Parts.{parts_of}
 use Rattle.lapm_frames.specs.Frame.{address_of, control_octet, tail_octets, spelled}
@@ -47,10 +46,7 @@ pub record FoundLaws : Type 0 where
 -- ---- a frame begins with a one
 
 odd-address : (command : Bool) (sender : Role) (dlci : ℕ) → address_of command sender dlci % 2 ≡ 1
-odd-address true Originator dlci = omega arith
-odd-address false Originator dlci = omega arith
-odd-address true Answerer dlci = omega arith
-odd-address false Answerer dlci = omega arith
+odd-address command sender dlci = grind (arith)
 
 record BeginsWithOne (bits : List Bool) : Type 0 where
   rest : List Bool

@@ -32,7 +32,4 @@ frame-next check sender dlci symbols phase s frame end (Some n) is at e =
 pub frame-none : (check : Check) (sender : Role) (dlci symbols phase : ℕ) (s : Sent) (frame : Frame) (end : ℕ) (next : Option ℕ)
     → s ≡ sent.Frame frame → EndsAt check sender dlci phase s end → IfNone next (end ≤ 4 * (symbols - TAIL) → ⊥)
     → IfNone next (IsCodable check sender dlci symbols phase s → ⊥)
-frame-none check sender dlci symbols phase s frame end (Some n) is at none = tt
-frame-none check sender dlci symbols phase s frame end None is at none = λ k.
-    let codable = subst (IsCodable check sender dlci symbols phase) is k in
-    none (omega (arith, codable.room, at.frame frame is))
+frame-none check sender dlci symbols phase s frame end next is at none = grind (arith)

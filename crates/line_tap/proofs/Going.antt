@@ -44,12 +44,10 @@ hears-so x ts heard sent h = record { heard = at; checks = checks; given = given
     at Answerer = record { heard_of = h.heard_of Answerer; well = h.well Answerer }
 
     checks : (role : Role) → (of role t).check ≡ judged_by (terms_of x) role ts
-    checks Originator = refl
-    checks Answerer = refl
+    checks role = grind (arith)
 
     given : (role : Role) → (of role t).given ≡ given_to role ts (of role t).heard
-    given Originator = refl
-    given Answerer = refl
+    given role = grind (arith)
 
 -- ---- a slot is put on its way
 

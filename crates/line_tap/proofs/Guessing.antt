@@ -1,7 +1,6 @@
 -- The bits that are read of a slot's samples are its bits, and what is taken for what was sent in it is what was sent.
 use Rattle.std.proofs.Common.{◌≡◌, ◌∙◌, ◌⊎◌, inl, inr, ℕ, ◌+◌, ◌*◌, ◌<◌, Bool, true, List, ◌++◌, map}
 use Rattle.std.proofs.Common.{Option, Some, None, refl, sym, ap, subst, arith}
-use Rattle.std.proofs.lemmas.Bool.{false≢true}
 use Rattle.std.proofs.lemmas.List.{map-append}
 use Rattle.std.proofs.lemmas.List.Elements.{All-append}
 use Rattle.frame_check.specs.declared.check.Check.{Check}
@@ -65,8 +64,7 @@ none-found : (check : Check) (role : Role) (dlci symbols phase : ℕ) (read : Li
 none-found check role dlci symbols phase read found k e = by found (k sent.Flags refl tt e)
   where
     by : (found : Option Frame) → flagged found ≡ sent.Flags → found ≡ None
-    by None f = refl
-    by (Some frame) f = absurd cc
+    by found f = grind (arith)
 
 frame-found : (check : Check) (role : Role) (dlci symbols phase : ℕ) (frame : Frame) (read : List Bool) (found : Option Frame)
     → FindsSent check role dlci symbols phase read found → IsCodable check role dlci symbols phase (sent.Frame frame)
@@ -74,22 +72,17 @@ frame-found : (check : Check) (role : Role) (dlci symbols phase : ℕ) (frame : 
 frame-found check role dlci symbols phase frame read found k codable e = by found (k (sent.Frame frame) refl codable e)
   where
     by : (found : Option Frame) → flagged found ≡ sent.Frame frame → found ≡ Some frame
-    by None f = absurd cc
-    by (Some other) f = let same : other ≡ frame = cc in ap Some same
+    by found f = grind (arith)
 
 -- ---- so the guess is right
 
 plain-next : (check : Check) (role : Role) (dlci symbols : ℕ) (sigs : List Signal) (s : Sent) → is_plain s ≡ true
     → next_of check role dlci symbols sigs s ≡ plain_bits (4 * symbols) s
-plain-next check role dlci symbols sigs sent.Flags e = absurd (false≢true e)
-plain-next check role dlci symbols sigs (sent.Frame frame) e = absurd (false≢true e)
-plain-next check role dlci symbols sigs other e = refl
+plain-next check role dlci symbols sigs other e = grind (arith)
 
 plain-codable : (check : Check) (role : Role) (dlci symbols phase : ℕ) (s : Sent) → is_plain s ≡ true
     → IsCodable check role dlci symbols phase s
-plain-codable check role dlci symbols phase sent.Flags e = absurd (false≢true e)
-plain-codable check role dlci symbols phase (sent.Frame frame) e = absurd (false≢true e)
-plain-codable check role dlci symbols phase other e = tt
+plain-codable check role dlci symbols phase other e = grind (arith)
 
 -- a guess by the bits alone
 plain-right : GuessLaws → (check : Check) (role : Role) (dlci symbols : ℕ) (sigs : List Signal) (s guess : Sent) (read : List Bool)

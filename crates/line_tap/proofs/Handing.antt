@@ -110,5 +110,4 @@ pub fewer-ready : (old new : Taking) → new ≡ record old { ready = drop 1 old
 fewer-ready old new value some = subst (λ (r : Taking). length r.ready < length old.ready) (sym value) (less old.ready some)
   where
     less : (ready : List (List ℕ)) → true ≡ nat_lt 0 (length ready) → length (drop 1 ready) < length ready
-    less [] e = absurd cc
-    less (first ∷ ready) e = omega arith
+    less ready e = grind (arith)

@@ -6,12 +6,10 @@ use Rattle.scramblers.specs.declared.mode.Mode.{Mode}
 use Rattle.scramblers.specs.declared.mode.Mode.TheVariants.{Call, Answer}
 use Rattle.outside_calls.specs.Folder.{FolderState, octets_at}
 use Rattle.outside_calls.specs.Outputs.{SomeRose}
-use Rattle.outside_calls.specs.declared.folder.FolderFault.TheVariants as folder
-use Rattle.shared_terms.specs.declared.role.Role.TheVariants.{Originator, Answerer}
 use Rattle.recordings.specs.Recording.{header_of}
 use Rattle.noise_script.specs.Script.{ScriptValue}
 use Rattle.command_base.specs.declared.stop.Stop.{Stop}
-use Rattle.command_base.specs.declared.stop.Stop.TheVariants.{Own, Read, Write, Say, NoMemory}
+use Rattle.command_base.specs.declared.stop.Stop.TheVariants.{Own, Read}
 use Rattle.command_base.specs.Inputs.{ReadTo}
 use Rattle.command_base.specs.Stops.{StopCounts}
 use Rattle.run_inputs.specs.declared.limits.Limits.{Limits}
@@ -36,28 +34,19 @@ header-octets start new name count piece few r all told = elim (cases_lt count 8
 -- both recordings were read up to the octets behind their headers
 pub both-read : (start now : FolderState) (n : TapNames) → ReadTo start now n.rec_o TAP_LIMIT 8 (header_of Call)
     → ReadTo start now n.rec_a TAP_LIMIT 8 (header_of Answer) → AreReadTo start now n no_octets
-both-read start now n orig answ Originator = orig
-both-read start now n orig answ Answerer = answ
+both-read start now n orig answ b = grind (arith)
 
 -- the script or a length is refused
 pub inputs-refused : (l : Limits) (old new : FolderState) (n : TapNames) (stop : Stop)
     → Refuses l old new n.script 3 (recordings_of n) 1 stop
     → IsRefused l old new n stop
-inputs-refused l old new n (Own answer) refused = inl refused
-inputs-refused l old new n (Read fault) refused = inl refused
-inputs-refused l old new n (Write fault) refused = absurd refused
-inputs-refused l old new n (Say fault) refused = absurd refused
-inputs-refused l old new n NoMemory refused = refused
+inputs-refused l old new n stop refused = grind (arith)
 
 -- a recording has no header: the originator's,
 pub orig-refused : (l : Limits) (old new : FolderState) (n : TapNames) (script : ScriptValue) (stop : Stop)
     → Opens l old n.script (recordings_of n) script → NoHeader old n.rec_o Call stop → StopCounts old new (n.rec_o ∷ []) [] stop
     → IsRefused l old new n stop
-orig-refused l old new n script (Own answer) opens bad counts = inr (record { script = script; opens = opens; bad = inl bad })
-orig-refused l old new n script (Read fault) opens bad counts = inr (record { script = script; opens = opens; fails = inl counts })
-orig-refused l old new n script (Write fault) opens bad counts = bad
-orig-refused l old new n script (Say fault) opens bad counts = bad
-orig-refused l old new n script NoMemory opens bad counts = absurd bad
+orig-refused l old new n script stop opens bad counts = grind (arith)
 
 -- what was read of a recording is its header
 pub header-read : (start now : FolderState) (name : List ℕ) (mode : Mode) → ReadTo start now name TAP_LIMIT 8 (header_of mode)
@@ -72,14 +61,10 @@ answ-refused l old new n script (Own answer) opens good bad counts =
     inr (record { script = script; opens = opens; bad = inr (good, bad) })
 answ-refused l old new n script (Read fault) opens good bad counts =
     inr (record { script = script; opens = opens; fails = inr (good, counts) })
-answ-refused l old new n script (Write fault) opens good bad counts = bad
-answ-refused l old new n script (Say fault) opens good bad counts = bad
-answ-refused l old new n script NoMemory opens good bad counts = absurd bad
+answ-refused l old new n script stop opens good bad counts = grind (arith)
 
 -- a fault of some inputs is one of all
 pub stop-widened : (old new : FolderState) (some all outputs : List (List ℕ)) (stop : Stop)
     → (SomeRose old.read_faults new.read_faults some → SomeRose old.read_faults new.read_faults all) → StopCounts old new some outputs stop
     → StopCounts old new all outputs stop
-stop-widened old new some all outputs (Own answer) wide counts = counts
-stop-widened old new some all outputs (Read folder.Failed) wide counts = wide counts
-stop-widened old new some all outputs other wide counts = counts
+stop-widened old new some all outputs other wide counts = grind (arith)

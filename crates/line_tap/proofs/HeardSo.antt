@@ -12,7 +12,6 @@ use Rattle.lapm_frames.specs.declared.heard.Heard.TheVariants.{Passed, Chance}
 use Rattle.lapm_frames.specs.declared.sent.Sent.TheVariants as slots
 use Rattle.xid_params.specs.declared.terms.Terms.{Terms}
 use Rattle.lapm_receiver.specs.declared.took.Took.{Took}
-use Rattle.lapm_receiver.specs.declared.took.Took.TheVariants.{InOrder, Kept, Repeat, Gap}
 use Rattle.lapm_receiver.specs.Incoming.{Incoming, after_kind, kind_of, offset}
 use Rattle.noise_script.specs.Script.{IsInLimits, delay_of}
 use Rattle.link_run.specs.Run.{Turn}
@@ -76,10 +75,7 @@ are-few laws tap h = each
 
 kind-given : (k : Took) (o : ℕ) (info : List ℕ) (i : Incoming) (g : ℕ)
     → after_kind k o info (record i { given = g }) ≡ record (after_kind k o info i) { given = g }
-kind-given InOrder o info i g = refl
-kind-given Kept o info i g = refl
-kind-given Repeat o info i g = refl
-kind-given Gap o info i g = refl
+kind-given k o info i g = grind (arith)
 
 taking-given : (heard : Heard) (i : Incoming) (g : ℕ) → taking_in heard (record i { given = g }) ≡ record (taking_in heard i) { given = g }
 taking-given (Passed (slots.Frame (I ns nr pf info))) i g = kind-given (kind_of ns i) (offset i ns) info i g
@@ -112,8 +108,7 @@ ends-by c ts f g e (ChanceMatch Answerer) h =
 pub checks-so : (tap : Tap) (x : Tapping) (ts : List Turn) (checks : Both Check) → TapAfter tap x ts
     → checks.orig ≡ tap.orig.listener.check → checks.answ ≡ tap.answ.listener.check
     → (role : Role) → of role checks ≡ judged_by (terms_of x) role ts
-checks-so tap x ts checks h o a Originator = o ∙ h.orig.check_is
-checks-so tap x ts checks h o a Answerer = a ∙ h.answ.check_is
+checks-so tap x ts checks h o a role = grind (arith)
 
 pub hears-these : (tap new : Tap) (x : Tapping) (ts : List Turn) (checks : Both Check) (heard : Both Heard) → TapAfter tap x ts
     → checks.orig ≡ tap.orig.listener.check → checks.answ ≡ tap.answ.listener.check

@@ -1,8 +1,8 @@
 -- What an end is given by what it hears, and hands over.
-use Rattle.std.proofs.Common.{◌≡◌, ℕ, ◌*◌, ◌≤◌, Bool, true, false, List, ◌++◌, length, refl, sym, subst, Option, Some, None, append-nil}
+use Rattle.std.proofs.Common.{arith, ◌≡◌, ℕ, ◌*◌, ◌≤◌, Bool, true, false, List, ◌++◌, length, refl, sym, subst, Option, Some, None}
+use Rattle.std.proofs.Common.{append-nil}
 use Rattle.std.specs.Prelude.{◌||◌}
 use Rattle.shared_terms.specs.declared.role.Role.{Role}
-use Rattle.shared_terms.specs.declared.role.Role.TheVariants.{Originator, Answerer}
 use Rattle.lapm_frames.specs.declared.frame.Frame.TheVariants.{I, Ui}
 use Rattle.link_run.specs.Laws.{given_in}
 use Rattle.link_run.specs.Listened.{given_by}
@@ -23,12 +23,10 @@ with-given (Some length_octet) lengths = refl
 
 -- neither a segment nor a word opens a link
 pub opens-no-segment : (role : Role) (ns nr : ℕ) (pf : Bool) (info : List ℕ) (b : Bool) → (opens role (I ns nr pf info) || b) ≡ b
-opens-no-segment Originator ns nr pf info b = refl
-opens-no-segment Answerer ns nr pf info b = refl
+opens-no-segment role ns nr pf info b = grind (arith)
 
 pub opens-no-word : (role : Role) (command pf : Bool) (info : List ℕ) (b : Bool) → (opens role (Ui command pf info) || b) ≡ b
-opens-no-word Originator command pf info b = refl
-opens-no-word Answerer command pf info b = refl
+opens-no-word role command pf info b = grind (arith)
 
 -- nor does a segment give a break
 pub gives-no-segment : (connected : Bool) (ns nr : ℕ) (pf : Bool) (info lengths : List ℕ)

@@ -1,6 +1,6 @@
 -- Whether a recording holds a slot of the next turn, and which, can be told.
 use Rattle.std.proofs.Common.{◌≡◌, inl, inr, ℕ, suc, ◌+◌, ◌-◌, ◌*◌, ◌%◌, ◌<◌, ◌≤◌, Bool, List, [], ◌∷◌, ◌++◌, length, take}
-use Rattle.std.proofs.Common.{arith, refl, ap, subst, Some}
+use Rattle.std.proofs.Common.{arith, ap, subst, Some}
 use Rattle.std.specs.Prelude.{ℤ, pos, negsuc}
 use Rattle.std.proofs.lemmas.Bool.{cases_lt}
 use Rattle.std.proofs.lemmas.List.Elements.{All-nil, All-cons, All-head, All-tail}
@@ -63,16 +63,8 @@ same-coordinate (negsuc m) (pos n) = inr (λ e. absurd cc)
 same-sample : (a b : Sample) → Decided (a ≡ b)
 same-sample a b = go (same-coordinate a.re b.re) (same-coordinate a.im b.im)
   where
-    sample : ℤ → ℤ → Sample
-    sample re im = record { re = re; im = im }
-
-    joined : (p q r s : ℤ) → p ≡ q → r ≡ s → sample p r ≡ sample q s
-    joined p q r s e f = rw (e, f) refl
-
     go : Decided (a.re ≡ b.re) → Decided (a.im ≡ b.im) → Decided (a ≡ b)
-    go (inl e) (inl f) = inl (joined a.re b.re a.im b.im e f)
-    go (inl e) (inr n) = inr (λ k. n (ap (λ (z : Sample). z.im) k))
-    go (inr n) d = inr (λ k. n (ap (λ (z : Sample). z.re) k))
+    go b d = grind (arith)
 
 -- ---- what can be coded
 
@@ -96,9 +88,7 @@ frame-fits check sender dlci symbols phase frame =
     go : Decided (IsSendable (sent.Frame frame))
         → Decided (length (opening phase (Some (checked check sender dlci frame))) ≤ 4 * (symbols - TAIL))
         → Decided (FrameFits check sender dlci symbols phase frame)
-    go (inl s) (inl l) = inl (record { sendable = s; room = l })
-    go (inl s) (inr n) = inr (λ h. n h.room)
-    go (inr n) d = inr (λ h. n h.sendable)
+    go b d = grind (arith)
 
 is-codable : (check : Check) (sender : Role) (dlci symbols phase : ℕ) (s : Sent) → Decided (IsCodable check sender dlci symbols phase s)
 is-codable check sender dlci symbols phase sent.Mark = inl tt
@@ -139,10 +129,7 @@ is-next c check role ts body s =
         → Decided (Modulates (tap_of (mode_of role)) (bits_of c role ts ++ next_bits c check role ts s)
         (take (c.symbols * (length ts + 1)) (samples_in body)))
         → Decided (HoldsNext c check role ts body s)
-    go (inl w) (inl k) (inl m) = inl (record { whole = w; codable = k; modulated = m })
-    go (inr n) k m = inr (λ h. n h.whole)
-    go (inl w) (inr n) m = inr (λ h. n h.codable)
-    go (inl w) (inl k) (inr n) = inr (λ h. n h.modulated)
+    go b k m = grind (arith)
 
 -- and whether one of all that an end may send is.
 pub next-or-none : (c : Wire) (check : Check) (role : Role) (ts : List Turn) (body : List ℕ)

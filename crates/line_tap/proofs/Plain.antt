@@ -1,5 +1,6 @@
 -- Turns of a run without what the line doesn't tell: the meant numbers, and the checks of frames that have no numbers.
-use Rattle.std.proofs.Common.{◌≡◌, ℕ, zero, suc, ◌-◌, ◌*◌, Bool, true, false, cond, List, [], ◌∷◌, ◌++◌, length, map, drop, refl, sym, ◌∙◌}
+use Rattle.std.proofs.Common.{arith, ◌≡◌, ℕ, zero, suc, ◌-◌, ◌*◌, Bool, true, false, cond, List, [], ◌∷◌, ◌++◌, length, map, drop, refl}
+use Rattle.std.proofs.Common.{sym, ◌∙◌}
 use Rattle.std.proofs.Common.{ap, subst, Option, Some, None, slice_get}
 use Rattle.std.specs.Prelude.{is_some, ◌||◌}
 use Rattle.std.specs.Option.{option_map}
@@ -48,20 +49,16 @@ abbrev pub plains : Check → List Turn → List Turn
 plains check ts = map (plain check) ts
 
 pub plain-heard : (check : Check) (role : Role) (t : Turn) → (of role (plain check t)).heard ≡ (of role t).heard
-plain-heard check Originator t = refl
-plain-heard check Answerer t = refl
+plain-heard check role t = grind (arith)
 
 pub plain-check : (check : Check) (role : Role) (t : Turn) → (of role (plain check t)).check ≡ (of role t).check
-plain-check check Originator t = refl
-plain-check check Answerer t = refl
+plain-check check role t = grind (arith)
 
 pub plain-given : (check : Check) (role : Role) (t : Turn) → (of role (plain check t)).given ≡ (of role t).given
-plain-given check Originator t = refl
-plain-given check Answerer t = refl
+plain-given check role t = grind (arith)
 
 pub plain-sent : (check : Check) (role : Role) (t : Turn) → (of role (plain check t)).sent ≡ option_map (plain_slot check) (of role t).sent
-plain-sent check Originator t = refl
-plain-sent check Answerer t = refl
+plain-sent check role t = grind (arith)
 
 -- what passed, what was taken and given, and the trace are the same
 plain-passed : (is : Frame → Bool) (check : Check) (role : Role) (ts : List Turn)
@@ -97,8 +94,7 @@ plain-line : (check : Check) (turn : ℕ) (role : Role) (s : Side) → side_line
 plain-line check turn role s = go s.sent refl
   where
     go : (o : Option Spoken) → s.sent ≡ o → side_line turn role (plain_side check s) ≡ side_line turn role s
-    go None e = rw e refl
-    go (Some slot) e = rw e refl
+    go o e = grind (arith)
 
 pub plain-text : (check : Check) (ts : List Turn) → trace_text (plains check ts) ≡ trace_text ts
 plain-text check [] = refl
@@ -181,8 +177,7 @@ length-dropped check n ts = ap length (drop-map (plain check) n ts) ∙ length-m
 
 plain-in : (check : Check) (role : Role) (o : Option Turn)
     → sent_in role (option_map (plain check) o) ≡ option_map (plain_slot check) (sent_in role o)
-plain-in check role None = refl
-plain-in check role (Some t) = plain-sent check role t
+plain-in check role o = grind (arith)
 
 plain-ago : (check : Check) (d : ℕ) (role : Role) (ts : List Turn)
     → sent_ago d role (plains check ts) ≡ option_map (plain_slot check) (sent_ago d role ts)
@@ -234,8 +229,7 @@ heard_in-plain c check ts t a h Answerer = record {
 }
 
 some-plain : (check : Check) (o : Option Spoken) → is_some (option_map (plain_slot check) o) ≡ is_some o
-some-plain check None = refl
-some-plain check (Some slot) = refl
+some-plain check o = grind (arith)
 
 pub loses-plain : (c : Wire) (check : Check) (sender : Role) (ts : List Turn) (symbol : ℕ) → AllChecked check sender ts
     → LosesLine c sender ts symbol → LosesLine c sender (plains check ts) symbol

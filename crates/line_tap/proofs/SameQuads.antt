@@ -2,14 +2,13 @@
 use Rattle.std.proofs.Common.{◌≡◌, ◌∙◌, ℕ, zero, suc, ◌-◌, ◌<◌, ◌≤◌, Bool, true, false, nat_eq, List, [], ◌∷◌, ◌++◌, length, slice_index}
 use Rattle.std.proofs.Common.{◌⊎◌, inl, inr, ◌+◌, refl, sym, ap, subst, arith}
 use Rattle.std.specs.Prelude.{◌&&◌}
-use Rattle.std.proofs.lemmas.Bool.{eqb-true, eqb-false, and_parts, cases_lt, false≢true}
+use Rattle.std.proofs.lemmas.Bool.{eqb-true, eqb-false, and_parts, cases_lt}
 use Rattle.frame_check.specs.Bits.{low_bits, number_of}
 use Rattle.bit_stuffing.specs.BitSlot.{line_bits}
 use Rattle.bit_stuffing.proofs.Written.{length-line_bits}
 use Rattle.symbol_map.specs.Finite.{each_below, at_each}
 use Rattle.lapm_frames.specs.declared.seen.Seen.TheVariants as seen
 use Rattle.lapm_frames.specs.declared.sent.Sent.{Sent}
-use Rattle.lapm_frames.specs.declared.sent.Sent.TheVariants as sent
 use Rattle.detection.specs.Patterns.{ones}
 use Rattle.detection.specs.Slots.{pattern_bits}
 use Rattle.line_tap.specs.Reading.{is_plain, plain_bits}
@@ -75,8 +74,7 @@ one-compared same n a b h k low few so = record {
 
     no : (x y : Bool) → (x ≡ false → line_bits a ≡ line_bits b → ⊥) → (y ≡ false → line_bits a ≡ line_bits b → ⊥) → x && y ≡ false
         → line_bits a ≡ line_bits b → ⊥
-    no false y f g e = f refl
-    no true y f g e = g e
+    no x y f g e = grind (arith)
 
 -- or another count
 pub counts-differ : (a b : List ℕ) → (length a ≡ length b → ⊥) → line_bits a ≡ line_bits b → ⊥
@@ -93,7 +91,4 @@ begin-ones size h =
 -- three slots that it isn't
 pub none-plain : (size : ℕ) (bits : List Bool) → (bits ≡ ones size → ⊥) → (bits ≡ pattern_bits size seen.Odp → ⊥)
     → (bits ≡ pattern_bits size seen.Adp → ⊥) → (s : Sent) → is_plain s ≡ true → bits ≡ plain_bits size s → ⊥
-none-plain size bits a b c sent.Mark e k = a k
-none-plain size bits a b c sent.Odp e k = b k
-none-plain size bits a b c sent.Adp e k = c k
-none-plain size bits a b c other e k = false≢true e
+none-plain size bits a b c other e k = grind (arith)

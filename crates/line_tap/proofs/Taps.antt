@@ -1,5 +1,5 @@
 -- From the phases of a tap to how it ends.
-use Rattle.std.proofs.Common.{inl, inr, ℕ, List, Result, Ok, Err, subst}
+use Rattle.std.proofs.Common.{arith, inr, ℕ, List, Result, Ok, Err, subst}
 use Rattle.outside_calls.specs.Folder.{FolderState, OnlyReads}
 use Rattle.outside_calls.specs.Outputs.{AreApartFrom, CreatesPart, KeepsAll, OnlyOutputs, SomeRose}
 use Rattle.outside_calls.proofs.Putting.{KeepsEach-reads, inputs-kept}
@@ -9,7 +9,7 @@ use Rattle.noise_script.specs.Script.{ScriptValue, IsInLimits}
 use Rattle.command_base.specs.Status.{IsRefusal}
 use Rattle.command_base.specs.Stops.{EndCounts, end_status}
 use Rattle.command_base.specs.declared.status.Status.{Status}
-use Rattle.command_base.specs.declared.status.Status.TheVariants.{LineLost, ChanceMatch, BadTap, Usage, BadScript, BadHex, BadXid, TooLong}
+use Rattle.command_base.specs.declared.status.Status.TheVariants.{LineLost, ChanceMatch, BadTap}
 use Rattle.command_base.specs.declared.stop.Stop.{Stop}
 use Rattle.command_base.specs.declared.stop.Stop.TheVariants.{Own, Read, Write, Say, NoMemory}
 use Rattle.command_base.proofs.Creating.{CreatesPart-earlier}
@@ -21,7 +21,7 @@ use Rattle.line_tap.specs.Names.{TapNames, inputs_of, outputs_of, recordings_of}
 use Rattle.line_tap.specs.Tap.{AreReadTo}
 use Rattle.line_tap.specs.Turns.{TurnsEnd, no_octets}
 use Rattle.line_tap.proofs.HeaderRead.{header-read, stop-widened}
-use Rattle.line_tap.specs.Outcomes.{IsBegun, IsRefused, TappedBy, StopsCreating, EndsBy, Ends}
+use Rattle.line_tap.specs.Outcomes.{IsBegun, IsRefused, StopsCreating, EndsBy, Ends}
 
 -- ---- what was read stays read as the outputs are made
 
@@ -39,11 +39,7 @@ headers-later start a b n apart only h Answerer =
 -- the inputs were not taken
 pub ends-refused : (l : Limits) (old new : FolderState) (n : TapNames) (stop : Stop) → OnlyReads old new → IsRefused l old new n stop
     → EndsBy l old new n stop
-ends-refused l old new n (Own answer) reads r = inl (reads.names, r)
-ends-refused l old new n (Read fault) reads r = inl (reads.names, r)
-ends-refused l old new n NoMemory reads r = (reads.names, r)
-ends-refused l old new n (Write fault) reads never = absurd never
-ends-refused l old new n (Say fault) reads never = never
+ends-refused l old new n stop reads r = grind (arith)
 
 -- an output was not created
 pub ends-creating : (l : Limits) (old mid new : FolderState) (n : TapNames) (script : ScriptValue) → IsBegun l old mid n script
@@ -76,9 +72,7 @@ ends-turns l old mid next n script (Err (Say fault)) b limits e counts = e
 ends-turns l old mid next n script (Err NoMemory) b limits e counts = absurd e
 
 rose-widened : (before now : List ℕ → ℕ) (n : TapNames) → SomeRose before now (recordings_of n) → SomeRose before now (inputs_of n)
-rose-widened before now n (inl rose) = inl rose
-rose-widened before now n (inr (inl rose)) = inr (inl rose)
-rose-widened before now n (inr (inr never)) = absurd never
+rose-widened before now n b = grind (arith)
 
 -- a fault of a recording is one of an input
 pub end-widened : (old new : FolderState) (n : TapNames) (end : Result ℕ Stop) → EndCounts old new (recordings_of n) (outputs_of n) end
@@ -89,18 +83,9 @@ end-widened old new n (Err stop) counts =
 
 -- ---- what is refused is refused before the outputs are created
 
-no-refusal : (old new : FolderState) (n : TapNames) (answer : Status) → TappedBy LIMITS old new n answer → IsRefusal answer → ⊥
-no-refusal old new n Usage e r = e
-no-refusal old new n (BadScript line cause) e r = e
-no-refusal old new n (BadHex at) e r = e
-no-refusal old new n (BadXid fault) e r = e
-no-refusal old new n (TooLong word) e r = e
-no-refusal old new n answer e r = r
-
 own-refused : (old before : FolderState) (n : TapNames) (answer : Status) → IsRefusal answer → EndsBy LIMITS old before n (Own answer)
     → KeepsAll old before
-own-refused old before n answer r (inl refused) = refused.0
-own-refused old before n answer r (inr e) = absurd (no-refusal old before n answer e r)
+own-refused old before n answer r b = grind (arith)
 
 pub refused-by : (old before : FolderState) (n : TapNames) (end : Result ℕ Stop) → Ends LIMITS old before n end → IsRefusal (end_status end)
     → KeepsAll old before

@@ -63,8 +63,7 @@ turn-in x ts h sent = record { orig = side-in x ts h Originator (sent Originator
 sent-in : (x : Tapping) (ts : List Turn) (h : AreHeard x ts) (sent : Role → Option Spoken) (role : Role)
     → (of role (turn-in x ts h sent)).sent ≡ sent role
 unfolding turn-in side-in
-sent-in x ts h sent Originator = refl
-sent-in x ts h sent Answerer = refl
+sent-in x ts h sent role = grind (arith)
 
 hears-in : (x : Tapping) (ts : List Turn) (h : AreHeard x ts) (sent : Role → Option Spoken) → Hears x ts (turn-in x ts h sent)
 unfolding turn-in side-in
@@ -96,8 +95,7 @@ unfolding left-of
 leaves-so x ts text = record { got_is = is; trace_is = refl }
   where
     is : (role : Role) → of role (left-of x ts text).got ≡ concat (received (terms_of x) role ts).taken
-    is Originator = refl
-    is Answerer = refl
+    is role = grind (arith)
 
 -- ---- the ends
 
@@ -183,16 +181,13 @@ some-left x ts =
   where
     both : length x.bodies.orig ≤ octets_of (line_of x) (length ts) → length x.bodies.answ ≤ octets_of (line_of x) (length ts)
         → (role : Role) → length (of role x.bodies) ≤ octets_of (line_of x) (length ts)
-    both k l Originator = k
-    both k l Answerer = l
+    both k l role = grind (arith)
 
     go : (octets_of (line_of x) (length ts) < length x.bodies.orig) ⊎ (length x.bodies.orig ≤ octets_of (line_of x) (length ts))
         → (octets_of (line_of x) (length ts) < length x.bodies.answ) ⊎ (length x.bodies.answ ≤ octets_of (line_of x) (length ts))
         → ((side : Role) × (octets_of (line_of x) (length ts) < length (of side x.bodies)))
         ⊎ ((role : Role) → length (of role x.bodies) ≤ octets_of (line_of x) (length ts))
-    go (inl l) d = inl (Originator, l)
-    go (inr k) (inl l) = inl (Answerer, l)
-    go (inr k) (inr l) = inr (both k l)
+    go b d = grind (arith)
 
 heard-turn : (x : Tapping) (ts : List Turn) → Tells x ts → AreHeard x ts → ((t : Turn) → Tells x (t ∷ ts) → HasEnd x) → HasEnd x
 heard-turn x ts h a on = by (some-left x ts)

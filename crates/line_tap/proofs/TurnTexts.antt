@@ -1,12 +1,12 @@
 -- The lines of a turn of a tap, as a trace has them.
-use Rattle.std.proofs.Common.{◌≡◌, ◌≢◌, ℕ, List, ◌++◌, length, refl, ◌∙◌, Option}
+use Rattle.std.proofs.Common.{arith, ◌≡◌, ◌≢◌, ℕ, List, ◌++◌, length, refl, ◌∙◌, Option}
 use Rattle.std.specs.Option.{option_map}
 use Rattle.shared_terms.specs.declared.role.Role.{Role}
 use Rattle.shared_terms.specs.declared.role.Role.TheVariants.{Originator, Answerer}
 use Rattle.shared_terms.specs.Both.{Both, of}
 use Rattle.lapm_frames.specs.declared.sent.Sent.{Sent}
 use Rattle.lapm_frames.specs.declared.heard.Heard.{Heard}
-use Rattle.lapm_frames.specs.declared.heard.Heard.TheVariants.{Nothing, Passed, Lost, Chance}
+use Rattle.lapm_frames.specs.declared.heard.Heard.TheVariants.{Chance}
 use Rattle.line_texts.specs.LineText.{trace_line, line_of}
 use Rattle.line_world.specs.Texts.{lines_of}
 use Rattle.link_run.specs.Run.{Spoken, Side, Turn}
@@ -22,10 +22,7 @@ line-of turn t role heard sent given s well n h x g =
     plain heard well ∙ (λ k. trace_line (n k) role (h k) (x k) (g k))
   where
     plain : (heard : Heard) → heard ≢ Chance → line_of turn role heard sent given ≡ trace_line turn role heard sent given
-    plain Nothing well = refl
-    plain (Passed s) well = refl
-    plain (Lost s) well = refl
-    plain Chance well = absurd (well refl)
+    plain heard well = grind (arith)
 
 pub text-is : (number : ℕ) (x : Tapping) (ts : List Turn) (h : Hearing) (sent : Option (Both Sent)) (sents : Both (Option Spoken))
     → number ≡ length ts → HearsSo x ts h

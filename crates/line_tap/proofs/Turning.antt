@@ -60,8 +60,7 @@ kept-to start a b name at octets h on k = record {
 }
 
 kept-of : (a b : FolderState) (n : TapNames) → KeepsEach a b (inputs_of n) → (role : Role) → KeepsEach a b (recording_of role n ∷ [])
-kept-of a b n k Originator = (k.0, tt)
-kept-of a b n k Answerer = (k.1.0, tt)
+kept-of a b n k role = grind (arith)
 
 pub read-later : (start a b : FolderState) (n : TapNames) (bodies : Both (List ℕ)) → AreApartFrom (inputs_of n) (outputs_of n)
     → OnlyPuts a b (outputs_of n) → AreReadTo start a n bodies → AreReadTo start b n bodies
@@ -320,8 +319,7 @@ now_of tap x counts = tapping x.script (read_of tap x counts)
 
 has-count : (tap : Tap) (x : Tapping) (ts : List Turn) → IsBehind tap x ts → (role : Role)
     → length (of role x.bodies) ≡ octets_of (line_of x) (length ts)
-has-count tap x ts h Originator = h.orig.count
-has-count tap x ts h Answerer = h.answ.count
+has-count tap x ts h role = grind (arith)
 
 at-count : (tap : Tap) (x : Tapping) (ts : List Turn) → IsBehind tap x ts → (body : List ℕ)
     → length body ≡ octets_of (line_of x) (length ts)
@@ -370,8 +368,7 @@ put-still tap start a b c n x ts h counts k =
 -- ---- nothing was read
 
 silent : (x : Tapping) (ts : List Turn) (heard : Both Heard) → IsSilent (silent_in x ts heard)
-silent x ts heard Originator = refl
-silent x ts heard Answerer = refl
+silent x ts heard b = grind (arith)
 
 last-hears : (x : Tapping) (ts : List Turn) (h : Hearing) → HearsSo x ts h → LastHears x ts
 last-hears x ts h k = record {

@@ -78,8 +78,7 @@ more_of start n bodies r = record { orig = (r Originator).more; answ = (r Answer
 
 pub knows-whole : (start : FolderState) (n : TapNames) (bodies : Both (List ℕ)) (r : (role : Role) → Rest start n role (of role bodies))
     → KnowsBodies start n (and_more bodies (more_of start n bodies r))
-knows-whole start n bodies r Originator = (r Originator).known
-knows-whole start n bodies r Answerer = (r Answerer).known
+knows-whole start n bodies r b = grind (arith)
 
 -- where less than the slots of so many turns was read there is no more
 abbrev pub NoneShort : Tapping → Both (List ℕ) → List Turn → Type 0
@@ -88,8 +87,7 @@ NoneShort x more ts = (role : Role) → length (of role x.bodies) < octets_of (l
 pub none-short : (start : FolderState) (n : TapNames) (x : Tapping) (ts : List Turn)
     (r : (role : Role) → Rest start n role (of role x.bodies))
     → AreReadOut start n x ts → NoneShort x (more_of start n x.bodies r) ts
-none-short start n x ts r out Originator less = (r Originator).none (out Originator less)
-none-short start n x ts r out Answerer less = (r Answerer).none (out Answerer less)
+none-short start n x ts r out b less = grind (arith)
 
 -- ---- ends
 

@@ -51,12 +51,7 @@ nearer round next h e = omega (arith, h, e)
 -- why it ended, whatever the round
 pub fault-ends : (script : ScriptValue) (f : FolderState) (n m : Written) (round : ℕ) (fault : RunFault)
     → FaultEndsIn script f n m round fault → FaultEnds script f n m fault
-fault-ends script f n m round faults.ReadFault e = e.stops
-fault-ends script f n m round faults.WriteFault e = e.stops
-fault-ends script f n m round faults.NoMemory e = e.stops
-fault-ends script f n m round (faults.LineLost role symbol) e = e.ended
-fault-ends script f n m round (faults.ChanceMatch role turn) e = e.ended
-fault-ends script f n m round fault e = absurd e
+fault-ends script f n m round fault e = grind (arith)
 
 -- a fault behind rounds that counted nothing
 pub counts-later : (a b c : FolderState) (inputs outputs : List (List ℕ)) (fault : RunFault) → CountsStand a b

@@ -1,9 +1,9 @@
 -- What a turn of one link leaves of the other's names.
-use Rattle.std.proofs.Common.{◌≡◌, ◌≢◌, inl, inr, ℕ, List, IsTrue, sym, ◌∙◌, ap, take}
+use Rattle.std.proofs.Common.{arith, ◌≡◌, ◌≢◌, ℕ, List, IsTrue, sym, ◌∙◌, ap, take}
 use Rattle.outside_calls.specs.Folder.{FolderState, KeepsName, GoesOn}
 use Rattle.outside_calls.proofs.OnlyOutputs.{told_earlier}
 use Rattle.outside_calls.proofs.Steps.{octets-kept}
-use Rattle.outside_calls.specs.Outputs.{AreApartFrom, IsNoneOf, KeepsEach, OnlyPuts, SomeRose}
+use Rattle.outside_calls.specs.Outputs.{AreApartFrom, IsNoneOf, KeepsEach, OnlyPuts}
 use Rattle.outside_calls.proofs.Putting.{HoldEach-kept}
 use Rattle.shared_terms.specs.Both.{Both}
 use Rattle.turn_bound.specs.Limits.{file_limit}
@@ -13,7 +13,6 @@ use Rattle.line_world.specs.Turns.{held_of}
 use Rattle.line_world.specs.World.{KnowsFiles}
 use Rattle.link_pair.specs.Pairs.Pair.{Progress}
 use Rattle.line_run.specs.declared.fault.RunFault.{RunFault}
-use Rattle.line_run.specs.declared.fault.RunFault.TheVariants as faults
 use Rattle.line_world.specs.Turn.{FaultCountsOver}
 use Rattle.link_pair.specs.Half.{left_by, HoldLeft}
 use Rattle.link_pair.specs.Pair.{all_inputs, all_outputs}
@@ -108,34 +107,10 @@ only-second a b n m only = record {
   said = only.said;
 }
 
-some-outputs : (before now : List ℕ → ℕ) (n m : Written) → SomeRose before now (outputs_of n) → SomeRose before now (all_outputs n m)
-some-outputs before now n m (inl r) = inl r
-some-outputs before now n m (inr (inl r)) = inr (inl r)
-some-outputs before now n m (inr (inr (inl r))) = inr (inr (inr (inr (inl r))))
-some-outputs before now n m (inr (inr (inr never))) = absurd never
-
-more-outputs : (before now : List ℕ → ℕ) (n m : Written) → SomeRose before now (outputs_of m) → SomeRose before now (all_outputs n m)
-more-outputs before now n m (inl r) = inr (inr (inl r))
-more-outputs before now n m (inr (inl r)) = inr (inr (inr (inl r)))
-more-outputs before now n m (inr (inr (inl r))) = inr (inr (inr (inr (inr (inl r)))))
-more-outputs before now n m (inr (inr (inr never))) = absurd never
-
-some-inputs : (before now : List ℕ → ℕ) (n m : Written) → SomeRose before now (inputs_of n) → SomeRose before now (all_inputs n m)
-some-inputs before now n m (inl r) = inl r
-some-inputs before now n m (inr (inl r)) = inr (inl r)
-some-inputs before now n m (inr (inr never)) = absurd never
-
-more-inputs : (before now : List ℕ → ℕ) (n m : Written) → SomeRose before now (inputs_of m) → SomeRose before now (all_inputs n m)
-more-inputs before now n m r = inr (inr r)
-
 pub first-counts : (a b : FolderState) (n m : Written) (fault : RunFault) → FaultCountsOver a b (inputs_of n) (outputs_of n) fault
     → FaultCountsOver a b (all_inputs n m) (all_outputs n m) fault
-first-counts a b n m faults.ReadFault h = some-inputs a.read_faults b.read_faults n m h
-first-counts a b n m faults.WriteFault h = some-outputs a.write_faults b.write_faults n m h
-first-counts a b n m fault h = h
+first-counts a b n m fault h = grind (arith)
 
 pub second-counts : (a b : FolderState) (n m : Written) (fault : RunFault) → FaultCountsOver a b (inputs_of m) (outputs_of m) fault
     → FaultCountsOver a b (all_inputs n m) (all_outputs n m) fault
-second-counts a b n m faults.ReadFault h = more-inputs a.read_faults b.read_faults n m h
-second-counts a b n m faults.WriteFault h = more-outputs a.write_faults b.write_faults n m h
-second-counts a b n m fault h = h
+second-counts a b n m fault h = grind (arith)

@@ -6,13 +6,11 @@ use Rattle.outside_calls.specs.Folder.{FolderState, octets_at}
 use Rattle.outside_calls.specs.Outputs.{HoldEach, OnlyOutputs, KeepsEach}
 use Rattle.outside_calls.proofs.Putting.{HoldEach-kept}
 use Rattle.shared_terms.specs.declared.role.Role.{Role}
-use Rattle.shared_terms.specs.declared.role.Role.TheVariants.{Originator, Answerer}
 use Rattle.shared_terms.specs.Both.{Both, of}
 use Rattle.noise_script.specs.Script.{ScriptValue, IsInLimits}
 use Rattle.noise_script.specs.Laws.{ScriptsAreOne, NoFaultInScripts, SpelledIsInLimits, BreaksAreOctets}
-use Rattle.line_run.specs.Sampled as lines
 use Rattle.line_run.specs.Sampled.{LineEnd}
-use Rattle.line_run.specs.Ends.{RunEnd, Left}
+use Rattle.line_run.specs.Ends.{Left}
 use Rattle.line_run.specs.Ends as runs
 use Rattle.line_ends.specs.Causes.{FewLossesKeepLinks}
 use Rattle.line_ends.specs.Completes.{IsQuiet, AreOfOctets, DisplacesNoneIsFaint, CompletesWithFewNamed, NamesFew, IsUndisturbed}
@@ -30,7 +28,7 @@ use Rattle.line_run.specs.Names.{Written}
 use Rattle.line_run.specs.Names as written
 use Rattle.line_world.specs.Turns.{held_of}
 use Rattle.link_pair.specs.Pairs.Beside.{first_wire, second_wire}
-use Rattle.link_pair.specs.Pairs.Ends.{IsByLine, PairEnd, BothDone, end_of, line_end, PairRunsTo, by_links, by_line}
+use Rattle.link_pair.specs.Pairs.Ends.{IsByLine, PairEnd, BothDone, line_end, PairRunsTo, by_links, by_line}
 use Rattle.link_pair.specs.Pairs.Laws.{OnePairResult, FaintPairsAreIsolated, EndsDone, UnstarvedPairsAreDone, QuietPairsAreDone}
 use Rattle.link_pair.specs.declared.command.LastTurns.{LastTurns}
 use Rattle.link_pair.specs.Words.{Names, files_of}
@@ -39,6 +37,7 @@ use Rattle.link_pair.specs.Ends.{AreFiles, RanTo, EndsBy, pair_job}
 use Rattle.link_pair.specs.Ends as ends
 use Rattle.link_pair.specs.Completes.{IsCarried, LosesFew, AreRight, files_at, DoneWhere, Answered, AnsweredByItsEnd, Completes}
 use Rattle.link_pair.proofs.Refusing.{own-answer}
+use Rattle.link_pair.proofs.Pairs.Completing.{both-so}
 
 -- the laws that a pair's end rests on
 pub record DoneLaws : Type 0 where
@@ -115,8 +114,7 @@ first-octets laws old before n script found r e =
     record { files_are = each; breaks_are = laws.breaks (octets_at old n.script) script r.spelled }
   where
     each : (role : Role) → AreOctets (of role (files_at old n.first))
-    each Originator = e.takes.opens.octets.0 r.first.orig_told
-    each Answerer = e.takes.opens.octets.1.0 r.first.answ_told
+    each role = grind (arith)
 
 second-octets : DoneLaws → (old before : FolderState) (n : Names) (script : ScriptValue) (found : PairEnd) → AreRight old n script
     → RanTo LIMITS old before n found → AreOfOctets script (files_at old n.second)
@@ -124,8 +122,7 @@ second-octets laws old before n script found r e =
     record { files_are = each; breaks_are = laws.breaks (octets_at old n.script) script r.spelled }
   where
     each : (role : Role) → AreOctets (of role (files_at old n.second))
-    each Originator = e.takes.opens.octets.1.1.0 r.second.orig_told
-    each Answerer = e.takes.opens.octets.1.1.1.0 r.second.answ_told
+    each role = grind (arith)
 
 -- ---- where each pair of the script and the files is done, the answer is done
 
@@ -133,10 +130,7 @@ abbrev AllDone : ScriptValue → Both (List ℕ) → Both (List ℕ) → Type 0
 AllDone script files others = (end : PairEnd) (left leaves : Left) → PairRunsTo script files others end left leaves → EndsDone end
 
 done-is-no-stop : (end : PairEnd) (stop : Stop) → EndsDone end → Err stop ≡ result_of end → ⊥
-done-is-no-stop end stop d e = never d.0 d.1 (e ∙ ap result_of d.2)
-  where
-    never : (first second : ℕ) → Err stop ≡ result_of (BothDone first second) → ⊥
-    never first second e = cc
+done-is-no-stop end stop d e = cc (e ∙ ap result_of d.2)
 
 never-own : DoneLaws → (old before : FolderState) (n : Names) (script : ScriptValue) (answer : Status) → AreRight old n script
     → (AreOfOctets script (files_at old n.first) → AreOfOctets script (files_at old n.second)
@@ -155,8 +149,7 @@ all-done laws words old new n s a sound script r all =
 -- ---- which pairs are done
 
 line-is : (round : ℕ) (cause : LineEnd) → IsByLine (line_end round cause)
-line-is round (lines.LineLost role symbol) = tt
-line-is round (lines.ChanceMatch role) = tt
+line-is round cause = grind (arith)
 
 carried-done : DoneLaws → (script : ScriptValue) (files others : Both (List ℕ)) → IsInLimits script → IsCarried script files others
     → AllDone script files others
@@ -177,9 +170,6 @@ few-done laws script files others h f end left leaves (by_links first second e i
 few-done laws script files others h f end left leaves (by_line link round cause e is) =
     absurd (f.stays end left leaves (by_line link round cause e is) (subst IsByLine (sym is) (line-is round cause)))
 
-both-so : (a b : RunEnd) → (turn : ℕ) × (a ≡ runs.IsDone turn) → (turn : ℕ) × (b ≡ runs.IsDone turn) → EndsDone (end_of a b)
-both-so a b x y = (x.0, y.0, ap (λ z. end_of z b) x.1 ∙ ap (end_of (runs.IsDone x.0)) y.1)
-
 named-done : DoneLaws → (script : ScriptValue) (files others : Both (List ℕ)) → IsInLimits script → NamesFew script
     → AreOfOctets script files → AreOfOctets script others → AllDone script files others
 named-done laws script files others h f o oo end left leaves r =
@@ -187,10 +177,6 @@ named-done laws script files others h f o oo end left leaves r =
     subst EndsDone (sym i.end_is)
     (both-so i.first i.second (laws.few_named script files i.first left h f.faint o f.few i.first_runs)
     (laws.few_named script others i.second leaves h f.faint oo f.few i.second_runs))
-
-quiet-done : DoneLaws → (script : ScriptValue) (files others : Both (List ℕ)) → IsInLimits script → IsQuiet script
-    → AreOfOctets script files → AreOfOctets script others → AllDone script files others
-quiet-done laws script files others h q o oo end left leaves r = laws.quiet script files others end left leaves h q o oo r
 
 undisturbed-quiet : DoneLaws → (script : ScriptValue) → IsUndisturbed script → IsQuiet script
 undisturbed-quiet laws script u =
@@ -252,7 +238,9 @@ completes-of laws words old new n s a =
       carried = λ sound script r c. done sound script r (λ o oo. carried-done laws script first second (within script r) c);
       few_losses = λ sound script r f. done sound script r (λ o oo. few-done laws script first second (within script r) f);
       few_named = λ sound script r f. done sound script r (named-done laws script first second (within script r) f);
-      quiet = λ sound script r q. done sound script r (quiet-done laws script first second (within script r) q);
+      quiet = λ sound script r q.
+          done sound script r (λ o oo end left leaves. laws.quiet script first second end left leaves (within script r) q o oo);
       undisturbed = λ sound script r u.
-          done sound script r (quiet-done laws script first second (within script r) (undisturbed-quiet laws script u));
+          done sound script r
+          (λ o oo end left leaves. laws.quiet script first second end left leaves (within script r) (undisturbed-quiet laws script u) o oo);
     }

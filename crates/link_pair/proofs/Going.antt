@@ -68,8 +68,7 @@ at-going h script beside files round p none stands = by p (subst (λ o. StandsFo
   where
     by : (p : Progress) → StandsFor None h.modems files p → Lasts (wire_at script h.dlci beside) (link_of script files) round p
         → AtGoing h script beside files round p
-    by (Goes ts ends) may goes = record { ts = ts; ends = ends; is = refl; may = may; goes = goes }
-    by (Ended ts ends end left) never goes = absurd never
+    by p may goes = grind (arith)
 
 pub modems-after : (h : Half) (script : ScriptValue) (beside : Role → ℕ → Option Signal) (files : Both (List ℕ)) (round : ℕ) (p : Progress)
     (a : AtGoing h script beside files round p) → ModemsAfter h.modems (wire_at script h.dlci beside) files a.ts a.ends
@@ -289,8 +288,7 @@ module _ (delivers : HearingsDeliver) (speaks : SpeakingTakesNothing) (m : Modem
   }
     where
       none : (side : Role) → of side none_got ≡ []
-      none Originator = refl
-      none Answerer = refl
+      none side = grind (arith)
 
   stopped-reading : StopsReading m l c links streams old new n files ts ends
       → IsStopped LinkStopsReading c new n (length ts) (Goes ts ends)
@@ -342,9 +340,7 @@ has-gone h l c links streams f n files ts ends none channel g = record {
 }
 
 by-link : (found : LinkEnd) → IsByLink (run_end found)
-by-link (link_ends.Done turn) = tt
-by-link (link_ends.LinkLost role segment turn) = tt
-by-link (link_ends.NotDetected turn) = tt
+by-link found = grind (arith)
 
 pub has-ended : (h : Half) (l m : Lines) (c : Wire) (links : ℕ) (streams : Both (List Carried)) (f : FolderState) (n : Written)
     (files : Both (List ℕ)) (ts : List Turn) (ends : Accounts) (found : LinkEnd) → h.ended ≡ Some found → h.modems.dlci ≡ c.dlci
@@ -456,7 +452,4 @@ pub sorted-counts : (a b : FolderState) (n : Written) (answer : Result Step RunF
 sorted-counts a b n answer r e h = subst (CountsOver a b (inputs_of n) (outputs_of n)) (sym e) (go answer h)
   where
     go : (answer : Result Step RunFault) → TurnCounts a b n answer → CountsOver a b (inputs_of n) (outputs_of n) (sorted answer)
-    go (Ok steps.Going) h = h
-    go (Ok (steps.Done turn)) h = h
-    go (Err (run_faults.LinkLost role segment turn)) h = h
-    go (Err fault) h = h
+    go answer h = grind (arith)

@@ -1,5 +1,5 @@
 -- From every answer to the headline.
-use Rattle.std.proofs.Common.{◌≡◌, ◌⊎◌, inl, inr, ℕ, Bool, true, false, List, [], ◌++◌, Some, Err, refl, sym, ◌∙◌, ap, subst}
+use Rattle.std.proofs.Common.{arith, ◌≡◌, ◌⊎◌, inl, inr, ℕ, Bool, true, false, List, [], ◌++◌, Some, Err, refl, sym, ◌∙◌, ap, subst}
 use Rattle.std.specs.Option.{option_map}
 use Rattle.frame_check.specs.Octets.{AreOctets}
 use Rattle.outside_calls.specs.Folder.{FolderState, GoesOn, octets_at}
@@ -71,8 +71,7 @@ read-off laws c files rounds (Ended ts ends end left) l =
 
 cause-in : HeadLaws → (c : Wire) (files : Both (List ℕ)) (rounds : ℕ) (p : Progress) → IsInLimits c.script
     → (l : Lasts c (link_of c.script files) rounds p) → CauseIn c files rounds p l
-cause-in laws c files rounds (Goes ts ends) h l = tt
-cause-in laws c files rounds (Ended ts ends end left) h l = laws.runs.causes c files end left h l.ran
+cause-in laws c files rounds p h l = grind (arith)
 
 link-ran : HeadLaws → (c : Wire) (files : Both (List ℕ)) (before new : FolderState) (n : Written) (rounds : ℕ) (p : Progress)
     (left : Left)
@@ -95,8 +94,7 @@ link-ran laws c files before new n rounds p left h last l same holds = record {
 -- what its users were given is what is left of it
 left-same : (p : Progress) (text : List ℕ) (left : Left) → LeavesOf p text left → (role : Role)
     → of role left.got ≡ of role (left_by p).got
-left-same (Goes ts ends) text left k role = k.got_is role ∙ sym (given-is ts ends role)
-left-same (Ended ts ends end had) text left k role = ap (of role) k.0
+left-same p text left k role = grind (arith)
 
 first-same : (script : ScriptValue) (files others : Both (List ℕ)) (end : PairEnd) (left leaves : Left)
     → (r : PairRunsTo script files others end left leaves) → (role : Role)
@@ -181,23 +179,17 @@ pub not-refused : {P : Type 0} → (old before : FolderState) (n : Names) (answe
 not-refused old before n answer never (inl r) = absurd (never r.1)
 not-refused old before n answer never (inr p) = p
 
-done-is-no-stop : (first second : ℕ) (stop : Stop) → Err stop ≡ result_of (BothDone first second) → ⊥
-done-is-no-stop first second stop e = cc
-
 by-end : (old new : FolderState) (n : Names) (end : PairEnd) (stop : Stop) → Err stop ≡ result_of end → Ran old new n end
     → RanBy old new n (answer_of end)
-by-end old new n (BothDone first second) stop e r = absurd (done-is-no-stop first second stop e)
-by-end old new n (LinkLost link role segment turn) stop e r = (link, refl, r)
-by-end old new n (NotDetected link turn) stop e r = (link, refl, r)
-by-end old new n (LineLost role symbol) stop e r = r
-by-end old new n (ChanceMatch role round) stop e r = r
+by-end old new n end stop e r = grind (arith)
 
-by-answer : HeadLaws → (old before new : FolderState) (n : Names) (t : Status) → OnlyOutputs before new []
-    → (RefusesOwn LIMITS old n.script 5 (files_of n) 1 t → ⊥) → EndsBy LIMITS old before n (stops.Own t) → RanBy old new n t
-by-answer laws old before new n t last never ends =
-    let e = not-refused old before n t never ends in
+by-answer : HeadLaws → (words : List (List ℕ)) (old new : FolderState) (n : Names) (s t : Status) (a : Answers (pair_job n) words old new s)
+    → OnlyOutputs a.before new [] → (RefusesOwn LIMITS old n.script 5 (files_of n) 1 t → ⊥) → is_pair_end t ≡ true → s ≡ t
+    → RanBy old new n t
+by-answer laws words old new n s t a last never is said =
+    let e = not-refused old a.before n t never (own-ends words old new n s t a is said) in
     subst (RanBy old new n) (sym (own-answer t e.end (Err (stops.Own t)) refl e.result_is))
-    (by-end old new n e.end (stops.Own t) e.result_is (ran-of laws old before new n e.end last e.ran))
+    (by-end old new n e.end (stops.Own t) e.result_is (ran-of laws old a.before new n e.end last e.ran))
 
 ran-by : HeadLaws → (words : List (List ℕ)) (old new : FolderState) (n : Names) (s t : Status) (a : Answers (pair_job n) words old new s)
     → OnlyOutputs a.before new [] → s ≡ t → RanBy old new n t
@@ -208,19 +200,14 @@ ran-by laws words old new n s status.Done a last e = let d = done-of (pair_job n
   ran-of laws old a.before new n (BothDone d.done.first d.done.second) last d.ends.0,
 )
 ran-by laws words old new n s (status.PairLinkLost link role segment turn) a last e =
-    by-answer laws old a.before new n _ last (λ x. x) (own-ends words old new n s (status.PairLinkLost link role segment turn) a refl e)
-ran-by laws words old new n s (status.PairNotDetected link turn) a last e =
-    by-answer laws old a.before new n _ last (λ x. x) (own-ends words old new n s (status.PairNotDetected link turn) a refl e)
-ran-by laws words old new n s (status.LineLost role symbol) a last e =
-    by-answer laws old a.before new n _ last (λ x. x) (own-ends words old new n s (status.LineLost role symbol) a refl e)
-ran-by laws words old new n s (status.ChanceMatch role turn) a last e =
-    by-answer laws old a.before new n _ last (λ x. x) (own-ends words old new n s (status.ChanceMatch role turn) a refl e)
+    by-answer laws words old new n s _ a last (λ x. x) refl e
+ran-by laws words old new n s (status.PairNotDetected link turn) a last e = by-answer laws words old new n s _ a last (λ x. x) refl e
+ran-by laws words old new n s (status.LineLost role symbol) a last e = by-answer laws words old new n s _ a last (λ x. x) refl e
+ran-by laws words old new n s (status.ChanceMatch role turn) a last e = by-answer laws words old new n s _ a last (λ x. x) refl e
 ran-by laws words old new n s (status.LinkLost role segment turn) a last e =
-    by-answer laws old a.before new n (status.LinkLost role segment turn) last (λ x. x)
-    (own-ends words old new n s (status.LinkLost role segment turn) a refl e)
+    by-answer laws words old new n s (status.LinkLost role segment turn) a last (λ x. x) refl e
 ran-by laws words old new n s (status.NotDetected turn) a last e =
-    by-answer laws old a.before new n (status.NotDetected turn) last (λ x. x) (own-ends words old new n s
-    (status.NotDetected turn) a refl e)
+    by-answer laws words old new n s (status.NotDetected turn) a last (λ x. x) refl e
 ran-by laws words old new n s t a last e = tt
 
 -- ---- both links are done

@@ -38,7 +38,6 @@ use Rattle.link_pair.proofs.Pairs.Agreeing.{length-lasting}
 use Rattle.link_pair.specs.declared.half.Half.{Half}
 use Rattle.link_pair.specs.declared.half.LinkEnd.{LinkEnd}
 use Rattle.line_run.specs.declared.fault.RunFault.{RunFault}
-use Rattle.line_run.specs.declared.fault.RunFault.TheVariants as faults
 use Rattle.line_world.specs.Turn.{IsWriting}
 use Rattle.link_pair.specs.Half.{HasStopped, StandsFor, HoldLeft, HasCome, IsEndedByLine, LinkStops, IsStopped, HalfEnds}
 use Rattle.link_pair.proofs.Going.{kept-none}
@@ -53,8 +52,7 @@ flags_on dlci = record {
 
 pub flags-put : (dlci at : ℕ) → dlci ≡ at
     → ArePut (flags_on dlci) (record { orig = slots.Flags; answ = slots.Flags }) (record { orig = Sixteen; answ = Sixteen }) at
-flags-put dlci at e Originator = record { dlci_is = e; sent_is = refl; check_is = refl }
-flags-put dlci at e Answerer = record { dlci_is = e; sent_is = refl; check_is = refl }
+flags-put dlci at e b = grind (arith)
 
 -- ---- what a link is that has ended
 
@@ -257,12 +255,9 @@ module _ (h : Half) (script : ScriptValue) (beside : Role → ℕ → Option Sig
       kept = receives-none old new n apart only
 
       none : (side : Role) → of side none_got ≡ []
-      none Originator = refl
-      none Answerer = refl
+      none side = grind (arith)
 
 -- so the folder ends the pair
 pub writes-ends : (c : Wire) (f : FolderState) (n : Written) (files : Both (List ℕ)) (round : ℕ) (p : Progress) (fault : RunFault)
     → IsWriting fault → IsStopped LinkStops c f n round p → HalfEnds c f n files round p fault
-writes-ends c f n files round p faults.WriteFault is h = h
-writes-ends c f n files round p faults.NoMemory is h = h
-writes-ends c f n files round p fault is h = absurd is
+writes-ends c f n files round p fault is h = grind (arith)

@@ -1,7 +1,6 @@
 -- A pair, from turn to turn of its links.
 use Rattle.std.proofs.Common.{◌≡◌, ◌⊎◌, inl, inr, ℕ, zero, suc, ◌+◌, ◌*◌, ◌^◌, ◌<◌, ◌≤◌, ◌||◌, Bool, true, false, List, [], ◌∷◌, ◌++◌}
 use Rattle.std.proofs.Common.{length, arith, refl, sym, ◌∙◌, ap, subst, Option, Some, None}
-use Rattle.std.proofs.lemmas.Bool.{false≢true}
 use Rattle.std.proofs.lemmas.List.{length-append}
 use Rattle.outside_calls.specs.Folder.{FolderState}
 use Rattle.shared_terms.specs.declared.role.Role.{Role}
@@ -46,16 +45,13 @@ pair-laws delays first second few = record { delays = delays; first = first; sec
 -- ---- how many rounds there are
 
 pub either : (x y : Bool) → (x || y) ≡ true → (x ≡ true) ⊎ ((x ≡ false) × (y ≡ true))
-either true y e = inl refl
-either false y e = inr (refl, e)
+either x y e = grind (arith)
 
 are-short : (files : Both (List ℕ)) → AreWithin files → AreShort files
-are-short files within Originator = within.orig
-are-short files within Answerer = within.answ
+are-short files within b = grind (arith)
 
 firsts-least : (link : Which) (round : ℕ) → round ≤ firsts_at link round
-firsts-least First round = omega arith
-firsts-least Second round = omega arith
+firsts-least link round = grind (arith)
 
 pub few-rounds : PairsHaveFewRounds → (x : Pair) (f : FolderState) (n m : Written) (link : Which) → Awaits x f n m link
     → x.round < 2 ^ 39
@@ -110,8 +106,7 @@ second-due laws script files others round p q h at Answerer =
 
 -- how many slots both have sent
 one-carried : (dlci : ℕ) (o : Option Spoken) → length (carry dlci o) ≤ 1
-one-carried dlci None = omega arith
-one-carried dlci (Some slot) = omega arith
+one-carried dlci o = grind (arith)
 
 first-length : (role : Role) (ts us : List Turn) → AreSent role ts → AreSent role us → length ts ≡ suc (length us)
     → length (first_sent role ts us) ≤ 2 * length us + 1
@@ -196,23 +191,13 @@ passed laws x f n m link a = each
     long = stream-short x.script a.files a.others link x.round a.p a.q a.at
 
     each : (role : Role) → (from role x.lines.directions).line.passed < 2 ^ 40
-    each Originator =
+    each role =
         omega (
           arith,
           short,
-          long Originator,
-          passed-few x.lines.directions.from_orig (first_wire x.script (turns_in a.q)) Originator 2 (of Originator
-              (streams_at link x.round a.p a.q))
-              (a.lines.directions Originator),
-        )
-    each Answerer =
-        omega (
-          arith,
-          short,
-          long Answerer,
-          passed-few x.lines.directions.from_answ (first_wire x.script (turns_in a.q)) Answerer 2
-              (of Answerer (streams_at link x.round a.p a.q))
-              (a.lines.directions Answerer),
+          long role,
+          passed-few (from role x.lines.directions) (first_wire x.script (turns_in a.q)) role 2 (of role (streams_at link x.round a.p a.q))
+              (a.lines.directions role),
         )
 
 -- ---- so each link's part of a round may be made
@@ -290,8 +275,7 @@ follows-stays (Ended ts ends end left) next rounds is count dlci role round l =
 
 pub counted : (c : Wire) (link : Link) (rounds : ℕ) (p : Progress) → Lasts c link rounds p → is_going p ≡ true
     → length (turns_in p) ≡ rounds
-counted c link rounds (Goes ts ends) l e = l.count
-counted c link rounds (Ended ts ends end left) l e = absurd (false≢true e)
+counted c link rounds p l e = grind (arith)
 
 -- the pair once the first link has come farther,
 pub at-second : ScriptsHaveDelays → (script : ScriptValue) (files more others : Both (List ℕ)) (round : ℕ) (p next q : Progress)
@@ -332,8 +316,7 @@ after-first-turn sent round p next q e =
 
 second-more : (role : Role) (ts us : List Turn) (u : Turn) (count : ℕ) → length ts ≡ suc count
     → both_sent role ts (u ∷ us) ≡ first_sent role ts us ++ carry second_dlci (of role u).sent
-second-more role [] us u count e = absurd (omega (arith, e))
-second-more role (t ∷ ts) us u count e = refl
+second-more role ts us u count e = grind (arith)
 
 pub after-second-turn : (sent : Turn) (round : ℕ) (p q next : Progress) → length (turns_on_line (suc round) p) ≡ suc round
     → turns_on_line (suc round) next ≡ sent ∷ turns_on_line round q
@@ -352,12 +335,7 @@ after-second-turn sent round p q next long e =
 
 pub stands-going : (a b : Option LinkEnd) (x y : Modems) (files others : Both (List ℕ))
     (p q : Progress) → StandsFor a x files p → StandsFor b y others q → both_ended a b ≡ None → (is_going p || is_going q) ≡ true
-stands-going None b x y files others (Goes ts ends) q s t e = refl
-stands-going None b x y files others (Ended ts ends end left) q s t e = absurd s
-stands-going (Some found) None x y files others (Ended ts ends end left) (Goes us mids) s t e = refl
-stands-going (Some found) None x y files others (Ended ts ends end left) (Ended us mids last had) s t e = absurd t
-stands-going (Some found) None x y files others (Goes ts ends) q s t e = absurd s
-stands-going (Some found) (Some last) x y files others p q s t e = absurd (cc e)
+stands-going a b x y files others p q s t e = grind (arith)
 
 -- both have
 pub record AreOver (endings : Endings) (p q : Progress) : Type 0 where

@@ -1,5 +1,6 @@
 -- However a pair ends, each received file is as it was, or holds the beginning of the file of the other end of its link.
-use Rattle.std.proofs.Common.{◌≡◌, inl, inr, ℕ, suc, List, [], ◌∷◌, ◌++◌, Some, Result, Ok, Err, refl, sym, ◌∙◌, ap, subst, append-nil}
+use Rattle.std.proofs.Common.{◌≡◌, inl, inr, ℕ, suc, List, [], ◌∷◌, ◌++◌, Some, Result, Ok, Err, refl, sym, ◌∙◌, ap, subst}
+use Rattle.std.proofs.Common.{arith, append-nil}
 use Rattle.std.proofs.lemmas.List.Folds.{concat-append}
 use Rattle.std.specs.List.{concat}
 use Rattle.shared_terms.specs.Prefix.{IsPrefixOf}
@@ -51,14 +52,12 @@ pub record HeadLaws : Type 0 where
 -- the files of the link are those
 pub same-prefix : (script : ScriptValue) (files : Both (List ℕ)) (role : Role) (got : List ℕ)
     → IsPrefixOf got (of (other role) (link_of script files)).user.file → IsPrefixOf got (of (other role) files)
-same-prefix script files Originator got h = h
-same-prefix script files Answerer got h = h
+same-prefix script files role got h = grind (arith)
 
 -- what a link that goes on has given its users
 pub given-is : (ts : List Turn) (ends : Accounts) (role : Role)
     → of role (left_by (Goes ts ends)).got ≡ concat (of role ends).incoming.taken
-given-is ts ends Originator = refl
-given-is ts ends Answerer = refl
+given-is ts ends role = grind (arith)
 
 -- what is left of a link
 pub left-prefixes : HeadLaws → (c : Wire) (files : Both (List ℕ)) (rounds : ℕ) (p : Progress) → IsInLimits c.script

@@ -1,16 +1,15 @@
 -- What is refused is refused before the outputs are created.
-use Rattle.std.proofs.Common.{◌≡◌, ◌∙◌, inl, inr, Result, Err, sym, ap, subst}
+use Rattle.std.proofs.Common.{arith, ◌≡◌, ◌∙◌, inl, inr, Result, Err, sym, ap, subst}
 use Rattle.outside_calls.specs.Folder.{FolderState}
 use Rattle.outside_calls.specs.Outputs.{KeepsAll}
 use Rattle.command_base.specs.declared.status.Status.{Status}
-use Rattle.command_base.specs.declared.status.Status.TheVariants as status
 use Rattle.command_base.specs.declared.stop.Stop.{Stop}
 use Rattle.command_base.specs.declared.stop.Stop.TheVariants as stops
 use Rattle.command_base.specs.Status.{IsRefusal}
 use Rattle.command_base.specs.Stops.{end_status}
 use Rattle.command_base.proofs.Jobs.{refusal-own}
 use Rattle.run_inputs.specs.declared.limits.TheConstants.{LIMITS}
-use Rattle.link_pair.specs.Pairs.Ends.{PairEnd, BothDone}
+use Rattle.link_pair.specs.Pairs.Ends.{PairEnd}
 use Rattle.link_pair.specs.declared.command.LastTurns.{LastTurns}
 use Rattle.link_pair.specs.Words.{Names}
 use Rattle.link_pair.specs.Answers.{answer_of, result_of}
@@ -18,13 +17,11 @@ use Rattle.link_pair.specs.Ends.{EndsBy, Ends}
 
 -- the answer of a pair that ended is that of its end
 pub answer-is : (end : PairEnd) → end_status (result_of end) ≡ answer_of end
-answer-is (BothDone first second) = λ k. status.Done
-answer-is end = λ k. answer_of end
+answer-is end = grind (arith)
 
 -- and is no refusal
 no-refusal : (end : PairEnd) → IsRefusal (answer_of end) → ⊥
-no-refusal (BothDone first second) r = r
-no-refusal end r = r
+no-refusal end r = grind (arith)
 
 -- the answer by which a pair stopped is that of its end
 pub own-answer : (answer : Status) (end : PairEnd) (result : Result LastTurns Stop) → result ≡ Err (stops.Own answer)

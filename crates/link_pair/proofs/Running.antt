@@ -1,5 +1,5 @@
 -- From the phases of a pair to how it ends.
-use Rattle.std.proofs.Common.{inl, inr, ℕ, List, [], ◌∷◌, refl, ◌∙◌, arith}
+use Rattle.std.proofs.Common.{inr, ℕ, List, [], ◌∷◌, refl, ◌∙◌, arith}
 use Rattle.outside_calls.specs.Folder.{FolderState, GoesOn, KeepsName, OnlyReads, CountsStand}
 use Rattle.outside_calls.proofs.Steps.{GoesOn-trans, KeepsName-trans}
 use Rattle.outside_calls.specs.Outputs.{IsNoneOf, AreApart, AreNoneOf, AreApartFrom, KeepsEach, CreatesPart, OnlyOutputs, OnlyPuts}
@@ -21,8 +21,8 @@ use Rattle.run_inputs.specs.declared.limits.TheConstants.{LIMITS}
 use Rattle.run_inputs.specs.Inputs.{Refuses}
 use Rattle.run_inputs.proofs.Files.{file-is}
 use Rattle.link_pair.specs.Pairs.Beside.{first_wire, second_wire}
-use Rattle.link_pair.specs.Pairs.Pair.{Progress, Goes, Ended, turns_in, Lasts}
-use Rattle.link_pair.specs.Pairs.Ends.{PairEnd, BothDone, LineLost, ChanceMatch}
+use Rattle.link_pair.specs.Pairs.Pair.{Progress, turns_in, Lasts}
+use Rattle.link_pair.specs.Pairs.Ends.{PairEnd, LineLost, ChanceMatch}
 use Rattle.line_run.specs.declared.fault.RunFault.{RunFault}
 use Rattle.line_run.specs.declared.fault.RunFault.TheVariants as faults
 use Rattle.line_world.specs.Turn.{FaultCountsOver}
@@ -36,11 +36,7 @@ use Rattle.link_pair.specs.Ends.{IsBegun, Takes, RanTo, IsFew, StopsInRound, Sto
 -- the inputs were not taken
 pub ends-refused : (l : Limits) (old new : FolderState) (n : Names) (stop : Stop) → OnlyReads old new
     → Refuses l old new n.script 5 (files_of n) 1 stop → EndsBy l old new n stop
-ends-refused l old new n (stops.Own answer) reads r = inl (reads.names, r)
-ends-refused l old new n (stops.Read fault) reads r = inl (reads.names, r)
-ends-refused l old new n stops.NoMemory reads r = (reads.names, r)
-ends-refused l old new n (stops.Write fault) reads never = absurd never
-ends-refused l old new n (stops.Say fault) reads never = never
+ends-refused l old new n stop reads r = grind (arith)
 
 -- an output was not created
 pub ends-creating : (l : Limits) (old mid new : FolderState) (n : Names) (script : ScriptValue) → IsBegun l old mid n script
@@ -111,8 +107,7 @@ ran-to old mid now next n script end p e = record {
 -- each link made few turns
 pub few-of : LineRunsEndSoon → (c : Wire) (files : Both (List ℕ)) (rounds : ℕ) (p : Progress) → IsInLimits c.script
     → (l : Lasts c (link_of c.script files) rounds p) → IsFew c files rounds p l
-few-of soon c files rounds (Goes ts ends) h l = soon c files ts ends h l.run
-few-of soon c files rounds (Ended ts ends end left) h l = soon c files l.ran.turns l.ran.ends h l.ran.run
+few-of soon c files rounds p h l = grind (arith)
 
 abbrev Stopping : Type 1
 Stopping = Wire → Link → FolderState → Written → ℕ → Progress → Type 0
@@ -150,21 +145,12 @@ ends-in-round soon old mid now next n script fault p counts e = absurd e
 -- what a fault counts
 pub round-counts : (now next : FolderState) (n : Names) (fault : RunFault) → FaultCountsOver now next (files_of n) (outputs_of n) fault
     → StopCounts now next (inputs_of n) (outputs_of n) (fault_stop fault)
-round-counts now next n faults.ReadFault (inl r) = inl r
-round-counts now next n faults.ReadFault (inr (inl r)) = inr (inl r)
-round-counts now next n faults.ReadFault (inr (inr (inl r))) = inr (inr (inl r))
-round-counts now next n faults.ReadFault (inr (inr (inr (inl r)))) = inr (inr (inr (inl r)))
-round-counts now next n faults.ReadFault (inr (inr (inr (inr never)))) = absurd never
-round-counts now next n faults.WriteFault r = r
-round-counts now next n faults.NoMemory r = r
-round-counts now next n fault stand = (tt, stand)
+round-counts now next n fault r = grind (arith)
 
 -- both links ended
 pub ends-of : (l : Limits) (old new : FolderState) (n : Names) (end : PairEnd) → RanTo l old new n end → Ends l old new n (result_of end)
-ends-of l old new n (BothDone first second) e = e
-ends-of l old new n end e = inr (record { end = end; result_is = refl; ran = e })
+ends-of l old new n end e = grind (arith)
 
 pub result-counts : (old new : FolderState) (inputs outputs : List (List ℕ)) (end : PairEnd) → CountsStand old new
     → EndCounts old new inputs outputs (result_of end)
-result-counts old new inputs outputs (BothDone first second) stand = stand
-result-counts old new inputs outputs end stand = (tt, stand)
+result-counts old new inputs outputs end stand = grind (arith)

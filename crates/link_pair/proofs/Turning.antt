@@ -1,7 +1,6 @@
 -- What a link's turn comes to for the pair.
-use Rattle.std.proofs.Common.{◌≡◌, ◌⊎◌, inl, inr, ℕ, suc, ◌+◌, ◌<◌, max, true, false, List, [], length, arith, refl, sym, ◌∙◌}
+use Rattle.std.proofs.Common.{◌≡◌, ◌⊎◌, ℕ, suc, ◌+◌, ◌<◌, max, true, false, List, [], length, arith, refl, sym, ◌∙◌}
 use Rattle.std.proofs.Common.{ap, subst, Option, Some, None, Result, Ok, Err, append-nil}
-use Rattle.std.proofs.lemmas.Bool.{false≢true}
 use Rattle.std.specs.List.{concat}
 use Rattle.outside_calls.specs.Folder.{FolderState}
 use Rattle.outside_calls.specs.Outputs.{OnlyPuts}
@@ -27,7 +26,6 @@ use Rattle.link_pair.proofs.Pairs.Clear.{Beside}
 use Rattle.link_pair.proofs.Pairs.Placing.{length-on-line}
 use Rattle.link_pair.specs.declared.half.Half.{Half}
 use Rattle.link_pair.specs.declared.half.LinkEnd.{LinkEnd}
-use Rattle.link_pair.specs.declared.half.LinkEnd.TheVariants as link_ends
 use Rattle.line_run.specs.declared.fault.RunFault.{RunFault}
 use Rattle.line_run.specs.declared.fault.RunFault.TheVariants as faults
 use Rattle.link_pair.specs.declared.two_links.Pair.{Pair}
@@ -62,14 +60,11 @@ Answers half lines script old new n round h l answer =
 -- both have ended: the later one in this round
 ended-before : (c : Wire) (files : Both (List ℕ)) (rounds : ℕ) (p : Progress) → Lasts c (link_of c.script files) rounds p
     → is_going p ≡ false → length (turns_in p) < rounds
-ended-before c files rounds (Goes ts ends) l e = absurd (false≢true (sym e))
-ended-before c files rounds (Ended ts ends end left) l e = l.before
+ended-before c files rounds p l e = grind (arith)
 
 ended-now : (p next : Progress) (rounds : ℕ) → Follows p next → is_going p ≡ true → is_going next ≡ false → length (turns_in p) ≡ rounds
     → length (turns_in next) ≡ rounds
-ended-now (Goes ts ends) (Goes us after) rounds f g e count = absurd (false≢true (sym e))
-ended-now (Goes ts ends) (Ended us mid end left) rounds f g e count = ap length f ∙ count
-ended-now (Ended ts ends end left) next rounds f g e count = absurd (false≢true g)
+ended-now p next rounds f g e count = grind (arith)
 
 -- its last turn is numbered by those before
 last-turn-is : (c : Wire) (link : Link) (rounds : ℕ) (p : Progress) (ts : List Turn) (ends : Accounts) (found : LinkEnd) (left : Left)
@@ -77,9 +72,7 @@ last-turn-is : (c : Wire) (link : Link) (rounds : ℕ) (p : Progress) (ts : List
 last-turn-is c link rounds p ts ends found left e l = by found (subst (Lasts c link rounds) e l)
   where
     by : (found : LinkEnd) → HasEnded c link rounds ts ends (run_end found) left → last_turn found ≡ length ts
-    by (link_ends.Done turn) h = h.ran.ended.number ∙ ap length h.turns_are
-    by (link_ends.LinkLost role segment turn) h = h.ran.ended.1.number ∙ ap length h.turns_are
-    by (link_ends.NotDetected turn) h = h.ran.ended.number ∙ ap length h.turns_are
+    by found h = grind (arith)
 
 over-pair : (script : ScriptValue) (files others : Both (List ℕ)) (firsts seconds : ℕ) (p q : Progress) (endings : Endings)
     → PairAt script files others firsts seconds p q → (o : AreOver endings p q)
@@ -184,8 +177,7 @@ module _ (laws : PairLaws) (x : Pair) (h : Half) (l : Lines) (old new : FolderSt
       second-over = ap is_going o.second_is
 
       going : (is_going a.p ≡ true) ⊎ ((is_going a.p ≡ false) × (is_going a.q ≡ true)) → is_going a.p ≡ true
-      going (inl e) = e
-      going (inr e) = absurd (false≢true (sym second-over ∙ e.1))
+      going b = grind (arith)
 
       was : is_going a.p ≡ true
       was = going (either (is_going a.p) (is_going a.q) a.going)
@@ -356,8 +348,7 @@ module _ (laws : PairLaws) (x : Pair) (h : Half) (l : Lines) (old new : FolderSt
       first-over = ap is_going o.first_is
 
       going : (is_going a.p ≡ true) ⊎ ((is_going a.p ≡ false) × (is_going a.q ≡ true)) → is_going a.q ≡ true
-      going (inl e) = absurd (false≢true (sym first-over ∙ e))
-      going (inr e) = e.1
+      going b = grind (arith)
 
       was : is_going a.q ≡ true
       was = going (either (is_going a.p) (is_going a.q) a.going)

@@ -251,12 +251,10 @@ sent-is text rest e =
 -- ---- lengths
 
 length-kind : (command : Bool) → length (kind_word command) ≤ 4
-length-kind true = omega arith
-length-kind false = omega arith
+length-kind command = grind (arith)
 
 length-poll : (pf : Bool) → length (poll_word pf) ≤ 4
-length-poll true = omega arith
-length-poll false = omega arith
+length-poll pf = grind (arith)
 
 length-number : (label : List ℕ) (n : ℕ) → n < count_bound → length (number_word label n) ≤ length label + 13
 length-number label n h = omega (

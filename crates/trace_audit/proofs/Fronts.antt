@@ -1,7 +1,8 @@
 -- What a text begins with: pieces from its front, and octets that pass a test.
-use Rattle.std.proofs.Common.{◌≡◌, ℕ, ◌<◌, ◌≤◌, Bool, true, false, cond, eqb, List, [], ◌∷◌, ◌++◌, length, take, drop, get_or, Option, Some}
-use Rattle.std.proofs.Common.{None, refl, sym, ap, ◌∙◌, append_assoc, ◌⊎◌, inl, inr, eq-eqb, append-nil, drop-cons, take-append-drop}
-use Rattle.std.proofs.lemmas.Bool.{and_parts, eqb-true}
+use Rattle.std.proofs.Common.{arith, ◌≡◌, ℕ, ◌<◌, ◌≤◌, Bool, true, false, cond, eqb, List, [], ◌∷◌, ◌++◌, length, take, drop, get_or}
+use Rattle.std.proofs.Common.{Option, Some}
+use Rattle.std.proofs.Common.{None, refl, sym, ap, ◌∙◌, append_assoc, ◌⊎◌, eq-eqb, append-nil, drop-cons, take-append-drop}
+use Rattle.std.proofs.lemmas.Bool.{and_parts}
 use Rattle.std.proofs.lemmas.List.{take_all}
 use Rattle.std.specs.List.{list_all}
 use Rattle.std.specs.Prelude.{MatchOption, ◌≢◌}
@@ -21,8 +22,7 @@ mapped f None y e = absurd cc
 mapped f (Some x) y e = (x, refl, cc)
 
 pub either : (a b : Option (List ℕ)) (y : List ℕ) → first_of a b ≡ Some y → (a ≡ Some y) ⊎ (b ≡ Some y)
-either None b y e = inr e
-either (Some x) b y e = inl e
+either a b y e = grind (arith)
 
 pub some-is : {A : Type 0} (x y : A) → Some x ≡ Some y → x ≡ y
 some-is x y e = cc
@@ -35,8 +35,7 @@ behind-reads (x ∷ label) rest = rw (eq-eqb x x refl) (behind-reads label rest)
 
 behind-step : (x y : ℕ) (text label rest : List ℕ) (o : Option (List ℕ)) (b : Bool) → eqb x y ≡ b → cond b o None ≡ Some rest
     → (o ≡ Some rest → text ≡ label ++ rest) → y ∷ text ≡ x ∷ label ++ rest
-behind-step x y text label rest o true same e f = let s : x ≡ y = eqb-true x y same in let t = f e in cc
-behind-step x y text label rest o false same e f = absurd cc
+behind-step x y text label rest o b same e f = grind (arith)
 
 pub behind-is : (label text rest : List ℕ) → behind label text ≡ Some rest → text ≡ label ++ rest
 behind-is [] text rest e = some-is text rest e

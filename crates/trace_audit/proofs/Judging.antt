@@ -1,9 +1,9 @@
 -- From every answer to the headline, and to which answer right inputs have.
-use Rattle.std.proofs.Common.{◌≡◌, ◌⊎◌, inl, inr, ℕ, ◌≤◌, ◌<◌, List, ◌++◌, length, Option, Result, Ok, Err, refl, sym, ◌∙◌, ap, subst}
+use Rattle.std.proofs.Common.{◌≡◌, ◌⊎◌, inl, inr, ℕ, Bool, true, false, ◌≤◌, ◌<◌, List, ◌++◌, length, Option, Result, Ok, Err, refl, sym}
+use Rattle.std.proofs.Common.{◌∙◌, ap, subst}
 use Rattle.std.proofs.Common.{arith}
 use Rattle.std.specs.Option.{option_map}
 use Rattle.outside_calls.specs.Folder.{FolderState, octets_at}
-use Rattle.outside_calls.specs.declared.folder.FolderFault.TheVariants as folder
 use Rattle.shared_terms.specs.declared.audit_cause.AuditCause.{AuditCause}
 use Rattle.noise_script.specs.Script.{ScriptValue}
 use Rattle.noise_script.specs.Laws.{ScriptsAreOne, NoFaultInScripts}
@@ -16,14 +16,14 @@ use Rattle.command_base.specs.declared.stop.Stop.TheVariants as stops
 use Rattle.command_base.specs.Inputs.{IsWithin, IsLonger}
 use Rattle.command_base.specs.Job.{Answers}
 use Rattle.command_base.specs.Lines.{true_line}
-use Rattle.command_base.specs.Stops.{end_status}
-use Rattle.command_base.proofs.Jobs.{last-plain, done-of, shared-of, Comes, is_done, is_own, is_memory, comes-to}
+use Rattle.command_base.proofs.Jobs.{done-of, shared-of, Comes, is_done, is_own, is_memory, comes-to}
 use Rattle.run_inputs.specs.declared.limits.TheConstants.{LIMITS}
+use Rattle.run_inputs.proofs.Answering.{stopped-so}
 use Rattle.run_inputs.specs.Inputs.{RefusesOwn}
 use Rattle.trace_audit.specs.declared.comparison.Difference.{Difference}
 use Rattle.trace_audit.specs.Words.{AuditNames, files_of}
 use Rattle.trace_audit.specs.Verdict.{DiffersIn, IsFound}
-use Rattle.trace_audit.specs.Ends.{Audits, AnswersOwn, Ends, audit_job}
+use Rattle.trace_audit.specs.Ends.{Audits, Ends, audit_job}
 use Rattle.trace_audit.specs.Headline.{Audited, AuditedBy, Headline, YesIsTheTrace}
 use Rattle.trace_audit.specs.Completes.{AreRight, files_at, InputsRunTo, IsAnswerTo, Where, Completes}
 use Rattle.trace_audit.proofs.Deciding.{VerdictLaws, never-both, one-difference}
@@ -47,20 +47,15 @@ audited-so f n found a = record {
 }
 
 -- a difference was found where that is the answer
-differs-so : (old before : FolderState) (n : AuditNames) (end : Result ℕ Stop) (line : ℕ) (cause : AuditCause) → Ends old before n end
-    → end_status end ≡ AuditNo line cause → Audits old n (Err (record { line = line; cause = cause }))
-differs-so old before n (Ok lines) line cause e f = absurd cc
-differs-so old before n (Err (stops.Own answer)) line cause e f = by
-    (subst (λ (s : Status). RefusesOwn LIMITS old n.script 3 (files_of n) 1 s ⊎ AnswersOwn old n s) f e)
-  where
-    by : ⊥ ⊎ Audits old n (Err (record { line = line; cause = cause })) → Audits old n (Err (record { line = line; cause = cause }))
-    by (inl never) = absurd never
-    by (inr a) = a
-differs-so old before n (Err (stops.Read folder.Failed)) line cause e f = absurd cc
-differs-so old before n (Err (stops.Read folder.NoMemory)) line cause e f = absurd cc
-differs-so old before n (Err (stops.Write fault)) line cause e f = absurd e
-differs-so old before n (Err (stops.Say fault)) line cause e f = absurd e
-differs-so old before n (Err stops.NoMemory) line cause e f = absurd cc
+differs-so : (old before : FolderState) (n : AuditNames) (line : ℕ) (cause : AuditCause)
+    → Ends old before n (Err (stops.Own (AuditNo line cause)))
+    → Audits old n (Err (record { line = line; cause = cause }))
+differs-so old before n line cause (inl never) = absurd never
+differs-so old before n line cause (inr a) = a
+
+abbrev is_no : Status → Bool
+is_no (AuditNo line cause) = true
+is_no answer = false
 
 audited-by : (words : List (List ℕ)) (old new : FolderState) (n : AuditNames) (s t : Status) → Answers (audit_job n) words old new s → s ≡ t
     → AuditedBy old new n t
@@ -71,10 +66,9 @@ audited-by words old new n s Done a e =
       audited-so old n (Ok d.done) d.ends.0,
     )
 audited-by words old new n s (AuditNo line cause) a e =
-    audited-so old n (Err (record { line = line; cause = cause }))
-    (differs-so old a.before n a.end line cause a.ends.0
-    (last-plain (audit_job n).line_of words a.before new a.end s (AuditNo line cause) a.says e
-    (record { write = λ f. cc; memory = λ f. cc })))
+    let is = stopped-so is_no (record { done = refl; read = refl; write = refl; memory = refl }) (audit_job n).line_of words a.before new
+    a.end s (AuditNo line cause) a.says e refl in
+    audited-so old n _ (differs-so old a.before n line cause (subst (Ends old a.before n) is a.ends.0))
 audited-by words old new n s t a e = tt
 
 pub headline-of : (words : List (List ℕ)) (old new : FolderState) (n : AuditNames) (s : Status) → Answers (audit_job n) words old new s

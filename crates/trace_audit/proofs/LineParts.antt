@@ -117,8 +117,7 @@ given-none (x ∷ text) field n rest s b e m = sym (
     )
 
 given-stops : (given : Option ℕ) → Stops (break_word given)
-given-stops None = refl
-given-stops (Some n) = refl
+given-stops given = grind (arith)
 
 -- ---- the reply
 
@@ -155,8 +154,7 @@ piece Originator = codes " orig "
 piece Answerer = codes " answ "
 
 role-reads : (role : Role) (rest : List ℕ) → role_at (piece role ++ rest) ≡ Some (role, rest)
-role-reads Originator rest = refl
-role-reads Answerer rest = refl
+role-reads role rest = grind (arith)
 
 abbrev Roled : Type 0
 Roled = Role × List ℕ
@@ -184,8 +182,7 @@ begins-is turn Answerer rest =
     ∙ append_assoc (decimal turn) (codes " ") (codes "answ" ++ (codes " " ++ rest))
 
 piece-stops : (role : Role) (rest : List ℕ) → Stops (piece role ++ rest)
-piece-stops Originator rest = refl
-piece-stops Answerer rest = refl
+piece-stops role rest = grind (arith)
 
 -- ---- the line
 

@@ -38,10 +38,7 @@ plain-reads n h =
 
 -- the tests of a word, where all pass
 tested : (a b c : Bool) (v n : ℕ) → cond (a && (b && c)) (Some v) None ≡ Some n → (a ≡ true) × (b ≡ true) × (c ≡ true) × (v ≡ n)
-tested true true true v n e = (refl, refl, refl, cc)
-tested true true false v n e = absurd cc
-tested true false c v n e = absurd cc
-tested false b c v n e = absurd cc
+tested a b c v n e = grind (arith)
 
 led : (word : List ℕ) → leads_well word ≡ true → 0 < length word → get_or word 0 0 ≡ 48 → length word ≡ 1
 led [] l h z = omega (arith, h)
@@ -67,8 +64,7 @@ bounded : (n bound m : ℕ) → if_below bound n ≡ Some m → (n ≡ m) × (m 
 bounded n bound m e = go (nat_lt n bound) refl e
   where
     go : (b : Bool) → nat_lt n bound ≡ b → cond b (Some n) None ≡ Some m → (n ≡ m) × (m < bound)
-    go true t e = let s : n ≡ m = cc in (s, grind (arith, nat_tests, t, s))
-    go false t e = absurd cc
+    go b t e = grind (arith)
 
 past-is : (n m : ℕ) → m ≤ n → nat_lt n m ≡ false
 past-is n m h = grind (arith, nat_tests, h)

@@ -1,56 +1,16 @@
 -- A text differs from lines first in one of them, and in one part of it.
-use Rattle.std.proofs.Common.{◌≡◌, ℕ, ◌+◌, List, [], ◌∷◌, ◌++◌, length, refl, sym, ap, subst, ◌∙◌, arith, ◌⊎◌, inl, inr}
+use Rattle.std.proofs.Common.{◌≡◌, ℕ, ◌+◌, List, [], ◌∷◌, ◌++◌, length, sym, ap, subst, ◌∙◌, arith, ◌⊎◌, inl, inr}
 use Rattle.std.proofs.lemmas.Bool.{cases_lt}
 use Rattle.trace_audit.proofs.LineParts.{one-reading}
 use Rattle.trace_audit.specs.declared.line.LineText.{LineText}
 use Rattle.trace_audit.specs.Differences.{text_of, IsRead, StopsIn, PartsDiffer, ReadsDiffer, OwnDiffers, Departs, LineDiffers, RestDiffers}
 use Rattle.trace_audit.specs.Differences.{FirstDiffers}
 use Rattle.shared_terms.specs.declared.audit_cause.AuditCause.{AuditCause}
-use Rattle.shared_terms.specs.declared.audit_cause.AuditCause.TheVariants.{End, Beyond, Spelling, Turn, Role, Arrived, Sent, Break}
+use Rattle.shared_terms.specs.declared.audit_cause.AuditCause.TheVariants.{End, Spelling}
 use Rattle.trace_audit.proofs.Lines.{not-before, split-same, front-same}
 
 parts-one : (a b : LineText) (c d : AuditCause) → PartsDiffer a b c → PartsDiffer a b d → c ≡ d
-parts-one a b Turn Turn p q = refl
-parts-one a b Turn Role p q = absurd (p q.0)
-parts-one a b Turn Arrived p q = absurd (p q.0)
-parts-one a b Turn Sent p q = absurd (p q.0)
-parts-one a b Turn Break p q = absurd (p q.0)
-parts-one a b Turn End p q = absurd q
-parts-one a b Turn Beyond p q = absurd q
-parts-one a b Turn Spelling p q = absurd q
-parts-one a b Role Turn p q = absurd (q p.0)
-parts-one a b Role Role p q = refl
-parts-one a b Role Arrived p q = absurd (p.1 q.1)
-parts-one a b Role Sent p q = absurd (p.1 q.1)
-parts-one a b Role Break p q = absurd (p.1 q.1)
-parts-one a b Role End p q = absurd q
-parts-one a b Role Beyond p q = absurd q
-parts-one a b Role Spelling p q = absurd q
-parts-one a b Arrived Turn p q = absurd (q p.0)
-parts-one a b Arrived Role p q = absurd (q.1 p.1)
-parts-one a b Arrived Arrived p q = refl
-parts-one a b Arrived Sent p q = absurd (p.2 q.2)
-parts-one a b Arrived Break p q = absurd (p.2 q.2)
-parts-one a b Arrived End p q = absurd q
-parts-one a b Arrived Beyond p q = absurd q
-parts-one a b Arrived Spelling p q = absurd q
-parts-one a b Sent Turn p q = absurd (q p.0)
-parts-one a b Sent Role p q = absurd (q.1 p.1)
-parts-one a b Sent Arrived p q = absurd (q.2 p.2)
-parts-one a b Sent Sent p q = refl
-parts-one a b Sent Break p q = absurd (p.3 q.3)
-parts-one a b Sent End p q = absurd q
-parts-one a b Sent Beyond p q = absurd q
-parts-one a b Sent Spelling p q = absurd q
-parts-one a b Break Turn p q = absurd (q p.0)
-parts-one a b Break Role p q = absurd (q.1 p.1)
-parts-one a b Break Arrived p q = absurd (q.2 p.2)
-parts-one a b Break Sent p q = absurd (q.3 p.3)
-parts-one a b Break Break p q = refl
-parts-one a b Break End p q = absurd q
-parts-one a b Break Beyond p q = absurd q
-parts-one a b Break Spelling p q = absurd q
-parts-one a b other d p q = absurd p
+parts-one a b other d p q = grind (arith)
 
 reads-one : (line own : List ℕ) (c d : AuditCause) → ReadsDiffer line own c → ReadsDiffer line own d → c ≡ d
 reads-one line own c d p q =
@@ -60,10 +20,7 @@ reads-one line own c d p q =
     (subst (λ a. PartsDiffer a p.other d) right (subst (λ b. PartsDiffer q.right b d) other q.differ))
 
 own-cases : (line own : List ℕ) (c : AuditCause) → OwnDiffers line own c → ((c ≡ Spelling) × (IsRead own → ⊥)) ⊎ ReadsDiffer line own c
-own-cases line own End p = absurd p
-own-cases line own Beyond p = absurd p
-own-cases line own Spelling p = inl (refl, p)
-own-cases line own other p = inr p
+own-cases line own other p = grind (arith)
 
 own-one : (line own : List ℕ) (c d : AuditCause) → OwnDiffers line own c → OwnDiffers line own d → c ≡ d
 own-one line own c d p q = elim (own-cases line own c p) [
@@ -78,8 +35,7 @@ own-one line own c d p q = elim (own-cases line own c p) [
 ]
 
 line-cases : (line rest : List ℕ) (c : AuditCause) → LineDiffers line rest c → ((c ≡ End) × StopsIn line rest) ⊎ Departs line rest c
-line-cases line rest End p = inl (refl, p)
-line-cases line rest other p = inr p
+line-cases line rest other p = grind (arith)
 
 line-one : (line rest : List ℕ) (c d : AuditCause) → LineDiffers line rest c → LineDiffers line rest d → c ≡ d
 line-one line rest c d p q = elim (line-cases line rest c p) [

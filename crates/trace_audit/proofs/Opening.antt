@@ -73,19 +73,9 @@ counts-trace a b n (stops.Read folder.Failed) h = inr (inr (inr h))
 counts-trace a b n (stops.Read folder.NoMemory) h = h
 counts-trace a b n other h = absurd h
 
--- of the turns
-pub counts-turns : (a b : FolderState) (n : AuditNames) (stop : Stop) → StopCounts a b (n.orig ∷ n.answ ∷ n.trace ∷ []) [] stop
-    → StopCounts a b (inputs_of n) [] stop
-counts-turns a b n (stops.Own answer) h = h
-counts-turns a b n (stops.Read folder.Failed) (inl o) = inl o
-counts-turns a b n (stops.Read folder.Failed) (inr (inl w)) = inr (inl w)
-counts-turns a b n (stops.Read folder.Failed) (inr (inr t)) = inr (inr (inr t))
-counts-turns a b n other h = h
-
 pub end-turns : (a b : FolderState) (n : AuditNames) (end : Result ℕ Stop) → EndCounts a b (n.orig ∷ n.answ ∷ n.trace ∷ []) [] end
     → EndCounts a b (inputs_of n) [] end
-end-turns a b n (Ok lines) h = h
-end-turns a b n (Err stop) h = counts-turns a b n stop h
+end-turns a b n end h = grind (arith)
 
 -- ---- the turns
 

@@ -18,7 +18,7 @@ use Rattle.noise_script.specs.Script.{ScriptValue, IsInLimits, delay_of}
 use Rattle.link_account.specs.Account.{Account, is_connected, given_break}
 use Rattle.link_run.specs.Run.{Accounts, Spoken, Turn}
 use Rattle.link_run.specs.Carried.{sent_ago, has_message, Crosses, Carries}
-use Rattle.link_run.specs.Outcomes.{Outcome, Going, Done, Broken, TurnIs}
+use Rattle.link_run.specs.Outcomes.{Outcome, Going, TurnIs}
 use Rattle.line_run.specs.Sampled.{HeardIn, LineRun}
 use Rattle.line_run.specs.Scripted.{wire_of, link_of}
 use Rattle.line_texts.specs.LineText.{is_chance}
@@ -36,8 +36,7 @@ use Rattle.line_ends.proofs.Sending.{SendLaws, HoldBoth, holds-all, mid-holds-at
 
 -- a plain frame of few octets is read
 few : (o : Option (List ℕ)) → length (unwrap_or o []) ≤ INFO → IfSome o (λ info. length info < count_bound)
-few None h = tt
-few (Some info) h = omega (arith, h)
+few o h = grind (arith)
 
 frame-read : (f : Frame) → IsPlain f → length (information_of f) ≤ INFO → IsReadableFrame f
 frame-read f p l = (p.ns, p.nr, few (parts_of f).info l, breaks f (λ command pf info e. subst InOctets e p.octets))
@@ -45,10 +44,6 @@ frame-read f p l = (p.ns, p.nr, few (parts_of f).info l, breaks f (λ command pf
 -- a slot whose frame has few octets
 abbrev IsShort : Sent → Type 0
 IsShort s = (frame : Frame) → s ≡ slots.Frame frame → length (information_of frame) ≤ INFO
-
-sent-read : (s : Sent) → IsPlainSent s → IsShort s → IsReadableSent s
-sent-read (slots.Frame frame) p f = frame-read frame p (f frame refl)
-sent-read other p f = tt
 
 signal-read : (s : Sent) → has_message s ≡ true → IsPlainSent s → IsShort s → IsReadableSignal s
 signal-read slots.Mark m p f = absurd cc
@@ -96,12 +91,10 @@ module _ (laws : SendLaws) (script : ScriptValue) (files : Both (List ℕ)) (ts 
       record { run = (ends, r.run, g.1); heard = (heard, r.heard) } in
       let k = holds-all laws (wire_of script) files (t ∷ ts) g.0 h o run in
       (k.plain.0 role slot e, λ frame f. k.short.0 role slot frame e f)
-  spoken-read t mid Done heard l role slot e = let n : None ≡ Some slot = sym (l.silent role) ∙ e in absurd cc
-  spoken-read t mid (Broken at fault) heard b role slot e = let n : None ≡ Some slot = sym (b.silent role) ∙ e in absurd cc
+  spoken-read t mid outcome heard l role slot e = grind (arith)
 
   sent-line : (o : Option Spoken) → IsKnown o → IfSome (option_map (λ (slot : Spoken). slot.sent) o) IsReadableSent
-  sent-line None f = tt
-  sent-line (Some slot) f = let k = f slot refl in sent-read slot.sent k.0 k.1
+  sent-line o f = grind (arith)
 
   line-read : (t : Turn) (mid : Accounts) (outcome : Outcome) → HeardIn (wire_of script) ts t
       → TurnIs (link_of script files) ts ends t mid outcome → length ts < 2 ^ 40 → (role : Role)

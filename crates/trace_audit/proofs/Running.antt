@@ -141,8 +141,7 @@ files-counts a b n trace other h = h
 
 pub found-counts : (a b : FolderState) (inputs : List (List ℕ)) (found : Result ℕ Difference) → CountsStand a b
     → EndCounts a b inputs [] (found_end found)
-found-counts a b inputs (Ok lines) h = h
-found-counts a b inputs (Err d) h = (tt, h)
+found-counts a b inputs found h = grind (arith)
 
 -- ---- what is found
 
@@ -180,8 +179,7 @@ module _ (v : World) (mid new : FolderState) (n : Written) (trace : List ℕ) (c
 
   run-is : (script : ScriptValue) (found : Result ℕ Difference) → RunFound script new n trace found
       → RunIs script new n trace (found_end found)
-  run-is script (Ok lines) r = r
-  run-is script (Err d) r = r
+  run-is script found r = grind (arith)
 
   pub ends-so : (script : ScriptValue) (window : List ℕ) (found : Result ℕ Difference) → script_of v ≡ script → IsApart n
       → OnlyReads mid new

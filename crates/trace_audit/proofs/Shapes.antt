@@ -22,8 +22,7 @@ Stops rest = begins is_digit rest ≡ false
 -- ---- the direction
 
 pub direction-reads : (command : Bool) (rest : List ℕ) → behind_direction (kind_word command ++ rest) ≡ Some rest
-direction-reads true rest = refl
-direction-reads false rest = refl
+direction-reads command rest = grind (arith)
 
 pub direction-is : (text rest : List ℕ) → behind_direction text ≡ Some rest → (command : Bool) × (text ≡ kind_word command ++ rest)
 direction-is text rest e = elim (either (behind (codes " cmd") text) (behind (codes " rsp") text) rest e) [
@@ -34,8 +33,7 @@ direction-is text rest e = elim (either (behind (codes " cmd") text) (behind (co
 -- ---- the poll or final bit
 
 pub poll-reads : (pf : Bool) (rest : List ℕ) → behind_poll (poll_word pf ++ rest) ≡ Some rest
-poll-reads true rest = refl
-poll-reads false rest = refl
+poll-reads pf rest = grind (arith)
 
 pub poll-is : (text rest : List ℕ) → behind_poll text ≡ Some rest → (pf : Bool) × (text ≡ poll_word pf ++ rest)
 poll-is text rest e = elim (either (behind (codes " p=0") text) (behind (codes " p=1") text) rest e) [
@@ -44,8 +42,7 @@ poll-is text rest e = elim (either (behind (codes " p=0") text) (behind (codes "
 ]
 
 poll-stops : (pf : Bool) (rest : List ℕ) → Stops (poll_word pf ++ rest)
-poll-stops true rest = refl
-poll-stops false rest = refl
+poll-stops pf rest = grind (arith)
 
 -- ---- numbers
 

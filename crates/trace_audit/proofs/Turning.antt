@@ -1,9 +1,9 @@
 -- From a turn over the folder of an audit to the lines that it adds.
 use Rattle.std.proofs.Common.{◌≡◌, ℕ, ◌<◌, ◌^◌, Bool, true, false, List, [], ◌∷◌, ◌++◌, length, Result, Ok, Err, refl, sym, ◌∙◌, ap, subst}
-use Rattle.std.proofs.Common.{arith, append-nil, inl, inr}
+use Rattle.std.proofs.Common.{arith, append-nil}
 use Rattle.std.specs.Prelude.{IfErr}
 use Rattle.outside_calls.specs.Folder.{FolderState}
-use Rattle.outside_calls.specs.Outputs.{OnlyPuts, SomeRose}
+use Rattle.outside_calls.specs.Outputs.{OnlyPuts}
 use Rattle.shared_terms.specs.declared.role.Role.{Role}
 use Rattle.shared_terms.specs.declared.role.Role.TheVariants.{Originator}
 use Rattle.shared_terms.specs.declared.fault.LinkFault.TheVariants as causes
@@ -36,7 +36,6 @@ use Rattle.trace_audit.proofs.Lines.{text_of-append}
 use Rattle.trace_audit.specs.Lines.{AreLines, chance_words, turn_lines, trace_lines, TextsHaveLines, TurnsHaveLines, ChancesHaveLines}
 use Rattle.line_ends.specs.Plain.{AsksInOctets}
 use Rattle.program_folders.specs.Passed.{OnlyPassed}
-use Rattle.program_folders.proofs.Passed.{stands-inside, faults-stand-inside}
 use Rattle.trace_audit.specs.Turns.{IsReading, step_end, held_by, Watched, StillRuns, HasRun, TurnMade}
 use Rattle.trace_audit.proofs.Inside.{knows-inside, knows-outside, text-added, text-more, text-kept}
 
@@ -225,25 +224,13 @@ made laws w v old new n step text goes_on apart limits asks same early h e befor
 
 -- the run goes on where the turn does
 pub going-step : (step : Result Step RunFault) → step_end step ≡ Ok true → step ≡ Ok steps.Going
-going-step (Ok steps.Going) e = refl
-going-step (Ok (steps.Done turn)) e = absurd cc
-going-step (Err faults.ReadFault) e = absurd cc
-going-step (Err fault) e = absurd cc
-
--- nothing is written but what the audit keeps
-never-wrote : (names : List (List ℕ)) → SomeRose (λ name. 0) (λ name. 0) names → ⊥
-never-wrote [] never = never
-never-wrote (name ∷ names) (inl rose) = absurd (omega (arith, rose))
-never-wrote (name ∷ names) (inr rose) = never-wrote names rose
+going-step step e = grind (arith)
 
 module _ (w v : World) (old new : FolderState) (n : Written) (text : List ℕ) where
   -- so a turn stops where a file is not read, or for want of memory,
   step-reading : (r : ℕ) (step : Result Step RunFault) → TurnCounts (held_by old n [] 0) (held_by new n text r) n step
       → IfErr (step_end step) IsReading
-  step-reading r (Ok steps.Going) k = tt
-  step-reading r (Ok (steps.Done turn)) k = tt
-  step-reading r (Err faults.WriteFault) k = absurd (never-wrote (outputs_of n) k)
-  step-reading r (Err fault) k = tt
+  step-reading r step k = grind (arith)
 
   pub stops-reading : (step : Result Step RunFault) (end : Result Bool Stop) → Watched w v old new n step text → step_end step ≡ end
       → IfErr end IsReading
@@ -252,12 +239,7 @@ module _ (w v : World) (old new : FolderState) (n : Written) (text : List ℕ) w
   -- and counts that, or nothing
   step-counts : (r : ℕ) → OnlyPassed old new 0 r → (step : Result Step RunFault)
       → TurnCounts (held_by old n [] 0) (held_by new n text r) n step → EndCounts old new (inputs_of n) [] (step_end step)
-  step-counts r p (Ok steps.Going) k = stands-inside old new _ _ [] text 0 r p k
-  step-counts r p (Ok (steps.Done turn)) k = stands-inside old new _ _ [] text 0 r p k
-  step-counts r p (Err faults.ReadFault) k = k
-  step-counts r p (Err faults.WriteFault) k = absurd (never-wrote (outputs_of n) k)
-  step-counts r p (Err faults.NoMemory) k = faults-stand-inside old new _ _ [] text 0 r p k.0
-  step-counts r p (Err fault) k = stands-inside old new _ _ [] text 0 r p k
+  step-counts r p step k = grind (arith)
 
   pub end-counts : (step : Result Step RunFault) (end : Result Bool Stop) → Watched w v old new n step text → step_end step ≡ end
       → EndCounts old new (inputs_of n) [] end

@@ -7,7 +7,6 @@ use Rattle.std.proofs.lemmas.Bool.{and_parts}
 use Rattle.std.proofs.lemmas.Bool.Decides.{nat_tests}
 use Rattle.std.proofs.lemmas.List.Folds.{list_all-append}
 use Rattle.shared_terms.specs.declared.role.Role.{Role}
-use Rattle.shared_terms.specs.declared.role.Role.TheVariants.{Originator, Answerer}
 use Rattle.shared_terms.specs.Role.{role_word}
 use Rattle.break_signals.specs.declared.word.BreakWord.{BreakWord}
 use Rattle.break_signals.specs.declared.word.BreakWord.TheVariants.{Brk, Ack}
@@ -46,12 +45,10 @@ labelled label n w h = joined label (decimal n) w (number n h)
 -- ---- frames
 
 kind : (command : Bool) → IsWhole (kind_word command)
-kind true = refl
-kind false = refl
+kind command = grind (arith)
 
 poll : (pf : Bool) → IsWhole (poll_word pf)
-poll true = refl
-poll false = refl
+poll pf = grind (arith)
 
 abbrev IsWholeName : List ℕ → Shape → Type 0
 IsWholeName name shape = IsWhole name
@@ -135,8 +132,7 @@ given-whole (Some units) h = labelled (codes " break=") units refl (omega (arith
 -- ---- lines
 
 role-whole : (role : Role) → IsWhole (role_word role)
-role-whole Originator = refl
-role-whole Answerer = refl
+role-whole role = grind (arith)
 
 begins-whole : (turn : ℕ) (role : Role) → turn < count_bound → IsWhole (line_begins turn role)
 begins-whole turn role h =

@@ -15,7 +15,7 @@ use Rattle.trace_audit.specs.Grammar.{HasParts}
 use Rattle.trace_audit.specs.declared.line.LineText.{LineText}
 use Rattle.trace_audit.specs.Differences.{is_no_feed, fed, own_line, StopsIn, GoesOnWith, OwnDiffers, LineDiffers}
 use Rattle.shared_terms.specs.declared.audit_cause.AuditCause.{AuditCause}
-use Rattle.shared_terms.specs.declared.audit_cause.AuditCause.TheVariants.{End, Beyond, Spelling, Turn, Role, Arrived, Sent, Break}
+use Rattle.shared_terms.specs.declared.audit_cause.AuditCause.TheVariants.{Spelling, Turn, Role, Arrived, Sent, Break}
 
 -- no line feed stands in these octets
 abbrev pub IsWhole : List ℕ → Type 0
@@ -24,8 +24,7 @@ IsWhole line = list_all is_no_feed line ≡ true
 -- ---- tests of octets
 
 pub unnot : (b : Bool) → not b ≡ false → b ≡ true
-unnot true e = refl
-unnot false e = absurd cc
+unnot b e = grind (arith)
 
 pub differ : (a b : List ℕ) → not (bytes_eq a b) ≡ true → a ≢ b
 differ a b e same = cc (sym e ∙ ap not ((bytes_eq-Decides a b).1 same))
@@ -65,8 +64,7 @@ is-feed : (x : ℕ) → is_no_feed x ≡ false → x ≡ 10
 is-feed x e = eqb-true x 10 (go (eqb x 10) e)
   where
     go : (b : Bool) → not b ≡ false → b ≡ true
-    go true e = refl
-    go false e = absurd cc
+    go b e = grind (arith)
 
 fed-behind : (behind : List ℕ) → behind ≢ [] → begins is_no_feed behind ≡ false → (tail : List ℕ) × (behind ≡ 10 ∷ tail)
 fed-behind [] some stops = absurd (some refl)
@@ -250,10 +248,7 @@ module _ (line window rest : List ℕ) (whole : IsWhole line) (short : length li
 
       go : 161 ≤ length (own_line rest) → 161 ≤ length (front_of is_no_feed window) → (cause : AuditCause)
           → OwnDiffers line (front_of is_no_feed window) cause → OwnDiffers line (own_line rest) cause
-      go long_own long_front End d = absurd d
-      go long_own long_front Beyond d = absurd d
-      go long_own long_front Spelling d = λ r. unread (own_line rest) long_own r.0 r.1
-      go long_own long_front another d = absurd (unread (front_of is_no_feed window) long_front d.other d.other_is)
+      go long_own long_front another d = grind (arith)
 
   -- the text has another line in the place of this one
   pub departs : (cause : AuditCause) → OwnDiffers line (front_of is_no_feed window) cause → (line ≡ front_of is_no_feed window → ⊥)

@@ -1,5 +1,5 @@
 -- The words of a trace's lines are read.
-use Rattle.std.proofs.Common.{◌≡◌, ◌≢◌, true, false, ℕ, List, [], ◌∷◌, length, None, refl, subst}
+use Rattle.std.proofs.Common.{arith, ◌≡◌, ◌≢◌, true, false, ℕ, List, [], ◌∷◌, length, None, refl, subst}
 use Rattle.std.specs.List.{list_all}
 use Rattle.shared_terms.specs.declared.role.Role.{Role}
 use Rattle.shared_terms.specs.declared.role.Role.TheVariants.{Originator, Answerer}
@@ -25,8 +25,7 @@ abbrev pub ReadIsWhole : Type 0
 ReadIsWhole = (line : List ℕ) (text : LineText) → HasParts line text → list_all is_no_feed line ≡ true
 
 plain : (heard : Heard) → heard ≢ Chance → is_chance heard ≡ false
-plain Chance h = absurd (h refl)
-plain other h = refl
+plain other h = grind (arith)
 
 -- the line of an end in a turn
 side-text : (turn : ℕ) (role : Role) (s : Side) → is_chance s.heard ≡ false → text_of_line (line_of turn role s) ≡ side_words turn role s

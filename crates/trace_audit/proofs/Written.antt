@@ -3,11 +3,9 @@ use Rattle.std.proofs.Common.{◌≡◌, ℕ, ◌<◌, ◌≤◌, Bool, true, fa
 use Rattle.std.proofs.Common.{Option, Some, None, Result, Ok, Err, refl, sym, ap, subst, ◌∙◌, arith, append_assoc, length-append}
 use Rattle.std.proofs.Common.{append-nil, inl, inr}
 use Rattle.std.specs.Prelude.{IfSome}
-use Rattle.std.proofs.lemmas.Bool.Decides.{nat_tests}
 use Rattle.std.proofs.lemmas.Fmt.{length-decimal-le}
 use Rattle.frame_check.specs.Octets.{AreOctets}
 use Rattle.shared_terms.specs.declared.role.Role.{Role}
-use Rattle.shared_terms.specs.declared.role.Role.TheVariants.{Originator, Answerer}
 use Rattle.shared_terms.specs.Role.{role_word}
 use Rattle.lapm_frames.specs.declared.frame.Frame.{Frame}
 use Rattle.lapm_frames.specs.declared.frame.Frame.TheVariants as frames
@@ -45,17 +43,11 @@ number_in (Ack number units) = number
 of-three : (kind number units : ℕ) (word : BreakWord) (a b c : Bool) → nat_lt number 2 ≡ c
     → cond a (cond c (Ok (cond b (Brk number units) (Ack number units))) (Err (Number number))) (Err (Kind kind)) ≡ Ok word
     → number_in word < 2
-of-three kind number units word true true true is e = let w : Brk number units ≡ word = cc in subst (λ w. number_in w < 2) w
-    (grind (arith, nat_tests, is))
-of-three kind number units word true false true is e = let w : Ack number units ≡ word = cc in subst (λ w. number_in w < 2) w
-    (grind (arith, nat_tests, is))
-of-three kind number units word true b false is e = absurd cc
-of-three kind number units word false b c is e = absurd cc
+of-three kind number units word a b c is e = grind (arith)
 
 of-others : (kind : ℕ) (word : BreakWord) (fault : BreakFault) (a : Bool) → cond a (Err fault) (Err (Kind kind)) ≡ Ok word
     → number_in word < 2
-of-others kind word fault true e = absurd cc
-of-others kind word fault false e = absurd cc
+of-others kind word fault a e = grind (arith)
 
 few-number : (info : List ℕ) (word : BreakWord) → word_in info ≡ Ok word → number_in word < 2
 few-number [] word e = absurd cc
@@ -67,8 +59,7 @@ few-number (kind ∷ number ∷ units ∷ more ∷ rest) word e =
     of-others kind word (Length (length (kind ∷ number ∷ units ∷ more ∷ rest))) (nat_eq kind 64 || nat_eq kind 96) e
 
 is-break : (word : BreakWord) → AreOctets (spelled word) → number_in word < 2 → IsBreak word
-is-break (Brk number units) small few = (few, small 2 0 (omega arith))
-is-break (Ack number units) small few = (few, small 2 0 (omega arith))
+is-break word small few = grind (arith)
 
 pub read-break : (info : List ℕ) (r : Result BreakWord BreakFault) → word_in info ≡ r → AreOctets info → IfSome (if_word r) IsBreak
 read-break info (Ok word) e small =
@@ -155,8 +146,7 @@ octets-are-read f ns nr info =
     (ns, nr, few (parts_of f).info info, breaks f (λ command pf octets e. (subst (λ x. IfSome (parts_of x).info IsInformation) e info).1))
   where
     few : (o : Option (List ℕ)) → IfSome o IsInformation → IfSome o (λ info. length info < count_bound)
-    few None h = tt
-    few (Some xs) h = omega (arith, h.0)
+    few o h = grind (arith)
 
 -- ---- lines
 
@@ -184,8 +174,7 @@ sent-is-text None h = none refl
 sent-is-text (Some s) h = slot-is-text s h
 
 length-role : (role : Role) → length (role_word role) ≤ 4
-length-role Originator = omega arith
-length-role Answerer = omega arith
+length-role role = grind (arith)
 
 length-begins : (turn : ℕ) (role : Role) → turn < count_bound → length (line_begins turn role) ≤ 19
 length-begins turn role low = omega (
@@ -270,5 +259,4 @@ line-is-fed line = go (is_chance line.arrived)
         ≡ cond b (line_begins line.turn line.role ++ codes "chance")
         (line_begins line.turn line.role ++ heard_word line.arrived ++ codes " > " ++ sent_word line.sent ++ break_word line.given) ++ codes
         "\n"
-    go true = refl
-    go false = refl
+    go b = grind (arith)

@@ -1,5 +1,5 @@
 -- A link's turns depend on what went beside them by then, and on nothing that goes there later.
-use Rattle.std.proofs.Common.{◌≡◌, ℕ, zero, suc, ◌+◌, ◌-◌, ◌<◌, ◌≤◌, Bool, true, false, cond, nat_eq, List, [], ◌∷◌, ◌++◌, length, drop}
+use Rattle.std.proofs.Common.{◌≡◌, ℕ, zero, suc, ◌+◌, ◌-◌, ◌<◌, ◌≤◌, Bool, false, cond, nat_eq, List, [], ◌∷◌, ◌++◌, length, drop}
 use Rattle.std.proofs.Common.{arith, refl, sym, ◌∙◌, ap, subst, Option, Some, None}
 use Rattle.std.proofs.lemmas.Bool.Decides.{nat_tests}
 use Rattle.std.proofs.lemmas.List.{length-drop}
@@ -187,5 +187,4 @@ slot-stays dlci role t ts round l = go (nat_eq round (length ts)) (differs round
 
     go : (x : Bool) → x ≡ false
         → cond x (signal_or_flags dlci role (of role t).sent) (slot_in dlci role ts round) ≡ slot_in dlci role ts round
-    go false e = refl
-    go true e = absurd cc
+    go x e = grind (arith)

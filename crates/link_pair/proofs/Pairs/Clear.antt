@@ -228,8 +228,7 @@ pub due-well : ClearLaws → (script : ScriptValue) (sender : Role) (ts : List T
 due-well laws script sender ts = go (sent_ago (delay_of script sender) sender ts)
   where
     go : (o : Option Spoken) → due_of script sender (drop (delay_of script sender) ts) o ≢ Chance
-    go None e = absurd cc
-    go (Some slot) e = laws.never_chance (loses script sender (length (drop (delay_of script sender) ts))) slot.sent e
+    go o e = grind (arith)
 
 -- So the line isn't lost in that turn.
 pub not-lost : ClearLaws → (script : ScriptValue) (dlci : ℕ) (beside : Beside) (sender : Role) (ts : List Turn) (symbol : ℕ)

@@ -1,6 +1,6 @@
 -- Which pairs are done.
-use Rattle.std.proofs.Common.{◌≡◌, ℕ, refl, ◌∙◌, ap}
-use Rattle.line_run.specs.Ends.{RunEnd, IsDone, LinkLost, NotDetected, GivesUp}
+use Rattle.std.proofs.Common.{arith, ◌≡◌, ℕ, ◌∙◌, ap}
+use Rattle.line_run.specs.Ends.{RunEnd, IsDone, GivesUp}
 use Rattle.line_ends.specs.Causes.{LostLinksWereStarved}
 use Rattle.line_ends.specs.Completes.{CompletesQuiet}
 use Rattle.link_pair.specs.Pairs.Beside.{first_wire, second_wire}
@@ -10,12 +10,9 @@ use Rattle.link_pair.specs.Pairs.Laws.{EndsDone, UnstarvedPairsAreDone, QuietPai
 
 -- an end of the link that nobody gave up is done
 not-given-up : (end : RunEnd) → IsByLink end → (GivesUp end → ⊥) → (turn : ℕ) × (end ≡ IsDone turn)
-not-given-up (IsDone turn) b h = (turn, refl)
-not-given-up (LinkLost role segment turn) b h = absurd (h tt)
-not-given-up (NotDetected turn) b h = absurd (h tt)
-not-given-up end b h = absurd b
+not-given-up end b h = grind (arith)
 
-both-so : (a b : RunEnd) → (turn : ℕ) × (a ≡ IsDone turn) → (turn : ℕ) × (b ≡ IsDone turn) → EndsDone (end_of a b)
+pub both-so : (a b : RunEnd) → (turn : ℕ) × (a ≡ IsDone turn) → (turn : ℕ) × (b ≡ IsDone turn) → EndsDone (end_of a b)
 both-so a b x y = (x.0, y.0, ap (λ z. end_of z b) x.1 ∙ ap (end_of (IsDone x.0)) y.1)
 
 pub unstarved-pairs-are-done : LostLinksWereStarved → UnstarvedPairsAreDone

@@ -1,11 +1,10 @@
 -- What both links send fits the slots of the line, in whatever order the slots come.
-use Rattle.std.proofs.Common.{◌≡◌, ℕ, zero, suc, ◌*◌, ◌<◌, Bool, true, false, cond, nat_eq, List, [], ◌∷◌, ◌++◌, length, drop, refl}
+use Rattle.std.proofs.Common.{arith, ◌≡◌, ℕ, zero, suc, ◌*◌, ◌<◌, Bool, true, false, cond, nat_eq, List, [], ◌∷◌, ◌++◌, length, drop, refl}
 use Rattle.std.proofs.Common.{sym, ap, subst, Option, Some, None}
 use Rattle.std.proofs.lemmas.List.{append-nil}
 use Rattle.bit_stuffing.specs.Slots.{next_phase}
 use Rattle.bit_stuffing.proofs.Fill.{next-low}
 use Rattle.shared_terms.specs.declared.role.Role.{Role}
-use Rattle.shared_terms.specs.declared.role.Role.TheVariants.{Originator, Answerer}
 use Rattle.shared_terms.specs.Both.{Both, of}
 use Rattle.detection.specs.Slots.{Signal, slot_of}
 use Rattle.detection.specs.Slots.Signal.{FlagSlot}
@@ -146,8 +145,7 @@ pub idle-sends : (role : Role) (slot : Spoken) → (of role idle_turn).sent ≡ 
 idle-sends role slot e = go role e
   where
     go : (role : Role) → (of role idle_turn).sent ≡ Some slot → slots.Flags ≡ slot.sent
-    go Originator e = ap sent-of e
-    go Answerer e = ap sent-of e
+    go role e = grind (arith)
 
 pub fitting-lasting : (size dlci n : ℕ) (ts : List Turn) → AllFitting size dlci ts → AllFitting size dlci (lasting n ts)
 fitting-lasting size dlci zero ts h = h

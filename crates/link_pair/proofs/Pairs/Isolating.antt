@@ -1,12 +1,12 @@
 -- Where noise is faint a link runs as it would whatever goes beside it.
-use Rattle.std.proofs.Common.{◌≡◌, ℕ, ◌<◌, List, [], ◌∷◌, length, sym, subst}
+use Rattle.std.proofs.Common.{arith, ◌≡◌, ℕ, ◌<◌, List, [], ◌∷◌, length, sym, subst}
 use Rattle.shared_terms.specs.declared.role.Role.{Role}
 use Rattle.shared_terms.specs.Role.{other}
 use Rattle.shared_terms.specs.Both.{Both, of}
 use Rattle.noise_script.specs.Script.{ScriptValue, IsInLimits, delay_of}
 use Rattle.link_account.specs.Account.{check_of}
 use Rattle.link_run.specs.Run.{Accounts, Turn, Hears}
-use Rattle.link_run.specs.Outcomes.{Outcome, Going, Done, Broken, TurnIs}
+use Rattle.link_run.specs.Outcomes.{Outcome, TurnIs}
 use Rattle.link_run.specs.Laws.{RunsOver}
 use Rattle.link_run.specs.Overheard.{JudgesByItsCheck}
 use Rattle.line_run.specs.Sampled.{IsHeardOf, HeardIn, LineRun}
@@ -117,9 +117,7 @@ run-moves laws script files dlci beside at near m v (t ∷ ts) ends r =
 
 pub hearing-in : (script : ScriptValue) (files : Both (List ℕ)) (ts : List Turn) (ends : Accounts) (t : Turn) (mid : Accounts) (o : Outcome)
     → TurnIs (link_of script files) ts ends t mid o → Hears (length ts) ends t mid
-hearing-in script files ts ends t mid Going h = subst (Hears (length ts) ends t) h.2 h.1.hearing
-hearing-in script files ts ends t mid Done h = h.hearing
-hearing-in script files ts ends t mid (Broken role fault) h = h.hearing
+hearing-in script files ts ends t mid o h = grind (arith)
 
 -- and its last turn, where an end of the link ended it.
 last-moves : IsolationLaws → (script : ScriptValue) (files : Both (List ℕ)) (dlci : ℕ) (beside : Beside) (at : ℕ) (near : Beside)

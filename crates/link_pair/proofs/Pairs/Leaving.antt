@@ -1,8 +1,7 @@
 -- What a pair leaves of each link, and how many rounds it has.
-use Rattle.std.proofs.Common.{◌≡◌, ℕ, ◌^◌, ◌<◌, true, List, arith, refl, sym, ap, subst}
+use Rattle.std.proofs.Common.{◌≡◌, ℕ, ◌^◌, ◌<◌, true, List, arith, sym, subst}
 use Rattle.std.proofs.lemmas.Bool.{false≢true}
 use Rattle.shared_terms.specs.declared.role.Role.{Role}
-use Rattle.shared_terms.specs.declared.role.Role.TheVariants.{Originator, Answerer}
 use Rattle.shared_terms.specs.Role.{other}
 use Rattle.shared_terms.specs.Both.{Both, of}
 use Rattle.shared_terms.specs.Prefix.{IsPrefixOf}
@@ -10,7 +9,6 @@ use Rattle.noise_script.specs.Script.{ScriptValue, IsInLimits, delay_of}
 use Rattle.link_run.specs.Run.{Accounts, Turn}
 use Rattle.link_run.specs.Laws.{TakesPrefixes}
 use Rattle.line_run.specs.Sampled.{LineRun, LineEnd}
-use Rattle.line_run.specs.Sampled as lines
 use Rattle.line_run.specs.Scripted.{link_of, ScriptsMayPlay, ScriptsHaveDelays, wire_at}
 use Rattle.line_run.specs.Scripts.{LineRunsEndSoon, NoLineRunIsLong}
 use Rattle.line_run.specs.LineLaws.{SamplesAreCarried}
@@ -20,7 +18,6 @@ use Rattle.line_ends.specs.Causes.{LostLinksWereStarved}
 use Rattle.link_pair.specs.Pairs.Beside.{first_dlci, second_dlci, after_second, after_first, first_wire, second_wire}
 use Rattle.link_pair.specs.Pairs.Pair.{Progress, Goes, Ended, turns_in, Lasts}
 use Rattle.link_pair.specs.Pairs.Ends.{PairEnd, BothDone, end_of, line_end, is_going, LeavesOf, by_links, by_line}
-use Rattle.link_pair.specs.Pairs.Ends as pairs
 use Rattle.link_pair.specs.Pairs.Laws.{ArePrefixes, PairsLeavePrefixes, AreWhole, DonePairsAreWhole, PairedLinksWereStarved, IsRunOver}
 use Rattle.link_pair.specs.Pairs.Laws.{PairedLinksRun, AreFewRounds, AreShort, PairsHaveFewRounds}
 use Rattle.link_pair.proofs.Pairs.Clear.{Beside}
@@ -40,8 +37,7 @@ may-run laws script dlci beside files h = record { may_play = laws.play script f
 
 same-whole : (script : ScriptValue) (files : Both (List ℕ)) (role : Role) (got : List ℕ)
     → got ≡ (of (other role) (link_of script files)).user.file → got ≡ of (other role) files
-same-whole script files Originator got e = e
-same-whole script files Answerer got e = e
+same-whole script files role got e = grind (arith)
 
 -- what is left of a link that has ended
 ended-prefixes : LeaveLaws → (script : ScriptValue) (files : Both (List ℕ)) (dlci : ℕ) (beside : Beside) (rounds : ℕ) → IsInLimits script
@@ -81,11 +77,7 @@ pairs-leave-prefixes laws script files others end left leaves h (by_line link ro
 
 -- which end a pair's is
 kind : PairEnd → ℕ
-kind (BothDone first second) = 0
-kind (pairs.LinkLost link role segment turn) = 1
-kind (pairs.NotDetected link turn) = 2
-kind (pairs.LineLost role symbol) = 3
-kind (pairs.ChanceMatch role round) = 4
+kind b = grind (arith)
 
 pub record AreDone (first second : RunEnd) : Type 0 where
   pub turn : ℕ
@@ -95,13 +87,11 @@ pub record AreDone (first second : RunEnd) : Type 0 where
 
 both-done : (m n : ℕ) (first second : RunEnd) → BothDone m n ≡ end_of first second → AreDone first second
 unfolding kind
-both-done m n (runs.IsDone turn) (runs.IsDone last) e = record { turn = turn; last = last; first_is = refl; second_is = refl }
-both-done m n other second e = absurd (omega (arith, ap kind e))
+both-done m n other second e = grind (arith)
 
 line-not-done : (m n round : ℕ) (cause : LineEnd) → BothDone m n ≡ line_end round cause → ⊥
 unfolding kind
-line-not-done m n round (lines.LineLost role symbol) e = omega (arith, ap kind e)
-line-not-done m n round (lines.ChanceMatch role) e = omega (arith, ap kind e)
+line-not-done m n round cause e = grind (arith)
 
 ended-whole : LeaveLaws → (script : ScriptValue) (files : Both (List ℕ)) (dlci : ℕ) (beside : Beside) (rounds : ℕ) → IsInLimits script
     → (ts : List Turn) (ends : Accounts) (end : RunEnd) (left : Left) (turn : ℕ) → end ≡ IsDone turn

@@ -1,7 +1,7 @@
 -- A pair has one result.
 use Rattle.std.proofs.Common.{◌≡◌, ◌⊎◌, inl, inr, ℕ, suc, ◌-◌, ◌*◌, ◌<◌, ◌≤◌, ◌||◌, max, Bool, true, false, List, ◌++◌}
 use Rattle.std.proofs.Common.{length, arith, refl, sym, ◌∙◌, ap, subst}
-use Rattle.std.proofs.lemmas.Bool.{false≢true, cases_lt}
+use Rattle.std.proofs.lemmas.Bool.{cases_lt}
 use Rattle.shared_terms.specs.Both.{Both}
 use Rattle.noise_script.specs.Script.{ScriptValue}
 use Rattle.link_run.specs.Trace.{trace_text}
@@ -35,9 +35,7 @@ data Stops (script : ScriptValue) (link : Which) (round : ℕ) (p q : Progress) 
   On_line : (cause : LineEnd) → EndsTurn script link round p q cause → (is_going p || is_going q) ≡ true → Stops script link round p q
 
 going-not : (x y : Bool) → x ≡ false → y ≡ false → (x || y) ≡ true → ⊥
-going-not true y e f g = false≢true (sym e)
-going-not false true e f g = false≢true (sym f)
-going-not false false e f g = false≢true g
+going-not x y e f g = grind (arith)
 
 ends-not-heard : SameLaws → (script : ScriptValue) (link : Which) (round : ℕ) (p q : Progress) (cause : LineEnd)
     → EndsTurn script link round p q cause → HearsTurn script link round p q → ⊥
@@ -142,8 +140,7 @@ leaves-once (Ended ts ends end had) text left other h k = go left h ∙ sym (go 
 
 one-cause : OneLineEnd → (script : ScriptValue) (link : Which) (round : ℕ) (p q : Progress) (a b : LineEnd)
     → EndsTurn script link round p q a → EndsTurn script link round p q b → a ≡ b
-one-cause law script First round p q a b e f = law (first_wire script (turns_in q)) (turns_on_line round p) (ends_in p) a b e f
-one-cause law script Second round p q a b e f = law (second_wire script (turns_in p)) (turns_on_line round q) (ends_in q) a b e f
+one-cause law script link round p q a b e f = grind (arith)
 
 abbrev Same : PairEnd → PairEnd → Left → Left → Left → Left → Type 0
 Same a b left other leaves others = (a ≡ b) × (left ≡ other) × (leaves ≡ others)

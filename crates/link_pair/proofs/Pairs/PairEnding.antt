@@ -26,12 +26,10 @@ use Rattle.link_pair.proofs.Pairs.Becoming.{NextLaws, NextOf, On_line, Made, nex
 use Rattle.link_pair.proofs.Pairing.{either}
 
 or-true : (x y : Bool) → x ≡ true → (x || y) ≡ true
-or-true true y e = refl
-or-true false y e = absurd (false≢true e)
+or-true x y e = grind (arith)
 
 or-right : (x y : Bool) → y ≡ true → (x || y) ≡ true
-or-right true y e = refl
-or-right false y e = e
+or-right x y e = grind (arith)
 
 pub record EndLaws : Type 0 where
   pub links : IsolationLaws
@@ -104,8 +102,7 @@ both-end script files others firsts seconds (Ended ts ends end left) (Ended us m
 
 ended-before : (script : ScriptValue) (dlci : ℕ) (beside : Beside) (files : Both (List ℕ)) (rounds : ℕ) (p : Progress)
     → Lasts (wire_at script dlci beside) (link_of script files) rounds p → is_going p ≡ false → length (turns_in p) < rounds
-ended-before script dlci beside files rounds (Goes ts ends) l g = absurd (false≢true (sym g))
-ended-before script dlci beside files rounds (Ended ts ends end left) l g = l.before
+ended-before script dlci beside files rounds p l g = grind (arith)
 
 -- the second link's turn in a round, and then the next round
 second-turn : EndLaws → (script : ScriptValue) (files others : Both (List ℕ)) → IsGiven script files others → (round : ℕ) (p q : Progress)

@@ -54,8 +54,7 @@ slot-behind dlci role (t ∷ ts) round l =
 
     go : (b : Bool) → b ≡ false → slot_in dlci role ts round ≡ FlagSlot None
         → cond b (signal_or_flags dlci role (of role t).sent) (slot_in dlci role ts round) ≡ FlagSlot None
-    go false e f = f
-    go true e f = absurd cc
+    go b e f = grind (arith)
 
 slot-lasting : (dlci : ℕ) (role : Role) (n : ℕ) (ts : List Turn) (round : ℕ)
     → slot_in dlci role (lasting n ts) round ≡ slot_in dlci role ts round
@@ -67,8 +66,7 @@ slot-lasting dlci role (suc n) ts round =
     is-at m k e = grind (arith, nat_tests, e)
 
     idle : (role : Role) → signal_or_flags dlci role (of role idle_turn).sent ≡ FlagSlot None
-    idle Originator = refl
-    idle Answerer = refl
+    idle role = grind (arith)
 
     go : (b : Bool) → (b ≡ true → round ≡ length (lasting n ts)) → slot_in dlci role (lasting n ts) round ≡ slot_in dlci role ts round
         → cond b (signal_or_flags dlci role (of role idle_turn).sent) (slot_in dlci role (lasting n ts) round) ≡ slot_in dlci role ts round

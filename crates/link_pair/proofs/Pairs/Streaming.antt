@@ -1,8 +1,7 @@
 -- The slots of both links in one stream are those that each link's channel has.
-use Rattle.std.proofs.Common.{◌≡◌, ℕ, zero, suc, ◌+◌, ◌-◌, ◌*◌, ◌<◌, ◌≤◌, Bool, true, false, cond, nat_eq, List, [], ◌∷◌, ◌++◌, length, map}
-use Rattle.std.proofs.Common.{take, drop, arith, length-append, refl, sym, ◌∙◌, ap, subst, Option, Some, None, append-nil, append_assoc}
+use Rattle.std.proofs.Common.{◌≡◌, ℕ, zero, suc, ◌+◌, ◌-◌, ◌*◌, ◌<◌, ◌≤◌, Bool, true, cond, nat_eq, List, [], ◌∷◌, ◌++◌, length, map}
+use Rattle.std.proofs.Common.{take, drop, arith, length-append, refl, sym, ◌∙◌, ap, subst, Option, Some, append-nil, append_assoc}
 use Rattle.std.specs.Prelude.{is_some}
-use Rattle.std.proofs.lemmas.Bool.{false≢true}
 use Rattle.std.proofs.lemmas.Bool.Decides.{nat_tests}
 use Rattle.std.proofs.lemmas.List.{map-append, length-drop}
 use Rattle.shared_terms.specs.declared.role.Role.{Role}
@@ -21,8 +20,7 @@ use Rattle.link_pair.proofs.Pairs.Agreeing.{SameBelow, same-signals, same-before
 
 carried-one : (dlci : ℕ) (role : Role) (o : Option Spoken) → is_some o ≡ true
     → map (carried_signal role) (carry dlci o) ≡ signal_or_flags dlci role o ∷ []
-carried-one dlci role None e = absurd (false≢true e)
-carried-one dlci role (Some slot) e = refl
+carried-one dlci role o e = grind (arith)
 
 pub both-length : (role : Role) (ts us : List Turn) → AreSent role ts → AreSent role us → length ts ≡ length us
     → length (both_sent role ts us) ≡ 2 * length ts
@@ -74,8 +72,7 @@ newest dlci role t ts n e = go (nat_eq n (length ts)) (same n (length ts) e)
 
     go : (b : Bool) → b ≡ true
         → cond b (signal_or_flags dlci role (of role t).sent) (slot_in dlci role ts n) ≡ signal_or_flags dlci role (of role t).sent
-    go true q = refl
-    go false q = absurd (false≢true q)
+    go b q = grind (arith)
 
 -- what the first link's channel has before its next slot
 pub first-signals : (script : ScriptValue) (role : Role) (ts us : List Turn) → AreSent role ts → AreSent role us → length ts ≡ length us

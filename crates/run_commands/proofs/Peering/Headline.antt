@@ -1,50 +1,36 @@
 -- From every answer to what the command promises.
-use Rattle.std.proofs.Common.{◌≡◌, ◌∙◌, ◌⊎◌, inl, inr, ℕ, Bool, true, false, IsTrue, List, [], ◌++◌, length, ◌≤◌, ◌<◌, Result, Ok, Err}
-use Rattle.std.proofs.Common.{refl, sym, ap, subst, arith}
-use Rattle.std.proofs.lemmas.Bool.{false≢true}
+use Rattle.std.proofs.Common.{◌≡◌, ◌∙◌, ◌⊎◌, inl, inr, ℕ, Bool, true, false, IsTrue, List, [], ◌++◌, length, ◌≤◌, ◌<◌, Result}
+use Rattle.std.proofs.Common.{refl, ap, subst, arith}
 use Rattle.std.specs.Option.{option_map}
 use Rattle.outside_calls.specs.Folder.{FolderState, octets_at}
-use Rattle.outside_calls.specs.declared.folder.FolderFault.{FolderFault}
-use Rattle.outside_calls.specs.declared.folder.FolderFault.TheVariants as folder
-use Rattle.shared_terms.specs.declared.role.Role.{Role}
 use Rattle.shared_terms.specs.declared.fault.LinkFault.{LinkFault}
-use Rattle.shared_terms.specs.declared.fault.LinkFault.TheVariants as faults
 use Rattle.shared_terms.specs.declared.limits.TheConstants.{FILE_LIMIT}
 use Rattle.command_base.specs.declared.status.Status.{Status}
-use Rattle.command_base.specs.declared.status.Status.TheVariants.{Done, TooLong, ReadFault, WriteFault, NotDetected, LinkLost, NoMemory}
+use Rattle.command_base.specs.declared.status.Status.TheVariants.{Done, TooLong, NotDetected, LinkLost, NoMemory}
 use Rattle.command_base.specs.declared.status.Status.TheVariants.{PeerFault}
 use Rattle.command_base.specs.declared.stop.Stop.{Stop}
 use Rattle.command_base.specs.declared.stop.Stop.TheVariants as stops
 use Rattle.command_base.specs.Inputs.{IsWithin}
 use Rattle.command_base.specs.Job.{Answers}
 use Rattle.command_base.specs.Status.{IsRefusal}
-use Rattle.command_base.specs.Stops.{end_status, fault_status}
+use Rattle.command_base.specs.Stops.{end_status}
 use Rattle.command_base.specs.Lines.{done_line}
 use Rattle.outside_calls.specs.Outputs.{KeepsAll, OnlyOutputs}
-use Rattle.command_base.proofs.Answering.{IsPlain}
 use Rattle.outside_calls.proofs.Holding.{Holds-kept}
-use Rattle.command_base.proofs.Jobs.{refusal-own, last-only, last-plain, done-of, shared-of}
+use Rattle.command_base.proofs.Jobs.{refusal-own, last-only, done-of, shared-of}
+use Rattle.run_inputs.proofs.Answering.{stopped-so}
 use Rattle.command_base.proofs.Jobs.{done-unless-memory, Comes, is_done, is_own, is_memory, comes-to}
 use Rattle.command_base.specs.Sound.{IsSound}
 use Rattle.run_commands.specs.Peering.Words.{Names, inputs_of, outputs_of}
 use Rattle.run_commands.specs.Peering.Runs.{Left, PeerEnd, IsDone, GivesUp, RunsTo}
-use Rattle.run_commands.specs.Peering.Ends.{Ends, EndsBy, HoldLeft, IsTooLong, RanTo, answer_of, peer_job, status_of}
+use Rattle.run_commands.specs.Peering.Ends.{Ends, EndsBy, HoldLeft, IsTooLong, RanTo, answer_of, peer_job}
 use Rattle.run_commands.specs.Peering.Headline.{Ran, GaveUp, RanBy, Headline}
 use Rattle.run_commands.specs.Peering.Completes.{AreTold, InputsRunTo, Answered, Completes}
 use Rattle.run_commands.specs.Peering.Laws.{OneResult}
 
--- an end that gives its link up is no refusal of the words or the inputs
-no-refusal : (role : Role) (fault : LinkFault) (turn : ℕ) → IsRefusal (status_of role fault turn) → ⊥
-no-refusal role faults.NotDetected turn r = r
-no-refusal role (faults.Spent segment since) turn r = r
-no-refusal role (faults.BadAck nr va high) turn r = r
-no-refusal role (faults.PeerReset va vr) turn r = r
-no-refusal role faults.PeerRefused turn r = r
-
 own-refused : (old before : FolderState) (n : Names) (answer : Status) → IsRefusal answer → EndsBy old before n (stops.Own answer)
     → KeepsAll old before
-own-refused old before n answer r (inl refused) = refused.0
-own-refused old before n answer r (inr e) = absurd (no-refusal n.role e.0 e.1 (subst IsRefusal e.2 r))
+own-refused old before n answer r b = grind (arith)
 
 pub refused-by : (old before : FolderState) (n : Names) (end : Result ℕ Stop) → Ends old before n end → IsRefusal (end_status end)
     → KeepsAll old before
@@ -74,31 +60,16 @@ is_given_up (LinkLost role segment turn) = true
 is_given_up (PeerFault fault turn) = true
 is_given_up answer = false
 
-plain-end : (s : Status) → is_given_up s ≡ true → IsPlain s
-plain-end s e = record { write = λ f. false≢true (ap is_given_up (sym f) ∙ e); memory = λ f. false≢true (ap is_given_up (sym f) ∙ e) }
-
-no-fault : (failed : Status) (fault : FolderFault) → is_given_up failed ≡ false → is_given_up (fault_status failed fault) ≡ true → ⊥
-no-fault failed folder.Failed f e = false≢true (sym f ∙ e)
-no-fault failed folder.NoMemory f e = false≢true e
-
-own-end : (end : Result ℕ Stop) (s : Status) → is_given_up s ≡ true → end_status end ≡ s → end ≡ Err (stops.Own s)
-own-end (Ok turns) s e f = absurd (false≢true (ap is_given_up f ∙ e))
-own-end (Err (stops.Own answer)) s e f = ap (λ x. Err (stops.Own x)) f
-own-end (Err (stops.Read fault)) s e f = absurd (no-fault ReadFault fault refl (ap is_given_up f ∙ e))
-own-end (Err (stops.Write fault)) s e f = absurd (no-fault WriteFault fault refl (ap is_given_up f ∙ e))
-own-end (Err (stops.Say fault)) s e f = absurd (no-fault WriteFault fault refl (ap is_given_up f ∙ e))
-own-end (Err stops.NoMemory) s e f = absurd (false≢true (ap is_given_up f ∙ e))
-
 -- it is none of an input's length
 not-long : (old : FolderState) (n : Names) (t : Status) → is_given_up t ≡ true → IsTooLong old n t → ⊥
-not-long old n t e (inl long) = false≢true (sym (ap is_given_up long.0) ∙ e)
-not-long old n t e (inr long) = false≢true (sym (ap is_given_up long.0) ∙ e)
+not-long old n t e b = grind (arith)
 
 gave-up : (words : List (List ℕ)) (old new : FolderState) (n : Names) (s t : Status) (a : Answers (peer_job n) words old new s)
     → OnlyOutputs a.before new [] → is_given_up t ≡ true → s ≡ t → GaveUp old new n t
 gave-up words old new n s t a last e f =
-    by (subst (Ends old a.before n)
-    (own-end a.end t e (last-plain done_line words a.before new a.end s t a.says f (plain-end t e))) a.ends.0)
+    let is = stopped-so is_given_up (record { done = refl; read = refl; write = refl; memory = refl }) done_line words a.before new a.end
+    s t a.says f e in
+    by (subst (Ends old a.before n) is a.ends.0)
   where
     by : EndsBy old a.before n (stops.Own t) → GaveUp old new n t
     by (inl refused) = absurd (not-long old n t e refused.1)
@@ -124,12 +95,8 @@ headline-of words old new n s a = record {
 
 -- ---- over a sound folder
 
-never-longer : (count : ℕ) → count ≤ 1048576 → FILE_LIMIT < count → ⊥
-never-longer count within longer = omega (arith, within, longer)
-
 never-long : (old : FolderState) (n : Names) (answer : Status) → AreTold old n → IsTooLong old n answer → ⊥
-never-long old n answer t (inl long) = never-longer (length (octets_at old n.bits)) t.bits_within (long.1 t.bits_told)
-never-long old n answer t (inr long) = never-longer (length (octets_at old n.file)) t.file_within (long.2 t.file_told)
+never-long old n answer t b = grind (arith)
 
 inputs-run : (old before : FolderState) (n : Names) (end : PeerEnd) → AreTold old n → (r : RanTo old before n end)
     → InputsRunTo old n end r.left
@@ -146,24 +113,29 @@ answered law old before new n s found end left last t r run e =
     let one = law n.role (octets_at old n.file) (octets_at old n.bits) found end r.left left (inputs-run old before n found t r) run in
     record { answer = e ∙ ap (answer_of n.role) one.0; holds = subst (HoldLeft new n) one.1 (ran-of old before new n found last r).holds }
 
+-- over a sound folder it is what a done end and an answer of the command's own say
+by-ends : {Q : Type 0} (words : List (List ℕ)) (old new : FolderState) (n : Names) (s : Status) (a : Answers (peer_job n) words old new s)
+    → IsSound old new (inputs_of n) (outputs_of n) → ((turns : ℕ) → s ≡ Done → RanTo old a.before n (IsDone turns) → Q)
+    → ((answer : Status) → s ≡ answer → EndsBy old a.before n (stops.Own answer) → Q) → Q ⊎ (s ≡ NoMemory)
+by-ends {Q} words old new n s a sound done own = by (comes-to (peer_job n) words old new s a sound)
+  where
+    by : Comes a.end s → Q ⊎ (s ≡ NoMemory)
+    by (is_done turns is e) = inl (done turns e (subst (λ (x : Result ℕ Stop). Ends old a.before n x) is a.ends.0))
+    by (is_own answer is e) = inl (own answer e (subst (λ (x : Result ℕ Stop). Ends old a.before n x) is a.ends.0))
+    by (is_memory e) = inr e
+
 exact-of : OneResult → (words : List (List ℕ)) (old new : FolderState) (n : Names) (s : Status) → Answers (peer_job n) words old new s
     → IsSound old new (inputs_of n) (outputs_of n) → AreTold old n → (end : PeerEnd) (left : Left) → InputsRunTo old n end left
     → Answered new n end left s ⊎ (s ≡ NoMemory)
-exact-of law words old new n s a sound t end left run = by (comes-to (peer_job n) words old new s a sound)
+exact-of law words old new n s a sound t end left run =
+    by-ends words old new n s a sound (λ turns e r. answered law old a.before new n s (IsDone turns) end left last t r run e) own
   where
     last : OnlyOutputs a.before new []
     last = last-only done_line words a.before new a.end s a.says
 
-    own : (answer : Status) → s ≡ answer → EndsBy old a.before n (stops.Own answer) → Answered new n end left s ⊎ (s ≡ NoMemory)
+    own : (answer : Status) → s ≡ answer → EndsBy old a.before n (stops.Own answer) → Answered new n end left s
     own answer e (inl refused) = absurd (never-long old n answer t refused.1)
-    own answer e (inr r) = inl (answered law old a.before new n s (GivesUp r.0 r.1) end left last t r.3 run (e ∙ r.2))
-
-    by : Comes a.end s → Answered new n end left s ⊎ (s ≡ NoMemory)
-    by (is_done turns is e) =
-        inl (answered law old a.before new n s (IsDone turns) end left last t
-        (subst (λ (x : Result ℕ Stop). Ends old a.before n x) is a.ends.0) run e)
-    by (is_own answer is e) = own answer e (subst (λ (x : Result ℕ Stop). Ends old a.before n x) is a.ends.0)
-    by (is_memory e) = inr e
+    own answer e (inr r) = answered law old a.before new n s (GivesUp r.0 r.1) end left last t r.3 run (e ∙ r.2)
 
 never-own : (old before : FolderState) (n : Names) (answer : Status) → AreTold old n
     → ((fault : LinkFault) (turn : ℕ) (left : Left) → InputsRunTo old n (GivesUp fault turn) left → ⊥)
@@ -179,36 +151,20 @@ never-short old name told longer within = omega (arith, longer, within told)
 bits-long : (words : List (List ℕ)) (old new : FolderState) (n : Names) (s : Status) → Answers (peer_job n) words old new s
     → IsSound old new (inputs_of n) (outputs_of n) → IsTrue (old.tells n.bits) → 1048576 < length (octets_at old n.bits)
     → (s ≡ TooLong 3) ⊎ (s ≡ NoMemory)
-bits-long words old new n s a sound told longer = by (comes-to (peer_job n) words old new s a sound)
+bits-long words old new n s a sound told longer =
+    by-ends words old new n s a sound (λ turns e r. absurd (never-short old n.bits told longer r.takes.bits_within)) own
   where
-    own : (answer : Status) → s ≡ answer → EndsBy old a.before n (stops.Own answer) → (s ≡ TooLong 3) ⊎ (s ≡ NoMemory)
-    own answer e (inl (keeps, inl long)) = inl (e ∙ long.0)
-    own answer e (inl (keeps, inr long)) = absurd (never-short old n.bits told longer long.1)
-    own answer e (inr r) = absurd (never-short old n.bits told longer r.3.takes.bits_within)
-
-    by : Comes a.end s → (s ≡ TooLong 3) ⊎ (s ≡ NoMemory)
-    by (is_done turns is e) =
-        let r : RanTo old a.before n (IsDone turns) = subst (λ (x : Result ℕ Stop). Ends old a.before n x) is a.ends.0 in
-        absurd (never-short old n.bits told longer r.takes.bits_within)
-    by (is_own answer is e) = own answer e (subst (λ (x : Result ℕ Stop). Ends old a.before n x) is a.ends.0)
-    by (is_memory e) = inr e
+    own : (answer : Status) → s ≡ answer → EndsBy old a.before n (stops.Own answer) → s ≡ TooLong 3
+    own answer e b = grind (arith)
 
 file-long : (words : List (List ℕ)) (old new : FolderState) (n : Names) (s : Status) → Answers (peer_job n) words old new s
     → IsSound old new (inputs_of n) (outputs_of n) → IsTrue (old.tells n.bits) → length (octets_at old n.bits) ≤ 1048576
     → IsTrue (old.tells n.file) → 1048576 < length (octets_at old n.file) → (s ≡ TooLong 2) ⊎ (s ≡ NoMemory)
-file-long words old new n s a sound bits-told within told longer = by (comes-to (peer_job n) words old new s a sound)
+file-long words old new n s a sound bits-told within told longer =
+    by-ends words old new n s a sound (λ turns e r. absurd (never-short old n.file told longer r.takes.file_within)) own
   where
-    own : (answer : Status) → s ≡ answer → EndsBy old a.before n (stops.Own answer) → (s ≡ TooLong 2) ⊎ (s ≡ NoMemory)
-    own answer e (inl (keeps, inl long)) = absurd (never-longer (length (octets_at old n.bits)) within (long.1 bits-told))
-    own answer e (inl (keeps, inr long)) = inl (e ∙ long.0)
-    own answer e (inr r) = absurd (never-short old n.file told longer r.3.takes.file_within)
-
-    by : Comes a.end s → (s ≡ TooLong 2) ⊎ (s ≡ NoMemory)
-    by (is_done turns is e) =
-        let r : RanTo old a.before n (IsDone turns) = subst (λ (x : Result ℕ Stop). Ends old a.before n x) is a.ends.0 in
-        absurd (never-short old n.file told longer r.takes.file_within)
-    by (is_own answer is e) = own answer e (subst (λ (x : Result ℕ Stop). Ends old a.before n x) is a.ends.0)
-    by (is_memory e) = inr e
+    own : (answer : Status) → s ≡ answer → EndsBy old a.before n (stops.Own answer) → s ≡ TooLong 2
+    own answer e b = grind (arith)
 
 pub completes-of : OneResult → (words : List (List ℕ)) (old new : FolderState) (n : Names) (s : Status)
     → Answers (peer_job n) words old new s

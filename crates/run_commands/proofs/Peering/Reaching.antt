@@ -11,7 +11,6 @@ use Rattle.outside_calls.specs.declared.folder.FolderFault.{FolderFault}
 use Rattle.outside_calls.specs.declared.folder.FolderFault.TheVariants as folder
 use Rattle.shared_terms.specs.declared.role.Role.{Role}
 use Rattle.shared_terms.specs.declared.fault.LinkFault.{LinkFault}
-use Rattle.shared_terms.specs.declared.fault.LinkFault.TheVariants as links
 use Rattle.link_run.specs.End.{deliveries}
 use Rattle.link_run.specs.Alone.{LoneTurn, LoneHearingsDeliver, LoneSpeakingTakesNothing}
 use Rattle.line_world.specs.declared.one_end.single.Single.{Single}
@@ -420,21 +419,14 @@ touches old mid next n reads puts = OnlyPuts-trans old mid next (outputs_of n) (
 -- a fault of one input is one of the inputs'
 pub bits-fail : (old new : FolderState) (n : Names) (fault : FolderFault) → ReadFails old new (n.bits ∷ []) fault
     → ReadFails old new (inputs_of n) fault
-bits-fail old new n folder.Failed rose = inr rose
-bits-fail old new n folder.NoMemory refused = refused
+bits-fail old new n fault rose = grind (arith)
 
 pub file-fails : (old new : FolderState) (n : Names) (fault : FolderFault) → ReadFails old new (n.file ∷ []) fault
     → ReadFails old new (inputs_of n) fault
-file-fails old new n folder.Failed (inl rose) = inl rose
-file-fails old new n folder.Failed (inr never) = absurd never
-file-fails old new n folder.NoMemory refused = refused
+file-fails old new n fault refused = grind (arith)
 
 own-fault : (role : Role) (fault : LinkFault) (turn : ℕ) → IsOwn (status_of role fault turn)
-own-fault role links.NotDetected turn = tt
-own-fault role (links.Spent segment since) turn = tt
-own-fault role (links.BadAck nr va high) turn = tt
-own-fault role (links.PeerReset va vr) turn = tt
-own-fault role links.PeerRefused turn = tt
+own-fault role fault turn = grind (arith)
 
 -- a fault of a turn, behind what counted none
 pub fault-counts : (old mid next : FolderState) (n : Names) (turn : ℕ) (fault : SingleFault) → CountsStand old mid

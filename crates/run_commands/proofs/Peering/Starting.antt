@@ -17,7 +17,7 @@ use Rattle.shared_terms.specs.declared.limits.TheConstants.{FILE_LIMIT}
 use Rattle.command_base.specs.declared.stop.Stop.{Stop}
 use Rattle.command_base.specs.declared.stop.Stop.TheVariants.{Own, Read}
 use Rattle.command_base.specs.Inputs.{IsWithin, IsNotWithin}
-use Rattle.command_base.specs.Stops.{IsOwn, ReadFails, StopCounts}
+use Rattle.command_base.specs.Stops.{ReadFails, StopCounts}
 use Rattle.outside_calls.specs.Outputs.{KeepsAll, CreatesPart, Creates, IsNoneOf, AreNoneOf, OnlyOutputs}
 use Rattle.outside_calls.proofs.Putting.{KeepsEach-reads}
 use Rattle.command_base.proofs.Creating.{CreatesPart-earlier}
@@ -97,9 +97,7 @@ reached-first begin mid now n s b only stand c d role first = record {
 
 pub bits-refused : (old new : FolderState) (n : Names) (stop : Stop) → OnlyReads old new → IsNotWithin old new n.bits FILE_LIMIT 3 stop
     → EndsBy old new n stop
-bits-refused old new n (Own answer) reads why = inl (reads.names, inl (why.0, why.1))
-bits-refused old new n (Read fault) reads why = inl (reads.names, inl why)
-bits-refused old new n other reads never = absurd never
+bits-refused old new n other reads why = grind (arith)
 
 keeps-both : (old mid new : FolderState) → OnlyReads old mid → OnlyReads mid new → KeepsAll old new
 keeps-both old mid new first reads name = KeepsName-trans old mid new name first.goes_on (first.names name) (reads.names name)
@@ -116,6 +114,4 @@ file-refused old mid new n other first stand reads within never = absurd never
 pub refused-counts : (old new : FolderState) (n : Names) (name : List ℕ) (word : ℕ) (stop : Stop)
     → ((fault : FolderFault) → ReadFails old new (name ∷ []) fault → ReadFails old new (inputs_of n) fault)
     → IsNotWithin old new name FILE_LIMIT word stop → StopCounts old new (inputs_of n) (outputs_of n) stop
-refused-counts old new n name word (Own answer) among why = (subst IsOwn (sym why.0) tt, why.2)
-refused-counts old new n name word (Read fault) among why = among fault why
-refused-counts old new n name word other among never = absurd never
+refused-counts old new n name word other among why = grind (arith)

@@ -2,7 +2,6 @@
 use Rattle.std.proofs.Common.{◌≡◌, ◌⊎◌, inl, inr, ℕ, ◌≤◌, ◌<◌, List, [], ◌∷◌, length, sym, ◌∙◌, ap, subst, arith, Result}
 use Rattle.frame_check.specs.Octets.{AreOctets}
 use Rattle.shared_terms.specs.declared.role.Role.{Role}
-use Rattle.shared_terms.specs.declared.role.Role.TheVariants.{Originator, Answerer}
 use Rattle.shared_terms.specs.Both.{Both, of}
 use Rattle.outside_calls.specs.Folder.{FolderState, octets_at}
 use Rattle.noise_script.specs.Script.{ScriptValue}
@@ -86,8 +85,7 @@ AreOfOctetsAt old n = (role : Role) → AreOctets (of role (files_at old n))
 
 octets-told : (old before : FolderState) (n : RunNames) (script : ScriptValue) (end : RunEnd) → AreRight old n script
     → RanTo LIMITS old before n end → AreOfOctetsAt old n
-octets-told old before n script end r e Originator = e.takes.opens.octets.0 r.orig_told
-octets-told old before n script end r e Answerer = e.takes.opens.octets.1.0 r.answ_told
+octets-told old before n script end r e b = grind (arith)
 
 -- so no end gave up
 never-up : ScriptsAreOne → LostLinksWereStarved → (old before : FolderState) (n : RunNames) (script : ScriptValue) (end : RunEnd)
@@ -131,36 +129,34 @@ few-carried laws text script files spelled f = record {
       done-kept end (laws.few_losses script files end left (laws.limits text script spelled) r (f.few end left r) (f.stays end left r)) g;
 }
 
+-- is carried that is done however it ends
+done-carried : (script : ScriptValue) (files : Both (List ℕ))
+    → ((end : RunEnd) (left : Left) → ScriptRunsTo script files end left → EndsDone end) → IsCarried script files
+done-carried script files done = record {
+  stays = λ end left r x. done-stays end (done end left r) x;
+  not_starved = λ end left r g starved. done-kept end (done end left r) g;
+}
+
 named-carried : DoneLaws → (text : List ℕ) (script : ScriptValue) (files : Both (List ℕ)) → ScriptSpelling text script
     → NamesFew script → ((role : Role) → AreOctets (of role files)) → IsCarried script files
 named-carried laws text script files spelled f are =
     let limits = laws.limits text script spelled in
     let octets : AreOfOctets script files = record { files_are = are; breaks_are = laws.breaks text script spelled } in
-    record {
-      stays = λ end left r x. done-stays end (laws.few_named script files end left limits f.faint octets f.few r) x;
-      not_starved = λ end left r g starved. done-kept end (laws.few_named script files end left limits f.faint octets f.few r) g;
-    }
+    done-carried script files (λ end left r. laws.few_named script files end left limits f.faint octets f.few r)
 
 quiet-carried : DoneLaws → (text : List ℕ) (script : ScriptValue) (files : Both (List ℕ)) → ScriptSpelling text script
     → IsQuiet script → ((role : Role) → AreOctets (of role files)) → IsCarried script files
 quiet-carried laws text script files spelled q are =
     let limits = laws.limits text script spelled in
     let octets : AreOfOctets script files = record { files_are = are; breaks_are = laws.breaks text script spelled } in
-    record {
-      stays = λ end left r x. done-stays end (laws.quiet script files end left limits q octets r) x;
-      not_starved = λ end left r g starved. done-kept end (laws.quiet script files end left limits q octets r) g;
-    }
+    done-carried script files (λ end left r. laws.quiet script files end left limits q octets r)
 
 undisturbed-carried : DoneLaws → (text : List ℕ) (script : ScriptValue) (files : Both (List ℕ)) → ScriptSpelling text script
     → IsUndisturbed script → ((role : Role) → AreOctets (of role files)) → IsCarried script files
 undisturbed-carried laws text script files spelled u are =
     let limits = laws.limits text script spelled in
     let octets : AreOfOctets script files = record { files_are = are; breaks_are = laws.breaks text script spelled } in
-    record {
-      stays = λ end left r x. done-stays end (laws.undisturbed script files end left limits u.no_losses u.no_hits u.no_noises octets r) x;
-      not_starved = λ end left r g starved.
-          done-kept end (laws.undisturbed script files end left limits u.no_losses u.no_hits u.no_noises octets r) g;
-    }
+    done-carried script files (λ end left r. laws.undisturbed script files end left limits u.no_losses u.no_hits u.no_noises octets r)
 
 carried-done : DoneLaws → (words : List (List ℕ)) (old new : FolderState) (n : RunNames) (s : Status) → Answers (run_job n) words old new s
     → DoneWhere old new n s (λ script files. ((role : Role) → AreOctets (of role files)) → IsCarried script files)
@@ -198,11 +194,6 @@ answered laws old before new n s script found end left last r e run is =
     kept [] = tt
     kept (name ∷ names) = (last.names name tt, kept names)
 
--- the end of the run that an answer names
-own-ran : (old before : FolderState) (n : RunNames) (answer : Status) → RanBy LIMITS old before n answer
-    → (found : RunEnd) × (answer ≡ answer_of found) × RanTo LIMITS old before n found
-own-ran old before n answer e = stopped-by (RanTo LIMITS old before n) answer e
-
 exact-of : DoneLaws → (words : List (List ℕ)) (old new : FolderState) (n : RunNames) (s : Status) → Answers (run_job n) words old new s
     → AnsweredByItsEnd old new n s
 exact-of laws words old new n s a sound script r end left run = by (comes-to (run_job n) words old new s a sound)
@@ -213,7 +204,7 @@ exact-of laws words old new n s a sound script r end left run = by (comes-to (ru
     own : (answer : Status) → s ≡ answer → EndsBy LIMITS old a.before n (Own answer) → Answered new n end left s ⊎ (s ≡ NoMemory)
     own answer e (inl refused) = absurd (never-refused laws.apart old n script answer r refused.1)
     own answer e (inr ran) =
-        let by-end = own-ran old a.before n answer ran in
+        let by-end = stopped-by (RanTo LIMITS old a.before n) answer ran in
         inl (answered laws old a.before new n s script by-end.0 end left last r by-end.2 run (e ∙ by-end.1))
 
     by : Comes a.end s → Answered new n end left s ⊎ (s ≡ NoMemory)

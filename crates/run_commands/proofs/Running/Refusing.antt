@@ -1,8 +1,7 @@
 -- What is refused is refused before the outputs are created.
-use Rattle.std.proofs.Common.{inl, inr, ℕ, Result, subst}
+use Rattle.std.proofs.Common.{arith, ℕ, Result, subst}
 use Rattle.outside_calls.specs.Folder.{FolderState}
 use Rattle.command_base.specs.declared.status.Status.{Status}
-use Rattle.command_base.specs.declared.status.Status.TheVariants.{Usage, BadScript, BadHex, BadXid, TooLong}
 use Rattle.command_base.specs.declared.stop.Stop.{Stop}
 use Rattle.command_base.specs.declared.stop.Stop.TheVariants as stops
 use Rattle.command_base.specs.Status.{IsRefusal}
@@ -11,21 +10,11 @@ use Rattle.outside_calls.specs.Outputs.{KeepsAll}
 use Rattle.command_base.proofs.Jobs.{refusal-own}
 use Rattle.run_inputs.specs.declared.limits.TheConstants.{LIMITS}
 use Rattle.run_inputs.specs.Words.{RunNames}
-use Rattle.run_commands.specs.Running.Ends.{RanBy, EndsBy, Ends}
-
--- a run that was made is no refusal
-no-refusal : (old new : FolderState) (n : RunNames) (answer : Status) → RanBy LIMITS old new n answer → IsRefusal answer → ⊥
-no-refusal old new n Usage e r = e
-no-refusal old new n (BadScript line cause) e r = e
-no-refusal old new n (BadHex at) e r = e
-no-refusal old new n (BadXid fault) e r = e
-no-refusal old new n (TooLong word) e r = e
-no-refusal old new n answer e r = r
+use Rattle.run_commands.specs.Running.Ends.{EndsBy, Ends}
 
 own-refused : (old before : FolderState) (n : RunNames) (answer : Status) → IsRefusal answer → EndsBy LIMITS old before n (stops.Own answer)
     → KeepsAll old before
-own-refused old before n answer r (inl refused) = refused.0
-own-refused old before n answer r (inr e) = absurd (no-refusal old before n answer e r)
+own-refused old before n answer r b = grind (arith)
 
 pub refused-by : (old before : FolderState) (n : RunNames) (end : Result ℕ Stop) → Ends LIMITS old before n end → IsRefusal (end_status end)
     → KeepsAll old before

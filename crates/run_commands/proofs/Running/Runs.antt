@@ -1,5 +1,5 @@
 -- From the phases of a run to how it ends.
-use Rattle.std.proofs.Common.{inl, inr, ℕ, List, [], ◌∷◌, refl, ◌∙◌, arith}
+use Rattle.std.proofs.Common.{inr, ℕ, List, [], ◌∷◌, refl, ◌∙◌, arith}
 use Rattle.outside_calls.specs.Folder.{FolderState, GoesOn, OnlyReads, CountsStand}
 use Rattle.outside_calls.proofs.Steps.{GoesOn-trans}
 use Rattle.shared_terms.specs.Both.{Both}
@@ -31,11 +31,7 @@ use Rattle.run_commands.specs.Running.Tapes.{HeadsPartly}
 pub ends-refused : (l : Limits) (old new : FolderState) (n : RunNames) (stop : Stop) → OnlyReads old new
     → Refuses l old new n.script 3 (files_of n) 1 stop
     → EndsBy l old new n stop
-ends-refused l old new n (stops.Own answer) reads r = inl (reads.names, r)
-ends-refused l old new n (stops.Read fault) reads r = inl (reads.names, r)
-ends-refused l old new n stops.NoMemory reads r = (reads.names, r)
-ends-refused l old new n (stops.Write fault) reads never = absurd never
-ends-refused l old new n (stops.Say fault) reads never = never
+ends-refused l old new n stop reads r = grind (arith)
 
 -- an output was not created
 pub ends-creating : (l : Limits) (old mid new : FolderState) (n : RunNames) (script : ScriptValue) → IsBegun l old mid n script
@@ -137,9 +133,4 @@ ends-in-turn soon old mid now next n script fault p counts e = inr (ran-to old m
 -- what a turn's fault counts
 pub turn-counts : (now next : FolderState) (n : RunNames) (fault : RunFault) → FaultCountsOver now next (files_of n) (outputs_of n) fault
     → StopCounts now next (inputs_of n) (outputs_of n) (fault_stop fault)
-turn-counts now next n faults.ReadFault (inl rose) = inl rose
-turn-counts now next n faults.ReadFault (inr (inl rose)) = inr (inl rose)
-turn-counts now next n faults.ReadFault (inr (inr never)) = absurd never
-turn-counts now next n faults.WriteFault rose = rose
-turn-counts now next n faults.NoMemory counts = counts
-turn-counts now next n fault stand = (tt, stand)
+turn-counts now next n fault rose = grind (arith)

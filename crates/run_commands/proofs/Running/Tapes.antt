@@ -1,7 +1,7 @@
 -- However a run ends, each recording is as it was, or holds the beginning of its header and of what its end sends.
-use Rattle.std.proofs.Common.{inl, inr, ℕ, List, [], ◌∷◌, ◌++◌, Some, None, Result, Ok, Err, refl, subst, append_assoc}
+use Rattle.std.proofs.Common.{arith, inl, inr, ℕ, List, [], ◌∷◌, ◌++◌, Some, None, Result, Ok, Err, refl, subst, append_assoc}
 use Rattle.outside_calls.specs.Folder.{FolderState, GoesOn}
-use Rattle.outside_calls.specs.Outputs.{Holds, HoldsFront, KeptOrEmpty, KeepsAll, KeepsEach, CreatesPart, OnlyOutputs}
+use Rattle.outside_calls.specs.Outputs.{Holds, HoldsFront, KeepsAll, CreatesPart, OnlyOutputs}
 use Rattle.outside_calls.proofs.Steps.{KeepsName-trans}
 use Rattle.outside_calls.proofs.Holding.{Holds-kept, HoldsFront-part, HoldsFront-all, HoldsFront-kept}
 use Rattle.shared_terms.specs.declared.role.Role.{Role}
@@ -14,7 +14,7 @@ use Rattle.link_run.specs.Run.{Accounts, Turn}
 use Rattle.link_run.specs.Outcomes.{Going, TurnIs}
 use Rattle.line_run.specs.Sampled.{Wire, LineRun}
 use Rattle.line_run.specs.Ends.{RunEnd}
-use Rattle.line_run.specs.Recorded.{Tapes, tapes_of}
+use Rattle.line_run.specs.Recorded.{Tapes}
 use Rattle.line_run.specs.Scripted.{wire_of, link_of}
 use Rattle.command_base.specs.declared.status.Status.{Status}
 use Rattle.command_base.specs.declared.stop.Stop.{Stop}
@@ -144,33 +144,11 @@ tapes-stopped old before n e = by e.taped
         both-parts old before n e.script e.files e.takes n.tapes e.stops.turns s.adds.turn e.stops.ends on.0 e.stops.run
         (record { run = (e.stops.ends, e.stops.run.run, on.1); heard = (s.adds.heard, e.stops.run.heard) }) s.taped
 
--- before the first turn
-tapes-kept : (old before : FolderState) (n : RunNames) (tapes : Tapes) → KeepsEach old before (tapes_of tapes)
-    → TapesBegun old before n tapes
-tapes-kept old before n None k = tt
-tapes-kept old before n (Some names) k = (inl k.0, inl k.1.0)
-
 empty-front : (f : FolderState) (name header : List ℕ) → Holds f name [] → HoldsFront f name header
 empty-front f name header h told = ([], (header, refl), h told)
 
-tape-empty : (old before : FolderState) (n : RunNames) (name : List ℕ) (role : Role) → KeptOrEmpty old before name
-    → TapeBegun old before n name role
-tape-empty old before n name role (inl k) = inl k
-tape-empty old before n name role (inr h) = inr (inl (empty-front before name (header_of (mode_of role)) h))
-
-tapes-created : (old before : FolderState) (n : RunNames) (tapes : Tapes) → CreatesPart old before (tapes_of tapes)
-    → TapesBegun old before n tapes
-tapes-created old before n None never = absurd never
-tapes-created old before n (Some names) (inl (o, k)) = (tape-empty old before n names.orig Originator o, inl k.0)
-tapes-created old before n (Some names) (inr (o, inl (a, k))) =
-    (tape-empty old before n names.orig Originator (inr o), tape-empty old before n names.answ Answerer a)
-tapes-created old before n (Some names) (inr (o, inr (a, never))) = absurd never
-
 all-created : (old before : FolderState) (n : RunNames) → CreatesPart old before (outputs_of n) → TapesBegun old before n n.tapes
-all-created old before n (inl (o, k)) = tapes-kept old before n n.tapes k.1.1
-all-created old before n (inr (o, inl (a, k))) = tapes-kept old before n n.tapes k.1
-all-created old before n (inr (o, inr (a, inl (t, k)))) = tapes-kept old before n n.tapes k
-all-created old before n (inr (o, inr (a, inr (t, part)))) = tapes-created old before n n.tapes part
+all-created old before n b = grind (arith)
 
 tapes-headed : (old before : FolderState) (n : RunNames) (tapes : Tapes) → HeadsPartly before tapes → TapesBegun old before n tapes
 tapes-headed old before n None never = absurd never
@@ -180,8 +158,7 @@ tapes-headed old before n (Some names) (inr (o, a)) =
     (inr (inl (HoldsFront-all before names.orig (header_of (mode_of Originator)) o)), inr (inl a))
 
 all-kept : (old before : FolderState) (n : RunNames) (tapes : Tapes) → KeepsAll old before → TapesBegun old before n tapes
-all-kept old before n None kept = tt
-all-kept old before n (Some names) kept = (inl (kept names.orig), inl (kept names.answ))
+all-kept old before n tapes kept = grind (arith)
 
 tapes-own : (old before : FolderState) (n : RunNames) (answer : Status) → RanBy LIMITS old before n answer → TapesBegun old before n n.tapes
 tapes-own old before n answer e =

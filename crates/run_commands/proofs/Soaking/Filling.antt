@@ -1,5 +1,5 @@
 -- What the folder of a soak holds, and that it never fails.
-use Rattle.std.proofs.Common.{◌≡◌, ◌≢◌, ◌∙◌, inl, inr, ℕ, nat_eq, false, List, [], ◌∷◌, length, get_or, Option, Some, unwrap_or, refl, sym}
+use Rattle.std.proofs.Common.{◌≡◌, ◌≢◌, ◌∙◌, ℕ, nat_eq, false, List, [], length, get_or, Option, Some, unwrap_or, refl, sym}
 use Rattle.std.proofs.Common.{ap, arith}
 use Rattle.std.proofs.lemmas.Bool.Decides.{nat_tests}
 use Rattle.std.specs.FinMap as finite
@@ -7,7 +7,7 @@ use Rattle.std.specs.Cmp.Lexicographic.{nat_list_cmp_total}
 use Rattle.outside_calls.specs.Folder.{Files}
 use Rattle.program_folders.specs.Sure.{SureState, sure_folder}
 use Rattle.shared_terms.specs.declared.role.Role.TheVariants.{Originator, Answerer}
-use Rattle.outside_calls.specs.Outputs.{AreApartFrom, SomeRose}
+use Rattle.outside_calls.specs.Outputs.{AreApartFrom}
 use Rattle.line_run.specs.Names.{inputs_of, outputs_of}
 use Rattle.line_run.specs.declared.fault.RunFault.{RunFault}
 use Rattle.line_run.specs.declared.fault.RunFault.TheVariants as faults
@@ -56,12 +56,6 @@ both-put s seed held orig answ e o n a m =
       answ_size = ap (λ (l : List ℕ). length l) (sym a) ∙ m;
     }
 
--- no fault is counted
-pub none-rose : (names : List (List ℕ)) → SomeRose (λ _. 0) (λ _. 0) names → ⊥
-none-rose [] rose = rose
-none-rose (name ∷ names) (inl rose) = omega (arith, rose)
-none-rose (name ∷ names) (inr rose) = none-rose names rose
-
 -- a fault by which turns end over a folder that never fails
 abbrev pub IsTurnEnd : RunFault → Type 0
 IsTurnEnd faults.ReadFault = ⊥
@@ -70,6 +64,4 @@ IsTurnEnd fault = Unit {0}
 
 -- so turns don't end by one
 pub turn-end : (a b : SureState) (fault : RunFault) → FaultCounts (sure_folder a) (sure_folder b) soak_names fault → IsTurnEnd fault
-turn-end a b faults.ReadFault rose = absurd (none-rose (inputs_of soak_names) rose)
-turn-end a b faults.WriteFault rose = absurd (none-rose (outputs_of soak_names) rose)
-turn-end a b fault counts = tt
+turn-end a b fault rose = grind (arith)

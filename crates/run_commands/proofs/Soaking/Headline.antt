@@ -1,10 +1,9 @@
 -- From every answer to the headline, and to when a soak is done.
-use Rattle.std.proofs.Common.{◌≡◌, ◌∙◌, ◌⊎◌, inl, inr, ℕ, true, List, [], ◌++◌, Result, Ok, Err, refl, ap, subst}
+use Rattle.std.proofs.Common.{arith, ◌≡◌, ◌∙◌, ◌⊎◌, inl, inr, ℕ, true, List, [], ◌++◌, Result, Ok, Err, refl, ap, subst}
 use Rattle.std.specs.Option.{option_map}
 use Rattle.outside_calls.specs.Folder.{FolderState}
-use Rattle.outside_calls.proofs.Steps.{CountsStand-refl, FaultsStand-refl}
+use Rattle.outside_calls.proofs.Steps.{CountsStand-refl}
 use Rattle.shared_terms.specs.declared.role.Role.{Role}
-use Rattle.shared_terms.specs.declared.role.Role.TheVariants.{Originator, Answerer}
 use Rattle.shared_terms.specs.Role.{other}
 use Rattle.shared_terms.specs.Both.{of}
 use Rattle.line_run.specs.Ends.{RunEnd, Left, MayRun, RunsLeavePrefixes, DoneLeavesWhole, OneResult, GivesUp}
@@ -15,8 +14,7 @@ use Rattle.line_ends.specs.Causes.{LostLinksWereStarved, EndsHaveCauses}
 use Rattle.command_base.specs.declared.status.Status.{Status}
 use Rattle.command_base.specs.declared.status.Status.TheVariants.{Done, LineLost, NotDetected, LinkLost, ChanceMatch, NoMemory}
 use Rattle.command_base.specs.declared.stop.Stop.{Stop}
-use Rattle.command_base.specs.declared.stop.Stop.TheVariants as stops
-use Rattle.command_base.specs.Stops.{IsOwn, StopCounts}
+use Rattle.command_base.specs.Stops.{StopCounts}
 use Rattle.command_base.specs.Job.{Answers, SaysStop}
 use Rattle.command_base.specs.Lines.{soak_line}
 use Rattle.command_base.specs.Tells.{Tells}
@@ -28,7 +26,7 @@ use Rattle.outside_calls.proofs.OnlyOutputs.{OnlyOutputs-refl}
 use Rattle.line_ends.specs.Carried.{IsCarried}
 use Rattle.run_commands.specs.Soaking.Soak.{soak_file, soak_script}
 use Rattle.run_commands.specs.declared.soak.counts.SoakCounts.{SoakCounts}
-use Rattle.run_inputs.proofs.Answering.{is_run_end, run-ends-own, stopped-so, stopped-by, stopped-own, stopped-how}
+use Rattle.run_inputs.proofs.Answering.{is_run_end, run-ends-own, stopped-so, stopped-by, stopped-how}
 use Rattle.run_commands.specs.Soaking.Ends.{Ends, SoakEnds, IsSoaked, soak_wire, soak_link, soak_files, soak_job}
 use Rattle.run_commands.specs.Soaking.Ends as ends
 use Rattle.run_commands.specs.Soaking.Headline.{Soaks, RanBy, Headline}
@@ -36,14 +34,8 @@ use Rattle.run_commands.specs.Soaking.Completes.{Completes}
 
 -- ---- how the command answers
 
--- what a soak ends by is the command's own answer, and no refusal
-own-answer : (seed : ℕ) (answer : Status) → ends.RanBy seed answer → IsOwn answer
-own-answer seed answer e = stopped-own (SoakEnds seed) answer e
-
 stop-counts : (seed : ℕ) (f : FolderState) (stop : Stop) → Ends seed (Err stop) → StopCounts f f [] [] stop
-stop-counts seed f (stops.Own answer) e = (own-answer seed answer e, CountsStand-refl f)
-stop-counts seed f stops.NoMemory e = FaultsStand-refl f
-stop-counts seed f other e = absurd e
+stop-counts seed f other e = grind (arith)
 
 pub soaked : (words : List (List ℕ)) (old new : FolderState) (seed : ℕ) (counts : SoakCounts) (s : Status) → IsSoaked seed counts
     → Tells old new (soak_line seed counts.turn counts.lost counts.again) Done s → Answers (soak_job seed) words old new s
@@ -88,8 +80,7 @@ may-run laws seed end e = record {
 
 -- the file that a role's user sends
 file-of : (seed : ℕ) (role : Role) → (of role (soak_link seed)).user.file ≡ soak_file seed role
-file-of seed Originator = refl
-file-of seed Answerer = refl
+file-of seed role = grind (arith)
 
 soaks-of : SoakLaws → (seed : ℕ) (end : RunEnd) → SoakEnds seed end → Soaks seed end
 soaks-of laws seed end e = record {

@@ -28,8 +28,7 @@ first-lines a b c = ap (λ t. t ++ (c ++ 10 ∷ [])) (sym (text-more (a ∷ []) 
 
 -- A text isn't long.
 head-short : (role : Role) → (length (lose_head role) ≤ 10) × (length (noise_head role) ≤ 28)
-head-short Originator = (omega arith, omega arith)
-head-short Answerer = (omega arith, omega arith)
+head-short role = grind (arith)
 
 number-short : (n : ℕ) → n < 2 ^ 64 → length (decimal n) ≤ 20
 number-short n h = length-decimal-le 20 n (omega arith) (omega (arith, h)) h

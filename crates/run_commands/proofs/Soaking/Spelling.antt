@@ -95,8 +95,7 @@ all-noise test f role seed h a = all-joined test (noise_head role) (decimal seed
 heads-plain : (role : Role)
     → (list_all (is_other 10) (lose_head role) ≡ true) × (list_all (is_other 13) (lose_head role) ≡ true)
     × (list_all (is_other 10) (noise_head role) ≡ true) × (list_all (is_other 13) (noise_head role) ≡ true)
-heads-plain Originator = (refl, refl, refl, refl)
-heads-plain Answerer = (refl, refl, refl, refl)
+heads-plain role = grind (arith)
 
 loss-says : (seed n : ℕ) → SaysLoss (lose_line (role_in_turn n) (turn_lost seed n)) (soak_loss seed n)
 loss-says seed n =

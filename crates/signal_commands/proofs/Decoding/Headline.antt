@@ -10,7 +10,6 @@ use Rattle.shared_terms.specs.declared.role.Role.{Role}
 use Rattle.shared_terms.specs.Prefix.{IsPrefixOf}
 use Rattle.outside_calls.specs.Folder.{FolderState, octets_at, GoesOn, KeepsName}
 use Rattle.outside_calls.proofs.Steps.{KeepsName-trans, told_later}
-use Rattle.outside_calls.specs.declared.folder.FolderFault.TheVariants as folder
 use Rattle.exact_decoder.specs.Surviving.Survivors.{IsReleased, IsLeast, LostIs}
 use Rattle.exact_decoder.proofs.Surviving.Least.{released-is_least}
 use Rattle.exact_decoder.specs.Surviving.V32.{line_depth}
@@ -187,22 +186,9 @@ whole-of old before new n on last d =
     )
 
 -- where the answer is that a line was lost, it was one of the trellis code
-own-lost : (old before : FolderState) (n : DecodeNames) (answer : Status) (role : Role) (symbol : ℕ) → answer ≡ LineLost role symbol
-    → OwnIs old before n answer → n.rate ≡ rates.Trellis
-own-lost old before n answer role symbol lost (is_long e keeps longer) = (let never : ⊥ = cc (sym e ∙ lost) in absurd never)
-own-lost old before n answer role symbol lost (is_bad at e bad) = (let never : ⊥ = cc (sym e ∙ lost) in absurd never)
-own-lost old before n answer role symbol lost (is_lost r s e rate w) = rate
-
 lost-rate : (old before : FolderState) (n : DecodeNames) (end : Result ℕ Stop) (role : Role) (symbol : ℕ) → Ends old before n end
     → end_status end ≡ LineLost role symbol → n.rate ≡ rates.Trellis
-lost-rate old before n (Err (Own answer)) role symbol ends e = own-lost old before n answer role symbol e (own-is old before n answer ends)
-lost-rate old before n (Ok count) role symbol ends e = absurd cc
-lost-rate old before n (Err (Read folder.Failed)) role symbol ends e = absurd cc
-lost-rate old before n (Err (Read folder.NoMemory)) role symbol ends e = absurd cc
-lost-rate old before n (Err (Write folder.Failed)) role symbol ends e = absurd cc
-lost-rate old before n (Err (Write folder.NoMemory)) role symbol ends e = absurd cc
-lost-rate old before n (Err (Say fault)) role symbol ends e = absurd ends
-lost-rate old before n (Err NoMemory) role symbol ends e = absurd cc
+lost-rate old before n end role symbol ends e = grind (arith)
 
 lost-plain : (role : Role) (symbol : ℕ) → IsPlain (LineLost role symbol)
 lost-plain role symbol = record { write = λ e. cc; memory = λ e. cc }

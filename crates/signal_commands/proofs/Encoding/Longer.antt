@@ -1,5 +1,5 @@
 -- A recording goes on, whatever is sent next.
-use Rattle.std.proofs.Common.{◌≡◌, ◌∙◌, ℕ, ◌+◌, ◌*◌, ◌/◌, ◌%◌, ◌<◌, ◌≤◌, Bool, true, false, List, [], ◌∷◌, ◌++◌, length, map, sum, refl}
+use Rattle.std.proofs.Common.{◌≡◌, ◌∙◌, ℕ, ◌+◌, ◌*◌, ◌/◌, ◌%◌, ◌<◌, ◌≤◌, Bool, List, [], ◌∷◌, ◌++◌, length, map, sum, refl}
 use Rattle.std.proofs.Common.{sym, ap, subst, arith, append-nil, append_assoc, nat_eq}
 use Rattle.std.specs.List.{flat_map}
 use Rattle.std.proofs.lemmas.Grind.{flat_map-append}
@@ -8,7 +8,6 @@ use Rattle.std.proofs.lemmas.List.Elements.{All-push}
 use Rattle.shared_terms.specs.Prefix.{IsPrefixOf}
 use Rattle.frame_check.specs.Bits.{low_bits, octet_bits, bits_of, number}
 use Rattle.scramblers.specs.declared.mode.Mode.{Mode}
-use Rattle.scramblers.specs.declared.mode.Mode.TheVariants.{Call, Answer}
 use Rattle.scramblers.specs.Mode.{tap_of}
 use Rattle.scramblers.specs.Scrambles.{Scrambles}
 use Rattle.scramblers.proofs.Streams.{Scrambles-more, four-behind}
@@ -42,22 +41,7 @@ abbrev quad_of : Bool → Bool → Bool → Bool → ℕ
 quad_of a b c d = number a + 2 * number b + 4 * number c + 8 * number d
 
 quad-bits_of : (a b c d : Bool) → low_bits 4 (quad_of a b c d) ≡ a ∷ b ∷ c ∷ d ∷ []
-quad-bits_of true true true true = refl
-quad-bits_of true true true false = refl
-quad-bits_of true true false true = refl
-quad-bits_of true true false false = refl
-quad-bits_of true false true true = refl
-quad-bits_of true false true false = refl
-quad-bits_of true false false true = refl
-quad-bits_of true false false false = refl
-quad-bits_of false true true true = refl
-quad-bits_of false true true false = refl
-quad-bits_of false true false true = refl
-quad-bits_of false true false false = refl
-quad-bits_of false false true true = refl
-quad-bits_of false false true false = refl
-quad-bits_of false false false true = refl
-quad-bits_of false false false false = refl
+quad-bits_of a b c d = grind (arith)
 
 quad-lt : (a b c d : Bool) → quad_of a b c d < 16
 quad-lt a b c d = omega (arith, bit-lt a, bit-lt b, bit-lt c, bit-lt d)
@@ -103,8 +87,7 @@ Modulates-more tap bits samples a b c d low h =
     }
 
 tap-low : (mode : Mode) → 1 ≤ tap_of mode
-tap-low Call = omega arith
-tap-low Answer = omega arith
+tap-low mode = grind (arith)
 
 -- the samples of one octet more
 record LongerAt (rate : Rate) (tap : ℕ) (bits : List Bool) (samples : List Sample) : Type 0 where

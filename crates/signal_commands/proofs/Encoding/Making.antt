@@ -16,13 +16,12 @@ use Rattle.recordings.specs.Recording.{header_at, samples_each}
 use Rattle.signal_commands.specs.Encoding.Recorder.{IsRecordingOf, RecorderStands}
 use Rattle.shared_terms.specs.declared.limits.TheConstants.{FILE_LIMIT}
 use Rattle.command_base.specs.declared.stop.Stop.{Stop}
-use Rattle.command_base.specs.declared.stop.Stop.TheVariants.{Own, Read, Write}
 use Rattle.command_base.specs.Inputs.{IsWithin, IsNotWithin, ReadTo}
 use Rattle.outside_calls.specs.Outputs.{Holds, HoldsFront, KeptOrEmpty, OnlyOutput}
 use Rattle.outside_calls.proofs.Holding.{Holds-kept, Holds-more, HoldsFront-all, HoldsFront-more, HoldsFront-longer}
 use Rattle.outside_calls.proofs.OnlyOutputs.{OnlyOutput-reads, OnlyOutput-writes, OnlyOutput-trans}
 use Rattle.command_base.proofs.Reading.{ReadTo-none, ReadTo-kept, ReadTo-begins}
-use Rattle.command_base.specs.Stops.{IsOwn, StopCounts}
+use Rattle.command_base.specs.Stops.{StopCounts}
 use Rattle.command_base.specs.Apart.{are_apart}
 use Rattle.command_base.proofs.Differing.{none-of-inputs}
 use Rattle.signal_commands.specs.Encoding.Words.{EncodeNames, inputs_of, outputs_of}
@@ -206,17 +205,12 @@ header-part start old new n b writes puts =
 -- the file is too long, or no octet was read at its limit
 pub not-begun : (old new : FolderState) (n : EncodeNames) (stop : Stop) → OnlyReads old new → IsNotWithin old new n.file FILE_LIMIT 2 stop
     → EndsBy old new n stop
-not-begun old new n (Own answer) reads long = (long.0, reads.names, long.1)
-not-begun old new n (Read fault) reads fails = inl (reads.names n.rec)
-not-begun old new n (Write fault) reads never = absurd never
-not-begun old new n other reads never = never
+not-begun old new n stop reads long = grind (arith)
 
 -- what was counted then: a fault of the file, or nothing
 pub refused-counts : (old new : FolderState) (n : EncodeNames) (stop : Stop) → IsNotWithin old new n.file FILE_LIMIT 2 stop
     → StopCounts old new (n.file ∷ []) (n.rec ∷ []) stop
-refused-counts old new n (Own answer) why = (subst IsOwn (sym why.0) tt, why.2)
-refused-counts old new n (Read fault) why = why
-refused-counts old new n other never = absurd never
+refused-counts old new n stop why = grind (arith)
 
 -- ---- the output alone is touched
 

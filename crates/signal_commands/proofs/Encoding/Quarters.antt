@@ -1,5 +1,5 @@
 -- What is sent at the second rate goes on by two bits.
-use Rattle.std.proofs.Common.{◌≡◌, ◌∙◌, ℕ, ◌+◌, ◌*◌, ◌%◌, ◌<◌, ◌≤◌, Bool, true, false, List, [], ◌∷◌, ◌++◌, length, map, sum, refl, sym, ap}
+use Rattle.std.proofs.Common.{◌≡◌, ◌∙◌, ℕ, ◌+◌, ◌*◌, ◌%◌, ◌<◌, ◌≤◌, Bool, List, [], ◌∷◌, ◌++◌, length, map, sum, refl, sym, ap}
 use Rattle.std.proofs.Common.{subst, arith, append_assoc}
 use Rattle.std.proofs.lemmas.List.{map-append}
 use Rattle.std.proofs.lemmas.List.Elements.{All-push}
@@ -20,18 +20,14 @@ abbrev pub sent_for : ℕ → Bool → List Bool → Bool
 sent_for tap bit line = xor (xor bit (earlier line (length line) tap)) (earlier line (length line) 23)
 
 pub bit-lt : (b : Bool) → number b < 2
-bit-lt true = omega arith
-bit-lt false = omega arith
+bit-lt b = grind (arith)
 
 -- two bits as a number of quarter turns
 abbrev turn_by : Bool → Bool → ℕ
 turn_by a b = number a + 2 * number b
 
 turn-bits : (a b : Bool) → low_bits 2 (turn_by a b) ≡ a ∷ b ∷ []
-turn-bits true true = refl
-turn-bits true false = refl
-turn-bits false true = refl
-turn-bits false false = refl
+turn-bits a b = grind (arith)
 
 -- one sample more
 pub record OneLonger (tap : ℕ) (bits : List Bool) (samples : List Sample) : Type 0 where

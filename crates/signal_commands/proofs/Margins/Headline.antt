@@ -1,10 +1,9 @@
 -- From every answer to what the command promises.
-use Rattle.std.proofs.Common.{◌≡◌, ◌∙◌, ℕ, ◌+◌, ◌*◌, ◌≤◌, ◌<◌, nat_lt, IsTrue, List, [], ◌++◌, length, length-append, take, Result, ap}
+use Rattle.std.proofs.Common.{◌≡◌, ◌∙◌, ℕ, ◌+◌, ◌*◌, ◌≤◌, ◌<◌, nat_lt, IsTrue, List, [], ◌++◌, length, take, Result, ap}
 use Rattle.std.proofs.Common.{subst, arith}
 use Rattle.std.specs.Option.{option_map}
 use Rattle.outside_calls.specs.Folder.{FolderState, octets_at}
 use Rattle.scramblers.specs.declared.mode.Mode.{Mode}
-use Rattle.scramblers.specs.declared.mode.Mode.TheVariants.{Call, Answer}
 use Rattle.noise_bound.specs.Margins.{Measured}
 use Rattle.noise_bound.proofs.Margins.{sure-is-decoded}
 use Rattle.shared_terms.specs.declared.limits.TheConstants.{FILE_LIMIT}
@@ -62,8 +61,7 @@ file-never-longer : (count : ℕ) → count ≤ 1048576 → FILE_LIMIT < count �
 file-never-longer count within longer = omega (arith, within, longer)
 
 behind-header : (mode : Mode) (content : List ℕ) → length (header_of mode ++ content) ≡ 8 + length content
-behind-header Call content = length-append (header_of Call) content
-behind-header Answer content = length-append (header_of Answer) content
+behind-header mode content = grind (arith)
 
 recorded-length : (recording octets : List ℕ) (r : AreMeasurable recording octets) → length recording ≡ 8 + 8 * length octets
 recorded-length recording octets r =

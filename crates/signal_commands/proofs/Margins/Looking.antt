@@ -1,5 +1,5 @@
 -- Why an input is not taken for its length.
-use Rattle.std.proofs.Common.{inl, inr, ℕ, List, [], ◌∷◌, sym, subst}
+use Rattle.std.proofs.Common.{arith, inl, inr, ℕ, List, [], ◌∷◌}
 use Rattle.outside_calls.specs.Folder.{FolderState, OnlyReads, CountsStand}
 use Rattle.outside_calls.specs.declared.folder.FolderFault.{FolderFault}
 use Rattle.outside_calls.specs.declared.folder.FolderFault.TheVariants as folder
@@ -8,19 +8,17 @@ use Rattle.shared_terms.specs.declared.limits.TheConstants.{FILE_LIMIT}
 use Rattle.command_base.specs.declared.stop.Stop.{Stop}
 use Rattle.command_base.specs.declared.stop.Stop.TheVariants.{Own, Read}
 use Rattle.command_base.specs.Inputs.{IsWithin, IsNotWithin}
-use Rattle.command_base.specs.Stops.{IsOwn, ReadFails, StopCounts}
+use Rattle.command_base.specs.Stops.{ReadFails, StopCounts}
 use Rattle.command_base.proofs.Jobs.{stop-earlier}
 use Rattle.command_base.proofs.Reading.{longer-earlier}
 use Rattle.signal_commands.specs.Margins.Words.{MarginNames, inputs_of}
 use Rattle.signal_commands.specs.Margins.Ends.{EndsBy}
-use Rattle.signal_commands.specs.Margins.Ends.EndsOwn.{rec_is_long, file_is_long}
-use Rattle.signal_commands.specs.Margins.Ends.FailsToRead.{rec_unread, file_unread}
+use Rattle.signal_commands.specs.Margins.Ends.EndsOwn.{file_is_long}
+use Rattle.signal_commands.specs.Margins.Ends.FailsToRead.{file_unread}
 
 pub rec-refused : (old new : FolderState) (n : MarginNames) (stop : Stop) → IsNotWithin old new n.rec RECORDING_LIMIT 1 stop
     → EndsBy old new n stop
-rec-refused old new n (Own answer) why = rec_is_long why.0 why.1
-rec-refused old new n (Read fault) why = rec_unread why
-rec-refused old new n other why = why
+rec-refused old new n stop why = grind (arith)
 
 pub file-refused : (old mid new : FolderState) (n : MarginNames) (stop : Stop) → OnlyReads old mid → CountsStand old mid
     → IsWithin old n.rec RECORDING_LIMIT → IsNotWithin mid new n.file FILE_LIMIT 2 stop → EndsBy old new n stop
@@ -46,6 +44,4 @@ file-fails old new n folder.NoMemory refused = refused
 pub refused-counts : (old new : FolderState) (n : MarginNames) (name : List ℕ) (limit word : ℕ) (stop : Stop)
     → ((fault : FolderFault) → ReadFails old new (name ∷ []) fault → ReadFails old new (inputs_of n) fault)
     → IsNotWithin old new name limit word stop → StopCounts old new (inputs_of n) [] stop
-refused-counts old new n name limit word (Own answer) among why = (subst IsOwn (sym why.0) tt, why.2)
-refused-counts old new n name limit word (Read fault) among why = among fault why
-refused-counts old new n name limit word other among never = absurd never
+refused-counts old new n name limit word stop among why = grind (arith)

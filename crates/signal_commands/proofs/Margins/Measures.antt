@@ -6,7 +6,6 @@ use Rattle.std.proofs.lemmas.List.{length-take, take_all}
 use Rattle.outside_calls.specs.Folder.{FolderState, octets_at, OnlyReads}
 use Rattle.outside_calls.proofs.Steps.{OnlyReads-trans}
 use Rattle.scramblers.specs.declared.mode.Mode.{Mode}
-use Rattle.scramblers.specs.declared.mode.Mode.TheVariants.{Call, Answer}
 use Rattle.symbol_map.specs.declared.sample.Sample.{Sample}
 use Rattle.noise_bound.specs.Margins.{Measured, MarginStands}
 use Rattle.noise_bound.proofs.Margins.{measured}
@@ -48,8 +47,7 @@ two-more-samples samples recorded place first second within one two =
 -- ---- how far it is measured
 
 eight : (mode : Mode) → HEADER + 8 * 0 ≡ length (header_of mode ++ [])
-eight Call = refl
-eight Answer = refl
+eight mode = grind (arith)
 
 -- nothing is measured yet
 pub measured-none : (start now : FolderState) (n : MarginNames) (mode : Mode) (m : Measured) → Opened start now n mode

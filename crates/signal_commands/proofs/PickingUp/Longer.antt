@@ -6,7 +6,6 @@ use Rattle.std.proofs.lemmas.Grind.{flat_map-append}
 use Rattle.std.proofs.lemmas.List.{take-append-drop}
 use Rattle.frame_check.specs.Bits.{low_bits}
 use Rattle.scramblers.specs.declared.mode.Mode.{Mode}
-use Rattle.scramblers.specs.declared.mode.Mode.TheVariants.{Call, Answer}
 use Rattle.scramblers.specs.Mode.{tap_of}
 use Rattle.scramblers.specs.Scrambles.{Descrambles}
 use Rattle.trellis_tables.specs.LabelReader.{quads_of}
@@ -54,8 +53,7 @@ bits-longer tap labels rest bits low h =
     )
 
 pub tap-low : (mode : Mode) → 1 ≤ tap_of mode
-tap-low Call = omega arith
-tap-low Answer = omega arith
+tap-low mode = grind (arith)
 
 -- and the pieces in them
 pub later_stand_behind : LaterPiecesStandBehind

@@ -7,7 +7,6 @@ use Rattle.std.proofs.lemmas.List.{take-append-drop, take_all, take_at, drop-tak
 use Rattle.frame_check.specs.Bits.{low_bits}
 use Rattle.shared_terms.specs.Prefix.{IsPrefixOf}
 use Rattle.scramblers.specs.declared.mode.Mode.{Mode}
-use Rattle.scramblers.specs.declared.mode.Mode.TheVariants.{Call, Answer}
 use Rattle.scramblers.specs.Mode.{tap_of}
 use Rattle.scramblers.specs.Scrambles.{Descrambles}
 use Rattle.symbol_map.specs.declared.sample.Sample.{Sample}
@@ -39,8 +38,7 @@ use Rattle.signal_commands.specs.PickingUp.Middles.{turned_by, middle_of, noise_
 use Rattle.signal_commands.specs.PickingUp.Middles.{MiddlesGiveWhatWasSent, MiddlesWithoutNoiseGiveMore, MiddlesAreNeverLost}
 
 tap-small : (mode : Mode) → (1 ≤ tap_of mode) × (tap_of mode ≤ 23)
-tap-small Call = (omega arith, omega arith)
-tap-small Answer = (omega arith, omega arith)
+tap-small mode = grind (arith)
 
 -- ---- turned labels
 
