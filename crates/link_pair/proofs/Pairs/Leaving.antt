@@ -17,7 +17,7 @@ use Rattle.line_run.specs.Ends as runs
 use Rattle.line_ends.specs.Causes.{LostLinksWereStarved}
 use Rattle.link_pair.specs.Pairs.Beside.{first_dlci, second_dlci, after_second, after_first, first_wire, second_wire}
 use Rattle.link_pair.specs.Pairs.Pair.{Progress, Goes, Ended, turns_in, Lasts}
-use Rattle.link_pair.specs.Pairs.Ends.{PairEnd, BothDone, end_of, line_end, is_going, LeavesOf, by_links, by_line}
+use Rattle.link_pair.specs.Pairs.Ends.{BothDone, end_of, line_end, is_going, LeavesOf, by_links, by_line}
 use Rattle.link_pair.specs.Pairs.Laws.{ArePrefixes, PairsLeavePrefixes, AreWhole, DonePairsAreWhole, PairedLinksWereStarved, IsRunOver}
 use Rattle.link_pair.specs.Pairs.Laws.{PairedLinksRun, AreFewRounds, AreShort, PairsHaveFewRounds}
 use Rattle.link_pair.proofs.Pairs.Clear.{Beside}
@@ -75,10 +75,6 @@ pairs-leave-prefixes laws script files others end left leaves h (by_line link ro
   left-prefixes laws script others second_dlci (after_first (turns_in e.p)) _ h e.q e.at.second _ leaves e.second_leaves,
 )
 
--- which end a pair's is
-kind : PairEnd → ℕ
-kind b = grind (arith)
-
 pub record AreDone (first second : RunEnd) : Type 0 where
   pub turn : ℕ
   pub last : ℕ
@@ -86,11 +82,9 @@ pub record AreDone (first second : RunEnd) : Type 0 where
   pub second_is : second ≡ IsDone last
 
 both-done : (m n : ℕ) (first second : RunEnd) → BothDone m n ≡ end_of first second → AreDone first second
-unfolding kind
 both-done m n other second e = grind (arith)
 
 line-not-done : (m n round : ℕ) (cause : LineEnd) → BothDone m n ≡ line_end round cause → ⊥
-unfolding kind
 line-not-done m n round cause e = grind (arith)
 
 ended-whole : LeaveLaws → (script : ScriptValue) (files : Both (List ℕ)) (dlci : ℕ) (beside : Beside) (rounds : ℕ) → IsInLimits script
