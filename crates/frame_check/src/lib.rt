@@ -10,6 +10,6 @@ mod octets;
 mod register;
 mod sizes;
 
-pub use check::{Check, append, passes};
+pub use check::{Check, append, check_octets, passes};
 pub use octets::{Info, Octets, Whole};
 pub use sizes::{INFO, SLOT, WHOLE};

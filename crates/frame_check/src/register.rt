@@ -1,5 +1,5 @@
 // The register that divides: bits go in at its low end, and it holds the remainder of those so far.
-ghost use Rattle.std.specs.Prelude.{◌≡◌, ℕ, List, Bool};
+ghost use Rattle.std.specs.Prelude.{◌≡◌, ℕ, List, Bool, ◌++◌};
 ghost use Rattle.frame_check.specs.Bits.{octet_bits, bits_of};
 ghost use Rattle.frame_check.specs.Division.{remainder_from};
 ghost use Rattle.frame_check.specs.Register.{AreFours, Divides, Holds, after_zeros};
@@ -62,4 +62,14 @@ pub(crate) fn after_octets(register: u32, fours: &Fours, octets: &[u8]) -> u32
         after = after_octet(after, fours, *octet);
     }
     after
+}
+
+/// The register after all the bits of octets that stand in two places, one behind the other.
+pub(crate) fn after_both(register: u32, fours: &Fours, head: &[u8], rest: &[u8]) -> u32
+    ensures { (width : ℕ) (generator remainder : List Bool) → Divides width fours.now generator
+        → Holds width register remainder
+        → Holds width result (remainder_from width generator remainder (bits_of (head.now ++ rest.now))) }
+{
+    let behind_head = after_octets(register, fours, head);
+    after_octets(behind_head, fours, rest)
 }

@@ -1,3 +1,4 @@
+use Rattle.std.proofs.Common.{◌++◌}
 use Rattle.frame_check.specs.declared.check.Check.TheVariants.{ThirtyTwo}
 use Rattle.frame_check.specs.FrameCheck.{generator_of, all_ones}
 use Rattle.frame_check.specs.Division.{remainder_of}
@@ -8,5 +9,5 @@ use Rattle.frame_check.proofs.check.thirty_two.Goals as goal
 pub returns : goal.returns
 unfolding remainder_of
 returns c = rw c.to_le_bytes.ensures
-    (thirty_two_is c.after_octets-register.result c.args.octets.now
-    (c.after_octets-register.ensures 32 (generator_of ThirtyTwo) (all_ones 32) divides32 starts32))
+    (thirty_two_is c.after_both-register.result (c.args.head.now ++ c.args.rest.now)
+    (c.after_both-register.ensures 32 (generator_of ThirtyTwo) (all_ones 32) divides32 starts32))
