@@ -1,5 +1,5 @@
 -- Flags in a row, the last of which may be cut, and the bits of slots.
-use Rattle.std.proofs.Common.{◌≡◌, ℕ, zero, suc, ◌+◌, ◌-◌, ◌*◌, ◌/◌, ◌%◌, ◌<◌, ◌≤◌, Bool, List, [], ◌∷◌, ◌++◌, length}
+use Rattle.std.proofs.Common.{◌≡◌, ℕ, zero, suc, ◌+◌, ◌-◌, ◌*◌, ◌/◌, ◌%◌, ◌<◌, ◌≤◌, Bool, List, Option, [], ◌∷◌, ◌++◌, length}
 use Rattle.std.proofs.Common.{take, arith, append_assoc, length-append, refl, sym, ◌∙◌, ap}
 use Rattle.std.proofs.lemmas.List.{append-nil}
 use Rattle.frame_check.specs.Bits.{low_bits}
@@ -7,7 +7,7 @@ use Rattle.bit_stuffing.specs.declared.pen.Pen.{Pen}
 use Rattle.bit_stuffing.specs.BitSlot.{line_bits}
 use Rattle.bit_stuffing.specs.Pen.{written}
 use Rattle.bit_stuffing.specs.Flags.{flag}
-use Rattle.bit_stuffing.specs.Slots.{Slot, flags, fill, slot_bits, next_phase, bits_from, phase_from}
+use Rattle.bit_stuffing.specs.Slots.{Slot, flags, fill, opening, slot_bits, next_phase, bits_from, phase_from}
 use Rattle.bit_stuffing.specs.Slots.Slot.{Plain, Flags}
 use Rattle.bit_stuffing.proofs.Between.{take-length}
 use Rattle.bit_stuffing.proofs.Written.{length-written}
@@ -51,8 +51,19 @@ bits-append size phase (x ∷ slots) slot =
 pub filled-up : (bits : List Bool) (size : ℕ) → length bits ≤ size → length (bits ++ fill (size - length bits)) ≡ size
 filled-up bits size h = omega (arith, length-append {A = Bool} bits (fill (size - length bits)), length-fill (size - length bits))
 
-pub slot-written : (bits : List Bool) (symbols : ℕ) (pen : Pen) (quads : List ℕ) → length bits ≤ 4 * symbols
-    → written pen quads ≡ bits ++ fill (4 * symbols - length bits) → line_bits quads ≡ bits ++ fill (4 * symbols - length bits)
-slot-written bits symbols pen quads fits e =
-    let none : pen.held ≡ 0 = omega (arith, pen.few, ap length e, filled-up bits (4 * symbols) fits, length-written pen quads) in
-    sym (append-nil (line_bits quads)) ∙ ap (λ n. line_bits quads ++ low_bits n pen.part) (sym none) ∙ e
+pub slot-written : (symbols phase : ℕ) (frame : Option (List ℕ)) (front : List Bool) (pen : Pen) (quads : List ℕ)
+    → length (opening phase frame) ≤ 4 * symbols → front ≡ opening phase frame
+    → written pen quads ≡ front ++ fill (4 * symbols - length front) → line_bits quads ≡ slot_bits (4 * symbols) phase (Flags frame)
+slot-written symbols phase frame front pen quads fits front_is e =
+    let bits = opening phase frame in
+    let all = e ∙ ap (λ (t : List Bool). t ++ fill (4 * symbols - length t)) front_is in
+    let none : pen.held ≡ 0 = omega (arith, pen.few, ap length all, filled-up bits (4 * symbols) fits, length-written pen quads) in
+    sym (append-nil (line_bits quads)) ∙ ap (λ n. line_bits quads ++ low_bits n pen.part) (sym none) ∙ all
+
+-- and the writer stands behind it
+pub writer-behind : (symbols phase next : ℕ) (frame : Option (List ℕ)) (front : List Bool) (slots : List Slot) → front ≡ opening phase frame
+    → next ≡ (4 * symbols - length front) % 8 → phase ≡ phase_from (4 * symbols) 0 slots
+    → next ≡ phase_from (4 * symbols) 0 (slots ++ Flags frame ∷ [])
+writer-behind symbols phase next frame front slots front_is next_is phase_is =
+    next_is ∙ ap (λ (bits : List Bool). (4 * symbols - length bits) % 8) front_is
+    ∙ ap (λ p. next_phase (4 * symbols) p (Flags frame)) phase_is ∙ sym (phase-append (4 * symbols) 0 slots (Flags frame))

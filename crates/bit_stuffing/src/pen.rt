@@ -1,5 +1,5 @@
 // Bits that are written into a slot.
-ghost use Rattle.std.specs.Prelude.{◌≡◌, ◌+◌, ◌-◌, ◌*◌, ◌%◌, ◌<◌, ◌≤◌, ◌^◌, [], ◌∷◌, ◌++◌, length, take, drop};
+ghost use Rattle.std.specs.Prelude.{◌≡◌, ◌+◌, ◌-◌, ◌*◌, ◌%◌, ◌<◌, ◌≤◌, ◌^◌, [], ◌∷◌, ◌++◌, length, take, drop, Some};
 ghost use Rattle.frame_check.specs.Bits.{octet_bits, bits_of};
 ghost use Rattle.bit_stuffing.specs.Flags.{bit_of, flag};
 ghost use Rattle.bit_stuffing.specs.Slots.{fill, flags, framed, rest_of_flag};
@@ -121,17 +121,23 @@ impl Pen {
         left
     }
 
-    /// Writes the stuffing of octets.
-    pub(crate) fn content(&mut self, octets: &[u8], out: &mut BitSlot)
-        requires { length (written self.old out.old) + length (stuffed 5 (bits_of octets.now))
+    /// Writes the stuffing of octets of a content. Of the ones that may follow it takes and answers what a bit's call does.
+    fn content(&mut self, octets: &[u8], room: u8, out: &mut BitSlot) -> u8
+        requires some { 0 < room }
+        requires few { room ≤ 5 }
+        requires fits { length (written self.old out.old) + length (stuffed room (bits_of octets.now))
             ≤ 4 * SLOT }
-        ensures { written self.new out.new
-            ≡ written self.old out.old ++ stuffed 5 (bits_of octets.now) }
+        ensures written { written self.new out.new
+            ≡ written self.old out.old ++ stuffed room (bits_of octets.now) }
+        ensures room { result ≡ room_behind room (bits_of octets.now) }
+        ensures some { 0 < result }
+        ensures few { result ≤ 5 }
     {
-        let mut left = RUN;
+        let mut left = room;
         for octet in octets {
             left = self.content_octet(*octet, left, out);
         }
+        left
     }
 
     /// Writes so many flags.
@@ -158,13 +164,22 @@ impl Pen {
         self.flags(4, out);
     }
 
-    /// Writes a frame's octets and its closing flag.
-    pub(crate) fn frame(&mut self, octets: &[u8], out: &mut BitSlot)
-        requires { length (written self.old out.old) + length (framed (Some octets.now))
+    /// Writes a frame's octets, which stand in three places, and its closing flag.
+    pub(crate) fn frame(
+        &mut self,
+        head: &[u8],
+        information: &[u8],
+        check: &[u8],
+        out: &mut BitSlot,
+    )
+        requires { length (written self.old out.old) + length (framed (Some (head.now ++ information.now ++ check.now)))
             ≤ 4 * SLOT }
-        ensures { written self.new out.new ≡ written self.old out.old ++ framed (Some octets.now) }
+        ensures { written self.new out.new
+            ≡ written self.old out.old ++ framed (Some (head.now ++ information.now ++ check.now)) }
     {
-        self.content(octets, out);
+        let behind_head = self.content(head, RUN, out);
+        let behind_both = self.content(information, behind_head, out);
+        self.content(check, behind_both, out);
         self.octet(FLAG, out);
     }
 

@@ -1,9 +1,9 @@
 // Slots of flags, with or without a frame.
-ghost use Rattle.std.specs.Prelude.{◌≡◌, ◌+◌, ◌-◌, ◌*◌, ◌<◌, ◌≤◌, List, Bool, [], ◌∷◌, ◌++◌, length};
+ghost use Rattle.std.specs.Prelude.{◌≡◌, ◌+◌, ◌-◌, ◌*◌, ◌<◌, ◌≤◌, List, Bool, Some, [], ◌∷◌, ◌++◌, length};
 ghost use Rattle.std.specs.Option.{option_copied};
 ghost use Rattle.bit_stuffing.specs.BitSlot.{line_bits};
 ghost use Rattle.bit_stuffing.specs.Pen.{written};
-ghost use Rattle.bit_stuffing.specs.Slots.{Slot, opening, slot_bits};
+ghost use Rattle.bit_stuffing.specs.Slots.{Slot, flags, opening, rest_of_flag, slot_bits};
 ghost use Rattle.bit_stuffing.specs.Slots.Slot.{Flags, Plain};
 
 use crate::bit_slot::BitSlot;
@@ -17,18 +17,14 @@ pub const HEAD: u16 = 10;
 /// The symbols that stand behind a slot's frame at least, so that its receiver may be so many behind.
 pub const TAIL: u16 = 128;
 
-/// Writes a flag slot up to and with its frame's closing flag.
-fn opened(phase: u8, frame: Option<&[u8]>, out: &mut BitSlot) -> Pen
+/// Writes what stands in front of a slot's frame.
+fn opened(phase: u8, out: &mut BitSlot) -> Pen
     requires phase { phase < 8 }
     requires empty { out.old ≡ [] }
-    requires room { length (opening phase (option_copied frame)) ≤ 4 * SLOT }
-    ensures { written result out.new ≡ opening phase (option_copied frame.entry) }
+    ensures { written result out.new ≡ rest_of_flag phase ++ flags 4 }
 {
     let mut pen = Pen::new();
     pen.head(phase, out);
-    if let Some(octets) = frame {
-        pen.frame(octets, out);
-    }
     pen
 }
 
@@ -79,7 +75,28 @@ impl SlotWriter {
         ensures stands { (slots : List Slot) → WriterStands self.old slots
             → WriterStands self.new (slots ++ Flags (option_copied frame.entry) ∷ []) }
     {
-        let mut pen = opened(self.phase, frame, out);
+        match frame {
+            Some(octets) => self.framed(&[], &[], octets, out),
+            None => {
+                let mut pen = opened(self.phase, out);
+                self.phase = pen.fill(self.symbols, out);
+            }
+        }
+    }
+
+    /// Writes the next slot, with a frame whose octets stand in three places: its head, its information, and its check.
+    pub fn framed(&mut self, head: &[u8], information: &[u8], check: &[u8], out: &mut BitSlot)
+        requires empty { out.old ≡ [] }
+        requires room { length (opening self.old.phase (Some (head.now ++ information.now ++ check.now)))
+            ≤ 4 * (self.old.symbols - TAIL) }
+        ensures bits { line_bits out.new
+            ≡ slot_bits (4 * self.old.symbols) self.old.phase (Flags (Some (head.now ++ information.now ++ check.now))) }
+        ensures symbols { self.new.symbols ≡ self.old.symbols }
+        ensures stands { (slots : List Slot) → WriterStands self.old slots
+            → WriterStands self.new (slots ++ Flags (Some (head.now ++ information.now ++ check.now)) ∷ []) }
+    {
+        let mut pen = opened(self.phase, out);
+        pen.frame(head, information, check, out);
         self.phase = pen.fill(self.symbols, out);
     }
 
