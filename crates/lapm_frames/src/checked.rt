@@ -1,13 +1,14 @@
 // Frames as octets with their check.
-ghost use Rattle.std.specs.Prelude.{◌≡◌, ◌<◌, ◌↔◌, IfOk};
+ghost use Rattle.std.specs.Prelude.{◌≡◌, ◌<◌, ◌≤◌, ◌↔◌, ◌++◌, length, IfOk};
+ghost use Rattle.frame_check.specs.declared.sizes.TheConstants.{INFO};
 ghost use Rattle.lapm_frames.specs.declared.frame.Frame.{Frame};
 ghost use Rattle.lapm_frames.specs.declared.fault.CheckedFault.{CheckedFault};
 ghost use Rattle.lapm_frames.specs.Frame.{IsFrame};
 ghost use Rattle.lapm_frames.specs.Checked.{check_for, check_heard, checked, IsCheckedFault, SpellsFrame};
 
-use crate::spelling::read_lent;
-use crate::{CheckedFault, Frame, LentFrame, Role, write};
-use frame_check::{Check, Whole, append, passes};
+use crate::spelling::{HEAD, head, read_lent};
+use crate::{CheckedFault, Frame, LentFrame, Role};
+use frame_check::{Check, Octets, Whole, check_octets, passes};
 
 /// The check of a frame, where the ends agreed on this one: I frames and S frames have it, U frames that of 16 bits.
 fn check_for(frame: &Frame, check: Check) -> Check
@@ -30,15 +31,46 @@ fn check_heard(octets: &[u8], check: Check) -> Check
     }
 }
 
+/// A frame's octets with its check. The information is lent by the frame.
+#[derive(Drop)]
+pub struct CheckedParts<'a> {
+    /// What stands in front of the information: address, control octet, and N(R) with P/F where the frame has that.
+    pub head: Octets<HEAD>,
+    /// The information; no octets where the frame has none.
+    pub information: &'a [u8],
+    /// The check of both.
+    pub check: Octets<4>,
+}
+
+/// The frame's octets with the check that it has where the ends agreed on this one, as this end sends it on this channel, in parts.
+pub fn check_parts(frame: &Frame, check: Check, sender: Role, dlci: u8) -> CheckedParts<'_>
+    requires channel { dlci < 64 }
+    requires frame { IsFrame frame.now }
+    ensures octets { result.head ++ result.information.now ++ result.check ≡ checked check sender dlci frame.now }
+    ensures information { length result.information.now ≤ INFO }
+{
+    let parts = frame.parts();
+    let head = head(&parts, sender, dlci);
+    let information = parts.information();
+    let check = check_octets(head.as_slice(), information, check_for(frame, check));
+    CheckedParts {
+        head,
+        information,
+        check,
+    }
+}
+
 /// The frame's octets with the check that it has where the ends agreed on this one, as this end sends it on this channel.
 pub fn write_checked(frame: &Frame, check: Check, sender: Role, dlci: u8) -> Whole
     requires channel { dlci < 64 }
     requires frame { IsFrame frame.now }
     ensures { result ≡ checked check sender dlci frame.now }
 {
+    let parts = check_parts(frame, check, sender, dlci);
     let mut octets = Whole::new();
-    write(frame, sender, dlci, &mut octets);
-    append(&mut octets, check_for(frame, check));
+    octets.extend(parts.head.as_slice());
+    octets.extend(parts.information);
+    octets.extend(parts.check.as_slice());
     octets
 }
 

@@ -28,7 +28,7 @@ mod supervisory;
 mod unnumbered;
 
 pub use arrived::Arrived;
-pub use checked::{read_checked, read_checked_lent, write_checked};
+pub use checked::{CheckedParts, check_parts, read_checked, read_checked_lent, write_checked};
 pub use fault::{CheckedFault, FrameFault};
 pub use frame::Frame;
 pub use heard::Heard;

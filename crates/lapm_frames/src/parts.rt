@@ -1,5 +1,5 @@
 // The parts of frames: what a frame of each kind consists of, and the octet behind its address.
-ghost use Rattle.std.specs.Prelude.{◌≡◌, ◌<◌, ◌≤◌, length, IfSome};
+ghost use Rattle.std.specs.Prelude.{◌≡◌, ◌<◌, ◌≤◌, [], length, unwrap_or, IfSome};
 ghost use Rattle.frame_check.specs.declared.sizes.TheConstants.{INFO};
 ghost use Rattle.std.specs.Option.{option_map};
 ghost use Rattle.lapm_frames.specs.Frame.{octet_with};
@@ -25,6 +25,18 @@ pub struct Parts<'a> {
     pub pf: bool,
     /// The information field, where the kind has one.
     pub info: Option<&'a [u8]>,
+}
+
+impl<'a> Parts<'a> {
+    /// The information field, where the kind has one, and else no octets.
+    pub(crate) fn information(&self) -> &'a [u8]
+        ensures { result.now ≡ unwrap_or (option_map (λ info. info.now) self.now.info) [] }
+    {
+        match self.info {
+            Some(info) => info,
+            None => &[],
+        }
+    }
 }
 
 /// The parts of an I frame.

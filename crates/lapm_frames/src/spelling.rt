@@ -2,17 +2,21 @@
 ghost use Rattle.std.specs.Prelude.{◌≡◌, ℕ, ◌<◌, ◌≤◌, ◌+◌, [], ◌∷◌, ◌++◌, ◌↔◌, length, unwrap_or, IfSome, IfOk, IfErr};
 ghost use Rattle.std.specs.Option.{option_map};
 ghost use Rattle.frame_check.specs.declared.sizes.TheConstants.{INFO, WHOLE};
+ghost use Rattle.lapm_frames.specs.declared.spelling.TheConstants.{HEAD};
 ghost use Rattle.shared_terms.specs.declared.role.Role.{Role};
 ghost use Rattle.lapm_frames.specs.declared.frame.Frame.{Frame};
 ghost use Rattle.lapm_frames.specs.declared.fault.FrameFault.{FrameFault};
-ghost use Rattle.lapm_frames.specs.Frame.{address_of, numbers_before, spelled, IsFrame, FrameSpelling};
+ghost use Rattle.lapm_frames.specs.Frame.{address_of, numbers_before, octet_with, spelled, IsFrame, FrameSpelling};
 ghost use Rattle.lapm_frames.specs.Fault.{FirstFault};
 
 use crate::address::{address_octet, is_command};
 use crate::numbers::number_octet;
 use crate::parts::control_octet;
-use crate::{Frame, FrameFault, LentFrame, Role, information, supervisory, unnumbered};
-use frame_check::Whole;
+use crate::{Frame, FrameFault, LentFrame, Parts, Role, information, supervisory, unnumbered};
+use frame_check::{Octets, Whole};
+
+/// The most octets in front of a frame's information: the address, the control octet, and N(R) with P/F.
+pub(crate) const HEAD: usize = 3;
 
 /// Reads what follows the address of a command or of a response.
 fn read_addressed(command: bool, rest: &[u8]) -> Result<LentFrame<'_>, FrameFault>
@@ -61,25 +65,30 @@ pub fn read(octets: &[u8], sender: Role, dlci: u8) -> Result<Frame, FrameFault>
 }
 
 /// Puts N(R) with P/F, where the frame has N(R).
-fn put_number(nr: Option<u8>, pf: bool, out: &mut Whole)
+fn put_number(nr: Option<u8>, pf: bool, head: &mut Octets<HEAD>)
     requires number { IfSome nr (λ nr. nr < 128) }
-    requires room { length out.old < WHOLE }
-    ensures { out.new ≡ out.old ++ numbers_before nr pf [] }
+    requires room { length head.old < HEAD }
+    ensures { head.new ≡ head.old ++ numbers_before nr pf [] }
 {
     if let Some(nr) = nr {
-        out.push(number_octet(nr, pf));
+        head.push(number_octet(nr, pf));
     }
 }
 
-/// Puts the information, where the frame has some.
-fn put_information(info: Option<&[u8]>, out: &mut Whole)
-    requires short { IfSome info (λ info. length info.now ≤ INFO) }
-    requires room { length out.old + INFO ≤ WHOLE }
-    ensures { out.new ≡ out.old ++ unwrap_or (option_map (λ info. info.now) info.entry) [] }
+/// The octets in front of a frame's information, of what the frame consists of: the address, the control octet and N(R).
+pub(crate) fn head(parts: &Parts<'_>, sender: Role, dlci: u8) -> Octets<HEAD>
+    requires channel { dlci < 64 }
+    requires control { parts.now.control < 240 }
+    requires ns { IfSome parts.now.ns (λ ns. ns < 128) }
+    requires nr { IfSome parts.now.nr (λ nr. nr < 128) }
+    ensures octets { result ≡ address_of parts.now.command sender dlci ∷ octet_with parts.now.ns parts.now.nr parts.now.pf parts.now.control
+        ∷ numbers_before parts.now.nr parts.now.pf [] }
 {
-    if let Some(info) = info {
-        out.extend(info);
-    }
+    let mut head = Octets::new();
+    head.push(address_octet(parts.command, sender, dlci));
+    head.push(control_octet(parts.ns, parts.nr, parts.pf, parts.control));
+    put_number(parts.nr, parts.pf, &mut head);
+    head
 }
 
 /// Writes the frame's octets, as this end sends it on this channel. The check isn't written.
@@ -90,8 +99,7 @@ pub fn write(frame: &Frame, sender: Role, dlci: u8, out: &mut Whole)
     ensures { out.new ≡ spelled frame.now sender dlci }
 {
     let parts = frame.parts();
-    out.push(address_octet(parts.command, sender, dlci));
-    out.push(control_octet(parts.ns, parts.nr, parts.pf, parts.control));
-    put_number(parts.nr, parts.pf, out);
-    put_information(parts.info, out);
+    let head = head(&parts, sender, dlci);
+    out.extend(head.as_slice());
+    out.extend(parts.information());
 }
