@@ -78,8 +78,8 @@ impl SlotWriter {
         match frame {
             Some(octets) => self.framed(&[], &[], octets, out),
             None => {
-                let mut pen = opened(self.phase, out);
-                self.phase = pen.fill(self.symbols, out);
+                let mut flags = opened(self.phase, out);
+                self.phase = flags.fill(self.symbols, out);
             }
         }
     }

@@ -11,7 +11,7 @@ ghost use Rattle.sample_line.specs.Signals.{signal_of, IsCodable};
 use crate::Framing;
 use bit_stuffing::{BitSlot, SlotWriter};
 use detection::{write_mark, write_patterns};
-use lapm_frames::{Seen, Sent, write_checked};
+use lapm_frames::{Seen, Sent, check_parts};
 
 /// Writes the slot of what is sent. A frame has the check that its kind has where the ends use the framing's.
 pub fn write_sent(
@@ -38,8 +38,13 @@ pub fn write_sent(
         Sent::Adp => write_patterns(writer, symbols, Seen::Adp, out),
         Sent::Flags => writer.slot(None, out),
         Sent::Frame(frame) => {
-            let octets = write_checked(frame, framing.check, framing.sender, framing.dlci);
-            writer.slot(Some(octets.as_slice()), out);
+            let parts = check_parts(frame, framing.check, framing.sender, framing.dlci);
+            writer.framed(
+                parts.head.as_slice(),
+                parts.information,
+                parts.check.as_slice(),
+                out,
+            );
         }
     }
 }

@@ -9,20 +9,25 @@ use Rattle.sample_line.specs.Signals.{signal_of, IsCodable}
 use Rattle.sample_line.proofs.coding.write_sent.Goals as goal
 use Rattle.sample_line.proofs.coding.write_sent.Goals.{After-as_slice}
 
-pub slot-requires-in-Frame-clause-room : goal.slot-requires-in-Frame-clause-room
-slot-requires-in-Frame-clause-room c =
+-- the octets that the slot writer takes are those of the frame with its check
+octets-are : (head information check whole first third : List ℕ) → first ≡ head → third ≡ check
+    → head ++ information ++ check ≡ whole → first ++ information ++ third ≡ whole
+octets-are head information check whole first third first_is third_is e = rw (first_is, third_is) e
+
+pub framed-requires-clause-room : goal.framed-requires-clause-room
+framed-requires-clause-room c =
     let fits = subst (λ (s : Sent). IsCodable c.args.framing.check c.args.framing.sender c.args.framing.dlci c.args.writer.now.symbols
     c.args.writer.now.phase s)
     c.in-Frame.is c.requires.codable in
     subst (λ (xs : List ℕ). length (opening c.args.writer.now.phase (Some xs)) ≤ 4 * (c.args.writer.now.symbols - TAIL))
-    (sym (c.as_slice.ensures.items ∙ c.write_checked-octets.ensures)) fits.room
+    (sym (octets-are _ _ _ _ _ _ c.as_slice.ensures.items c.as_slice-2.ensures.items c.check_parts-parts.ensures.octets)) fits.room
 
 pub returns-in-Frame-clause-bits : goal.returns-in-Frame-clause-bits
 returns-in-Frame-clause-bits c =
     let size : ℕ = 4 * c.args.writer.now.symbols in
-    c.slot-in-Frame.ensures.bits
+    c.framed.ensures.bits
     ∙ ap (λ xs. slot_bits size c.args.writer.now.phase (slot_of size (FlagSlot (Some xs))))
-    (c.as_slice.ensures.items ∙ c.write_checked-octets.ensures)
+    (octets-are _ _ _ _ _ _ c.as_slice.ensures.items c.as_slice-2.ensures.items c.check_parts-parts.ensures.octets)
     ∙ ap (λ s. slot_bits size c.args.writer.now.phase
     (slot_of size (signal_of c.args.framing.check c.args.framing.sender c.args.framing.dlci s)))
     (sym c.in-Frame.is)
