@@ -29,22 +29,7 @@ pub polled : {setup : Setup} {terms : Terms} {receiver : Taking} {breaks : Break
     → LinksBeside setup terms receiver breaks owes wait numbered special a
     → LinksBeside setup terms receiver breaks owes (record wait { poll = false }) numbered special
     (record a { wait = record a.wait { poll = false } })
-polled h = record {
-  phase_is = h.phase_is;
-  setup_is = h.setup_is;
-  terms_are = h.terms_are;
-  numbered_is = h.numbered_is;
-  receiver_stands = h.receiver_stands;
-  breaks_stand = record {
-    own = h.breaks_stand.own;
-    their = h.breaks_stand.their;
-    told_within = h.breaks_stand.told_within;
-    given_is = h.breaks_stand.given_is;
-  };
-  owes_is = h.owes_is;
-  waits = record { poll_is = refl; urgent_is = h.waits.urgent_is; timer_is = h.waits.timer_is };
-  special_is = h.special_is;
-}
+polled h = assumption
 
 -- the reply is no longer due
 pub replied : {setup : Setup} {terms : Terms} {receiver : Taking} {breaks : Breaks} {owes : Owes} {wait : Wait} {numbered
@@ -52,44 +37,14 @@ pub replied : {setup : Setup} {terms : Terms} {receiver : Taking} {breaks : Brea
     → LinksBeside setup terms receiver breaks owes wait numbered special a
     → LinksBeside setup terms receiver breaks (record owes { reply = false }) wait numbered special
     (record a { owes = record a.owes { reply = false } })
-replied h = record {
-  phase_is = h.phase_is;
-  setup_is = h.setup_is;
-  terms_are = h.terms_are;
-  numbered_is = h.numbered_is;
-  receiver_stands = h.receiver_stands;
-  breaks_stand = record {
-    own = h.breaks_stand.own;
-    their = h.breaks_stand.their;
-    told_within = h.breaks_stand.told_within;
-    given_is = h.breaks_stand.given_is;
-  };
-  owes_is = ap (λ (owes : Owes). record owes { reply = false }) h.owes_is;
-  waits = record { poll_is = h.waits.poll_is; urgent_is = h.waits.urgent_is; timer_is = h.waits.timer_is };
-  special_is = h.special_is;
-}
+replied h = assumption (ap (λ (owes : Owes). record owes { reply = false }) h.owes_is)
 
 -- the last speaking is forgotten
 pub forgotten : {setup : Setup} {terms : Terms} {receiver : Taking} {breaks : Breaks} {owes : Owes} {wait : Wait} {numbered
     special : Bool} {a : Account}
     → LinksBeside setup terms receiver breaks owes wait numbered special a
     → LinksBeside setup terms receiver breaks owes wait numbered false (record a { special = false })
-forgotten h = record {
-  phase_is = h.phase_is;
-  setup_is = h.setup_is;
-  terms_are = h.terms_are;
-  numbered_is = h.numbered_is;
-  receiver_stands = h.receiver_stands;
-  breaks_stand = record {
-    own = h.breaks_stand.own;
-    their = h.breaks_stand.their;
-    told_within = h.breaks_stand.told_within;
-    given_is = h.breaks_stand.given_is;
-  };
-  owes_is = h.owes_is;
-  waits = record { poll_is = h.waits.poll_is; urgent_is = h.waits.urgent_is; timer_is = h.waits.timer_is };
-  special_is = refl;
-}
+forgotten h = assumption
 
 -- The first step that gives something is what is said.
 pub first : (end : Connected) (sent : Sent) (o : Option Said) (rest : Said) (a : Account) → Gives o a end (Some sent)
@@ -137,10 +92,7 @@ as_before : (before sent : Sent) (r : Result Said LinkFault) (result : Result An
 as_before before sent (Ok said) (Ok end) turn a h = h
 as_before before sent (Err fault) (Err broken) turn a h = (
   h.0,
-  record {
-    fault_is = h.1.fault_is;
-    over = record { setup_is = h.1.over.setup_is; answer_is = h.1.over.answer_is; terms_are = h.1.over.terms_are };
-  },
+  assumption,
 )
 as_before before sent (Ok said) (Err broken) turn a h = absurd h
 as_before before sent (Err fault) (Ok end) turn a h = absurd h

@@ -65,24 +65,4 @@ returns-clause-becomes c = λ a h.
           (ap (λ r. r || polls) w.if-self.false ∙ ap (λ command. command && c.args.pf) w.if-command.false)
     ] in
     rw (sym by)
-    (goes_on _ _ c.on_number.new.self _ (c.in_ok-on_number.ensures.becomes a h) (λ b k. record {
-      sender_stands = k.sender_stands;
-      beside = record {
-        phase_is = k.beside.phase_is;
-        setup_is = k.beside.setup_is;
-        terms_are = k.beside.terms_are;
-        numbered_is = k.beside.numbered_is;
-        receiver_stands = k.beside.receiver_stands;
-        breaks_stand = record {
-          own = k.beside.breaks_stand.own;
-          their = k.beside.breaks_stand.their;
-          told_within = k.beside.breaks_stand.told_within;
-          given_is = k.beside.breaks_stand.given_is;
-        };
-        owes_is =
-            ap (λ (r : Bool). record owes { reply = r }) reply
-            ∙ ap (λ (owes : Owes). record owes { reply = owes.reply || polls }) k.beside.owes_is;
-        waits = record { poll_is = k.beside.waits.poll_is; urgent_is = k.beside.waits.urgent_is; timer_is = refl };
-        special_is = k.beside.special_is;
-      };
-    }))
+    (goes_on _ _ c.on_number.new.self _ (c.in_ok-on_number.ensures.becomes a h) (λ b k. assumption (ap (λ (r : Bool). record owes { reply = r }) reply ∙ ap (λ (owes : Owes). record owes { reply = owes.reply || polls }) k.beside.owes_is)))
