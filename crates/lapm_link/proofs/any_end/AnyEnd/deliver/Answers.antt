@@ -20,8 +20,7 @@ fewer-ready true (first ∷ old) new left is = subst (λ (xs : List (List ℕ)).
     less xs = omega arith
 
 no-more : (old : List (List ℕ)) → length (drop 1 old) ≤ length old
-no-more [] = omega arith
-no-more (first ∷ old) = omega arith
+no-more q0 = grind (arith)
 
 same-number : (n : ℕ) → n ≤ n
 same-number n = omega arith

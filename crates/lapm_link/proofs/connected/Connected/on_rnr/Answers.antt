@@ -1,4 +1,4 @@
-use Rattle.std.proofs.Common.{◌≡◌, ◌∙◌, ◌&&◌, ◌||◌, Bool, Result, Ok, Err, if◌then◌else◌, refl, sym, ap}
+use Rattle.std.proofs.Common.{arith, ◌≡◌, ◌∙◌, ◌&&◌, ◌||◌, Bool, Result, Ok, Err, if◌then◌else◌, refl, sym, ap}
 use Rattle.std.proofs.lemmas.Result.{err_from_is_err_and}
 use Rattle.lapm_sender.specs.Outgoing.{replied, acknowledged}
 use Rattle.shared_terms.specs.declared.fault.LinkFault.{LinkFault}
@@ -15,8 +15,7 @@ use Rattle.lapm_link.proofs.connected.Connected.on_rnr.Goals.{else-self+else-com
 -- a refused number stays refused
 refused : (f : Account → Account) (r : Result Account LinkFault) (end : Connected) (fault : LinkFault) → Becomes r end (Err fault)
     → Becomes (then_in f r) end (Err fault)
-refused f (Ok a) end fault h = absurd h
-refused f (Err other) end fault h = h
+refused f q1 end fault h = grind (arith)
 
 pub returns-in_err-on_number-clause-becomes : goal.returns-in_err-on_number-clause-becomes
 returns-in_err-on_number-clause-becomes c = λ a h.
@@ -38,8 +37,7 @@ returns-in_err-on_number-clause-becomes c = λ a h.
 goes_on : (f : Account → Account) (r : Result Account LinkFault) (end end' : Connected) → Becomes r end (Ok tt)
     → ((b : Account) → Links end b → Links end' (f b))
     → Becomes (then_in f r) end' (Ok tt)
-goes_on f (Ok a) end end' h k = k a h
-goes_on f (Err other) end end' h k = absurd h
+goes_on f q1 end end' h k = grind (arith)
 
 pub returns-clause-becomes : goal.returns-clause-becomes
 returns-clause-becomes c = λ a h.
