@@ -1,5 +1,5 @@
 -- What a step gives whose condition holds, and the end once it has been said.
-use Rattle.std.proofs.Common.{arith, ◌≡◌, ℕ, Bool, true, false, Option, Some, None, Result, Ok, Err, refl, ap}
+use Rattle.std.proofs.Common.{arith, ◌≡◌, ℕ, Bool, true, false, Option, Some, None, Result, Ok, Err, ap}
 use Rattle.xid_params.specs.declared.terms.Terms.{Terms}
 use Rattle.lapm_receiver.specs.Taking.{Taking}
 use Rattle.link_account.specs.declared.setup.Setup.{Setup}

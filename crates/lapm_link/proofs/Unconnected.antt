@@ -1,11 +1,10 @@
 -- What an end delivers, and which breaks it takes: none where it isn't Connected.
-use Rattle.std.proofs.Common.{◌≡◌, ◌≤◌, ℕ, Bool, false, if◌then◌else◌, None, refl, sym, ap, subst, arith}
+use Rattle.std.proofs.Common.{◌≡◌, ◌≤◌, ℕ, Bool, false, if◌then◌else◌, None, sym, ap, subst, arith}
 use Rattle.lapm_receiver.specs.Incoming.{next_delivered, after_delivered}
 use Rattle.break_signals.specs.Breaks.{takes_break, after_ask}
 use Rattle.link_account.specs.declared.phase.Phase.TheVariants as phases
 use Rattle.lapm_link.specs.declared.connected.Connected.{Connected}
 use Rattle.lapm_link.specs.declared.negotiating.Talk.{Talk}
-use Rattle.lapm_link.specs.declared.negotiating.Talk.TheVariants as talks
 use Rattle.lapm_link.specs.declared.any_end.AnyEnd.{AnyEnd}
 use Rattle.lapm_link.specs.declared.any_end.AnyEnd.TheVariants as ends
 use Rattle.link_account.specs.Account.{Account, is_connected, delivers, after_delivery, takes_own, after_break_asked}

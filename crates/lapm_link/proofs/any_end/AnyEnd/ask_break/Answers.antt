@@ -16,7 +16,8 @@ returns-in-Connected c =
       answer = λ a h. let l = (links a h).beside in
           c.ask.ensures.answer a.own_breaks l.breaks_stand.own ∙ sym (takes-break c.args.turn a l.phase_is);
       account = λ a h. let l = links a h in
-          links-asked _ c.args.turn c.args.length a l.beside.phase_is (assumption (c.ask.ensures.stands a.own_breaks l.beside.breaks_stand.own));
+          links-asked _ c.args.turn c.args.length a l.beside.phase_is (assumption
+          (c.ask.ensures.stands a.own_breaks l.beside.breaks_stand.own));
       takes_nothing = record {
         taken_of = subst (λ (n : ℕ). c.in-Connected.end.receiver.taken ≤ n) (sym (ap taken_of c.in-Connected.is))
             (same-number c.in-Connected.end.receiver.taken);

@@ -1,4 +1,4 @@
-use Rattle.std.proofs.Common.{arith, ◌≡◌, ◌∙◌, ◌&&◌, ◌||◌, Bool, Result, Ok, Err, if◌then◌else◌, refl, sym, ap}
+use Rattle.std.proofs.Common.{arith, ◌≡◌, ◌∙◌, ◌&&◌, ◌||◌, Bool, Result, Ok, Err, if◌then◌else◌, sym, ap}
 use Rattle.std.proofs.lemmas.Result.{err_from_is_err_and}
 use Rattle.lapm_sender.specs.Outgoing.{replied, acknowledged}
 use Rattle.shared_terms.specs.declared.fault.LinkFault.{LinkFault}
@@ -63,4 +63,5 @@ returns-clause-becomes c = λ a h.
           (ap (λ r. r || polls) w.if-self.false ∙ ap (λ command. command && c.args.pf) w.if-command.false)
     ] in
     rw (sym by)
-    (goes_on _ _ c.on_number.new.self _ (c.in_ok-on_number.ensures.becomes a h) (λ b k. assumption (ap (λ (r : Bool). record owes { reply = r }) reply ∙ ap (λ (owes : Owes). record owes { reply = owes.reply || polls }) k.beside.owes_is)))
+    (goes_on _ _ c.on_number.new.self _ (c.in_ok-on_number.ensures.becomes a h) (λ b k. assumption (ap (λ
+    (r : Bool). record owes { reply = r }) reply ∙ ap (λ (owes : Owes). record owes { reply = owes.reply || polls }) k.beside.owes_is)))
