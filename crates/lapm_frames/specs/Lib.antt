@@ -5,3 +5,4 @@ pub mod Controls
 pub mod Seen
 pub mod Checked
 pub mod Sendable
+pub mod Arrivals

@@ -10,6 +10,7 @@
 
 mod address;
 mod arrived;
+mod arrives;
 mod checked;
 mod control;
 mod fault;
@@ -27,7 +28,8 @@ mod spelling;
 mod supervisory;
 mod unnumbered;
 
-pub use arrived::Arrived;
+pub use arrived::{Arrived, LentArrived};
+pub use arrives::Arrives;
 pub use checked::{CheckedParts, check_parts, read_checked, read_checked_lent, write_checked};
 pub use fault::{CheckedFault, FrameFault};
 pub use frame::Frame;

@@ -1,6 +1,5 @@
 -- What two ends agree on has room in both.
-use Rattle.std.proofs.Common.{◌≡◌, ℕ, ◌≤◌, min, Bool, true, false, arith, ◌&&◌}
-use Rattle.std.proofs.lemmas.Bool.{false≢true}
+use Rattle.std.proofs.Common.{◌≡◌, ℕ, ◌≤◌, min, Bool, true, arith, ◌&&◌}
 use Rattle.shared_terms.specs.declared.role.Role.{Role}
 use Rattle.shared_terms.specs.declared.role.Role.TheVariants.{Originator, Answerer}
 use Rattle.xid_params.specs.declared.offer.Offer.{Offer}
@@ -11,20 +10,16 @@ use Rattle.lapm_link.specs.Fits.{Fits, agreed_by}
 
 -- a window is at least one segment, at most what either end has, and at most 64 with SREJ
 low : (srej : Bool) (x y : ℕ) → 1 ≤ x → 1 ≤ y → 1 ≤ lowered srej (min x y)
-low true x y h k = omega arith
-low false x y h k = omega arith
+low q0 x y h k = grind (arith)
 
 first : (srej : Bool) (x y : ℕ) → lowered srej (min x y) ≤ x
-first true x y = omega arith
-first false x y = omega arith
+first q0 x y = grind (arith)
 
 second : (srej : Bool) (x y : ℕ) → lowered srej (min x y) ≤ y
-second true x y = omega arith
-second false x y = omega arith
+second q0 x y = grind (arith)
 
 few : (srej : Bool) (w : ℕ) → srej ≡ true → lowered srej w ≤ 64
-few true w e = omega arith
-few false w e = absurd (false≢true e)
+few q0 w e = grind (arith)
 
 by_role : (r : Role) (own theirs : Offer) (tries period : ℕ) → IsAllowed own → IsAllowed theirs
     → Fits (record { role = r; offer = own; tries = tries; period = period }) (agreed_by r own theirs)

@@ -11,20 +11,7 @@ use Rattle.lapm_link.specs.Stands.{IsUnlinked}
 pub moved : {setup : Setup} {answer : Option Answer} {a : Account} (p : Phase) (t : Terms) (due : Bool) (set count : ℕ)
     → IsUnlinked setup answer a
     → IsUnlinked setup answer (record a { phase = p; terms = t; wait = record a.wait { try = due; try_set = set; try_count = count } })
-moved p t due set count h = record {
-  setup_is = h.setup_is;
-  owes_is = h.owes_is;
-  numbered_is = h.numbered_is;
-  outgoing_is = h.outgoing_is;
-  incoming_is = h.incoming_is;
-  own_is = h.own_is;
-  their_is = h.their_is;
-  told_is = h.told_is;
-  poll_is = h.poll_is;
-  urgent_is = h.urgent_is;
-  timer_is = h.timer_is;
-  special_is = h.special_is;
-}
+moved p t due set count h = assumption
 
 -- the same setup and answer
 pub as_kept : {setup setup' : Setup} {answer answer' : Option Answer} (a : Account) → setup' ≡ setup → answer' ≡ answer

@@ -1,5 +1,5 @@
 -- What a step gives whose condition holds, and the end once it has been said.
-use Rattle.std.proofs.Common.{◌≡◌, ℕ, Bool, true, false, Option, Some, None, Result, Ok, Err, refl, ap}
+use Rattle.std.proofs.Common.{arith, ◌≡◌, ℕ, Bool, true, false, Option, Some, None, Result, Ok, Err, ap}
 use Rattle.xid_params.specs.declared.terms.Terms.{Terms}
 use Rattle.lapm_receiver.specs.Taking.{Taking}
 use Rattle.link_account.specs.declared.setup.Setup.{Setup}
@@ -29,22 +29,7 @@ pub polled : {setup : Setup} {terms : Terms} {receiver : Taking} {breaks : Break
     → LinksBeside setup terms receiver breaks owes wait numbered special a
     → LinksBeside setup terms receiver breaks owes (record wait { poll = false }) numbered special
     (record a { wait = record a.wait { poll = false } })
-polled h = record {
-  phase_is = h.phase_is;
-  setup_is = h.setup_is;
-  terms_are = h.terms_are;
-  numbered_is = h.numbered_is;
-  receiver_stands = h.receiver_stands;
-  breaks_stand = record {
-    own = h.breaks_stand.own;
-    their = h.breaks_stand.their;
-    told_within = h.breaks_stand.told_within;
-    given_is = h.breaks_stand.given_is;
-  };
-  owes_is = h.owes_is;
-  waits = record { poll_is = refl; urgent_is = h.waits.urgent_is; timer_is = h.waits.timer_is };
-  special_is = h.special_is;
-}
+polled h = assumption
 
 -- the reply is no longer due
 pub replied : {setup : Setup} {terms : Terms} {receiver : Taking} {breaks : Breaks} {owes : Owes} {wait : Wait} {numbered
@@ -52,83 +37,47 @@ pub replied : {setup : Setup} {terms : Terms} {receiver : Taking} {breaks : Brea
     → LinksBeside setup terms receiver breaks owes wait numbered special a
     → LinksBeside setup terms receiver breaks (record owes { reply = false }) wait numbered special
     (record a { owes = record a.owes { reply = false } })
-replied h = record {
-  phase_is = h.phase_is;
-  setup_is = h.setup_is;
-  terms_are = h.terms_are;
-  numbered_is = h.numbered_is;
-  receiver_stands = h.receiver_stands;
-  breaks_stand = record {
-    own = h.breaks_stand.own;
-    their = h.breaks_stand.their;
-    told_within = h.breaks_stand.told_within;
-    given_is = h.breaks_stand.given_is;
-  };
-  owes_is = ap (λ (owes : Owes). record owes { reply = false }) h.owes_is;
-  waits = record { poll_is = h.waits.poll_is; urgent_is = h.waits.urgent_is; timer_is = h.waits.timer_is };
-  special_is = h.special_is;
-}
+replied h = assumption (ap (λ (owes : Owes). record owes { reply = false }) h.owes_is)
 
 -- the last speaking is forgotten
 pub forgotten : {setup : Setup} {terms : Terms} {receiver : Taking} {breaks : Breaks} {owes : Owes} {wait : Wait} {numbered
     special : Bool} {a : Account}
     → LinksBeside setup terms receiver breaks owes wait numbered special a
     → LinksBeside setup terms receiver breaks owes wait numbered false (record a { special = false })
-forgotten h = record {
-  phase_is = h.phase_is;
-  setup_is = h.setup_is;
-  terms_are = h.terms_are;
-  numbered_is = h.numbered_is;
-  receiver_stands = h.receiver_stands;
-  breaks_stand = record {
-    own = h.breaks_stand.own;
-    their = h.breaks_stand.their;
-    told_within = h.breaks_stand.told_within;
-    given_is = h.breaks_stand.given_is;
-  };
-  owes_is = h.owes_is;
-  waits = record { poll_is = h.waits.poll_is; urgent_is = h.waits.urgent_is; timer_is = h.waits.timer_is };
-  special_is = refl;
-}
+forgotten h = assumption
 
 -- The first step that gives something is what is said.
 pub first : (end : Connected) (sent : Sent) (o : Option Said) (rest : Said) (a : Account) → Gives o a end (Some sent)
     → SaysLinked (else_says o rest) end sent
-first end sent None rest a h = absurd h
-first end sent (Some said) rest a h = h
+first end sent q2 rest a h = grind (arith)
 
 pub next : (end end' : Connected) (sent : Sent) (o : Option Said) (rest : Said) (a : Account) → Gives o a end None
     → (Links end a → SaysLinked rest end' sent)
     → SaysLinked (else_says o rest) end' sent
-next end end' sent None rest a h k = k h
-next end end' sent (Some said) rest a h k = absurd h
+next end end' sent q3 rest a h k = grind (arith)
 
 -- The timers come first: the second one breaks the link, or neither does.
 breaks_off : (end : Connected) (broken : LinkFault) (turn : ℕ) (special : Bool) (r : Result Account LinkFault) → Becomes r end (Err broken)
     → SpeaksLinked (after_timers turn special r) end (Err broken)
-breaks_off end broken turn special (Ok b) h = absurd h
-breaks_off end broken turn special (Err fault) h = h
+breaks_off end broken turn special q4 h = grind (arith)
 
 pub second_breaks : (end1 end2 : Connected) (broken : LinkFault) (turn : ℕ) (special : Bool) (r : Result Account LinkFault)
     → Becomes r end1 (Ok tt)
     → ((b : Account) → Links end1 b → Becomes (on_break_timer turn b) end2 (Err broken))
     → SpeaksLinked (after_timers turn special (then_tries turn r)) end2 (Err broken)
-second_breaks end1 end2 broken turn special (Err fault) h k = absurd h
-second_breaks end1 end2 broken turn special (Ok b) h k = breaks_off end2 broken turn special (on_break_timer turn b) (k b h)
+second_breaks end1 end2 broken turn special q5 h k = grind (arith)
 
 goes_on : (end end' : Connected) (sent : Sent) (turn : ℕ) (special : Bool) (r : Result Account LinkFault) → Becomes r end (Ok tt)
     → ((b : Account) → Links end b → SaysLinked (steps turn special (record b { special = false })) end' sent)
     → SpeaksLinked (after_timers turn special r) end' (Ok sent)
-goes_on end end' sent turn special (Ok b) h k = k b h
-goes_on end end' sent turn special (Err fault) h k = absurd h
+goes_on end end' sent turn special q5 h k = grind (arith)
 
 pub timers_pass : (end1 end2 end3 : Connected) (sent : Sent) (turn : ℕ) (special : Bool) (r : Result Account LinkFault)
     → Becomes r end1 (Ok tt)
     → ((b : Account) → Links end1 b → Becomes (on_break_timer turn b) end2 (Ok tt))
     → ((b : Account) → Links end2 b → SaysLinked (steps turn special (record b { special = false })) end3 sent)
     → SpeaksLinked (after_timers turn special (then_tries turn r)) end3 (Ok sent)
-timers_pass end1 end2 end3 sent turn special (Err fault) h k l = absurd h
-timers_pass end1 end2 end3 sent turn special (Ok b) h k l = goes_on end2 end3 sent turn special (on_break_timer turn b) (k b h) l
+timers_pass end1 end2 end3 sent turn special q6 h k l = grind (arith)
 
 -- An originator that is told to release speaks as one that releases.
 as_before : (before sent : Sent) (r : Result Said LinkFault) (result : Result AnyEnd Broken) (turn : ℕ) (a : Account)
@@ -137,10 +86,7 @@ as_before : (before sent : Sent) (r : Result Said LinkFault) (result : Result An
 as_before before sent (Ok said) (Ok end) turn a h = h
 as_before before sent (Err fault) (Err broken) turn a h = (
   h.0,
-  record {
-    fault_is = h.1.fault_is;
-    over = record { setup_is = h.1.over.setup_is; answer_is = h.1.over.answer_is; terms_are = h.1.over.terms_are };
-  },
+  assumption,
 )
 as_before before sent (Ok said) (Err broken) turn a h = absurd h
 as_before before sent (Err fault) (Ok end) turn a h = absurd h

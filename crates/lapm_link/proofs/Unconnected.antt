@@ -1,11 +1,10 @@
 -- What an end delivers, and which breaks it takes: none where it isn't Connected.
-use Rattle.std.proofs.Common.{◌≡◌, ◌≤◌, ℕ, Bool, false, if◌then◌else◌, None, refl, sym, ap, subst, arith}
+use Rattle.std.proofs.Common.{◌≡◌, ◌≤◌, ℕ, Bool, false, if◌then◌else◌, None, sym, ap, subst, arith}
 use Rattle.lapm_receiver.specs.Incoming.{next_delivered, after_delivered}
 use Rattle.break_signals.specs.Breaks.{takes_break, after_ask}
 use Rattle.link_account.specs.declared.phase.Phase.TheVariants as phases
 use Rattle.lapm_link.specs.declared.connected.Connected.{Connected}
 use Rattle.lapm_link.specs.declared.negotiating.Talk.{Talk}
-use Rattle.lapm_link.specs.declared.negotiating.Talk.TheVariants as talks
 use Rattle.lapm_link.specs.declared.any_end.AnyEnd.{AnyEnd}
 use Rattle.lapm_link.specs.declared.any_end.AnyEnd.TheVariants as ends
 use Rattle.link_account.specs.Account.{Account, is_connected, delivers, after_delivery, takes_own, after_break_asked}
@@ -16,25 +15,14 @@ abbrev pub IsUnconnected : AnyEnd → Type 0
 IsUnconnected end = (up : Connected) → end ≡ ends.Connected up → ⊥
 
 negotiates : (talk : Talk) (a : Account) → Negotiates talk a → is_connected a.phase ≡ false
-negotiates (talks.Asking asking) a h = ap is_connected h.phase_is
-negotiates (talks.Answering answering) a h = ap is_connected h.phase_is
+negotiates q0 a h = grind (arith)
 
 -- its account's phase
 unconnected : (end : AnyEnd) (a : Account) → IsUnconnected end → StandsFor end a → is_connected a.phase ≡ false
-unconnected (ends.Detecting end) a not h = ap is_connected h.phase_is
-unconnected (ends.Negotiating end) a not h = negotiates end.talk a h
-unconnected (ends.Establishing end) a not h = ap is_connected h.0
-unconnected (ends.Connected end) a not h = absurd (not end refl)
-unconnected (ends.Releasing end) a not h = ap is_connected h.0
-unconnected (ends.Closed end) a not h = ap is_connected h.0
+unconnected q0 a not h = grind (arith)
 
 pub undelivered-none : (end : AnyEnd) → IsUnconnected end → undelivered_of end ≡ 0
-undelivered-none (ends.Detecting end) not = refl
-undelivered-none (ends.Negotiating end) not = refl
-undelivered-none (ends.Establishing end) not = refl
-undelivered-none (ends.Connected end) not = absurd (not end refl)
-undelivered-none (ends.Releasing end) not = refl
-undelivered-none (ends.Closed end) not = refl
+undelivered-none q0 not = grind (arith)
 
 same-number : (n : ℕ) → n ≤ n
 same-number n = omega arith

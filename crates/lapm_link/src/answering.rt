@@ -8,7 +8,7 @@ ghost use Rattle.xid_params.specs.Terms.{agree};
 use crate::negotiating::{Negotiating, Talk};
 use crate::offers::offer_of;
 use crate::unlinked::{Agreed, Unlinked};
-use crate::{AnyEnd, Arrived, Sent};
+use crate::{AnyEnd, Arrives, LentArrived, Sent};
 use frame_check::Info;
 use lapm_frames::Frame;
 use link_account::Answer;
@@ -89,18 +89,18 @@ impl Answering {
         }
     }
 
-    pub(crate) fn hear(self, turn: u64, arrived: &Arrived) -> AnyEnd
-        ensures hears { (a : Account) → IsAnswering self a → Hears (hear turn arrived.now a) a (Ok result) }
+    pub(crate) fn hear<A: Arrives>(self, turn: u64, arrived: &A) -> AnyEnd
+        ensures hears { (a : Account) → IsAnswering self a → Hears (hear turn (A.arrival arrived.now) a) a (Ok result) }
         ensures counted { taken_of result ≡ 0 }
     {
-        match arrived {
-            Arrived::Nothing => {
+        match arrived.lent() {
+            LentArrived::Nothing => {
                 let mut answering = self;
                 answering.agreed.memory.hear_nothing();
                 answering.end()
             }
-            Arrived::Pattern(_) => self.end(),
-            Arrived::Frame(frame) => self.on_frame(frame, turn),
+            LentArrived::Pattern(_) => self.end(),
+            LentArrived::Frame(frame) => self.on_frame(frame, turn),
         }
     }
 

@@ -10,7 +10,7 @@ ghost use Rattle.lapm_link.specs.Stands.{StandsFor, Hears, Speaks, TakesNothing,
 ghost use Rattle.link_account.specs.Numbers.{IsNumbered};
 
 use crate::{
-    Arrived, Broken, Closed, Connected, Detecting, Establishing, Negotiating, Phase, Releasing,
+    Arrives, Broken, Closed, Connected, Detecting, Establishing, Negotiating, Phase, Releasing,
     Sent,
 };
 use frame_check::{Check, Info};
@@ -47,13 +47,13 @@ impl Drop for AnyEnd {
 
 impl AnyEnd {
     /// What the end becomes by what it hears in this turn. All that it took before is to be delivered and given first.
-    pub fn hear(self, turn: u64, arrived: &Arrived) -> Result<AnyEnd, Broken>
+    pub fn hear<A: Arrives>(self, turn: u64, arrived: &A) -> Result<AnyEnd, Broken>
         requires turn { turn < 2 ^ 40 }
-        requires numbers { IsNumbered arrived.now }
+        requires numbers { IsNumbered (A.arrival arrived.now) }
         requires counted { taken_of self < 2 ^ 56 }
         requires delivered { undelivered_of self ≡ 0 }
         requires given { waiting_of self ≡ None }
-        ensures hears { (a : Account) → StandsFor self a → Hears (hear turn arrived.now a) a result }
+        ensures hears { (a : Account) → StandsFor self a → Hears (hear turn (A.arrival arrived.now) a) a result }
         ensures counted { IfOk result (λ end. taken_of end ≤ taken_of self + 128) }
     {
         match self {

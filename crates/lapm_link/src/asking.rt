@@ -10,7 +10,7 @@ use crate::negotiating::{Negotiating, Talk};
 use crate::offers::{offer_of, spelled};
 use crate::terms::first_terms;
 use crate::unlinked::Unlinked;
-use crate::{AnyEnd, Arrived, Broken, LinkFault, Sent};
+use crate::{AnyEnd, Arrives, Broken, LentArrived, LinkFault, Sent};
 use frame_check::Info;
 use lapm_frames::Frame;
 
@@ -80,18 +80,18 @@ impl Asking {
         }
     }
 
-    pub(crate) fn hear(self, turn: u64, arrived: &Arrived) -> Result<AnyEnd, Broken>
-        ensures hears { (a : Account) → IsAsking self a → Hears (hear turn arrived.now a) a result }
+    pub(crate) fn hear<A: Arrives>(self, turn: u64, arrived: &A) -> Result<AnyEnd, Broken>
+        ensures hears { (a : Account) → IsAsking self a → Hears (hear turn (A.arrival arrived.now) a) a result }
         ensures counted { IfOk result (λ end. taken_of end ≡ 0) }
     {
-        match arrived {
-            Arrived::Nothing => {
+        match arrived.lent() {
+            LentArrived::Nothing => {
                 let mut asking = self;
                 asking.memory.hear_nothing();
                 Ok(asking.end())
             }
-            Arrived::Pattern(_) => Ok(self.end()),
-            Arrived::Frame(frame) => self.on_frame(frame, turn),
+            LentArrived::Pattern(_) => Ok(self.end()),
+            LentArrived::Frame(frame) => self.on_frame(frame, turn),
         }
     }
 

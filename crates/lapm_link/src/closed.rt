@@ -5,7 +5,7 @@ ghost use Rattle.lapm_link.specs.Fits.{IsSetUp};
 
 use crate::answer::{slot_of, without_adp};
 use crate::terms::first_terms;
-use crate::{AnyEnd, Arrived, LinkFault, Sent, Setup};
+use crate::{AnyEnd, Arrives, LentArrived, LinkFault, Sent, Setup};
 use lapm_frames::Frame;
 use link_account::Answer;
 use xid_params::Terms;
@@ -84,21 +84,21 @@ impl Closed {
     }
 
     /// What the end becomes by what it hears in this turn.
-    pub fn hear(self, turn: u64, arrived: &Arrived) -> Result<AnyEnd, Broken>
+    pub fn hear<A: Arrives>(self, turn: u64, arrived: &A) -> Result<AnyEnd, Broken>
         requires turn { turn < 2 ^ 40 }
-        requires numbers { IsNumbered arrived.now }
-        ensures hears { (a : Account) → StandsFor (AnyEnd.Closed self) a → Hears (hear turn arrived.now a) a result }
+        requires numbers { IsNumbered (A.arrival arrived.now) }
+        ensures hears { (a : Account) → StandsFor (AnyEnd.Closed self) a → Hears (hear turn (A.arrival arrived.now) a) a result }
         ensures counted { IfOk result (λ end. taken_of end ≡ 0) }
     {
         let _ = turn;
-        match arrived {
-            Arrived::Nothing => {
+        match arrived.lent() {
+            LentArrived::Nothing => {
                 let mut end = self;
                 end.answer = without_adp(end.answer);
                 Ok(AnyEnd::Closed(end))
             }
-            Arrived::Pattern(_) => Ok(AnyEnd::Closed(self)),
-            Arrived::Frame(frame) => Ok(self.on_frame(frame)),
+            LentArrived::Pattern(_) => Ok(AnyEnd::Closed(self)),
+            LentArrived::Frame(frame) => Ok(self.on_frame(frame)),
         }
     }
 

@@ -11,7 +11,7 @@ use crate::asking::Asking;
 use crate::offers::offer_of;
 use crate::terms::first_terms;
 use crate::unlinked::Unlinked;
-use crate::{AnyEnd, Arrived, Broken, LinkFault, Sent, Setup};
+use crate::{AnyEnd, Arrives, Broken, LentArrived, LinkFault, Sent, Setup};
 use frame_check::Info;
 use lapm_frames::{Frame, Seen};
 use link_account::Answer;
@@ -90,20 +90,20 @@ impl Detecting {
     }
 
     /// What the end becomes by what it hears in this turn.
-    pub fn hear(self, turn: u64, arrived: &Arrived) -> Result<AnyEnd, Broken>
+    pub fn hear<A: Arrives>(self, turn: u64, arrived: &A) -> Result<AnyEnd, Broken>
         requires turn { turn < 2 ^ 40 }
-        requires numbers { IsNumbered arrived.now }
-        ensures hears { (a : Account) → StandsFor (AnyEnd.Detecting self) a → Hears (hear turn arrived.now a) a result }
+        requires numbers { IsNumbered (A.arrival arrived.now) }
+        ensures hears { (a : Account) → StandsFor (AnyEnd.Detecting self) a → Hears (hear turn (A.arrival arrived.now) a) a result }
         ensures counted { IfOk result (λ end. taken_of end ≡ 0) }
     {
-        match arrived {
-            Arrived::Nothing => {
+        match arrived.lent() {
+            LentArrived::Nothing => {
                 let mut memory = self.memory;
                 memory.hear_nothing();
                 Ok(AnyEnd::Detecting(Detecting { memory }))
             }
-            Arrived::Pattern(seen) => Ok(self.on_pattern(*seen, turn)),
-            Arrived::Frame(frame) => match self.memory.setup.role {
+            LentArrived::Pattern(seen) => Ok(self.on_pattern(seen, turn)),
+            LentArrived::Frame(frame) => match self.memory.setup.role {
                 Role::Originator => Ok(AnyEnd::Detecting(self)),
                 Role::Answerer => Ok(self.answer(frame, turn)),
             },

@@ -4,7 +4,7 @@ ghost use Rattle.std.specs.Prelude.{◌≡◌, ◌<◌, ◌^◌, IfOk, OnErr};
 
 use crate::attempt::Attempt;
 use crate::unlinked::Agreed;
-use crate::{AnyEnd, Arrived, Broken, LinkFault, Sent};
+use crate::{AnyEnd, Arrives, Broken, LentArrived, LinkFault, Sent};
 use lapm_frames::Frame;
 
 /// An originator that sends its SABME until it is answered.
@@ -49,20 +49,20 @@ impl Establishing {
     }
 
     /// What the end becomes by what it hears in this turn.
-    pub fn hear(self, turn: u64, arrived: &Arrived) -> Result<AnyEnd, Broken>
+    pub fn hear<A: Arrives>(self, turn: u64, arrived: &A) -> Result<AnyEnd, Broken>
         requires turn { turn < 2 ^ 40 }
-        requires numbers { IsNumbered arrived.now }
-        ensures hears { (a : Account) → StandsFor (AnyEnd.Establishing self) a → Hears (hear turn arrived.now a) a result }
+        requires numbers { IsNumbered (A.arrival arrived.now) }
+        ensures hears { (a : Account) → StandsFor (AnyEnd.Establishing self) a → Hears (hear turn (A.arrival arrived.now) a) a result }
         ensures counted { IfOk result (λ end. taken_of end ≡ 0) }
     {
-        match arrived {
-            Arrived::Nothing => {
+        match arrived.lent() {
+            LentArrived::Nothing => {
                 let mut end = self;
                 end.agreed.memory.hear_nothing();
                 Ok(AnyEnd::Establishing(end))
             }
-            Arrived::Pattern(_) => Ok(AnyEnd::Establishing(self)),
-            Arrived::Frame(frame) => self.on_frame(frame, turn),
+            LentArrived::Pattern(_) => Ok(AnyEnd::Establishing(self)),
+            LentArrived::Frame(frame) => self.on_frame(frame, turn),
         }
     }
 

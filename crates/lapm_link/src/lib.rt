@@ -2,7 +2,7 @@
 //! each turn an end hears and then speaks.
 //!
 //! The states are types of their own, and each moves into the next one. The central types are [`AnyEnd`], an end in any of them;
-//! [`Arrived`], what it hears; [`Sent`], what it sends; and [`Broken`], why a link ended.
+//! [`Arrived`], what it hears, and [`Arrives`], any type that says it; [`Sent`], what it sends; and [`Broken`], why a link ended.
 #![tactic(auto)]
 
 mod answer;
@@ -31,7 +31,7 @@ pub use closed::{Broken, Closed};
 pub use connected::Connected;
 pub use detecting::Detecting;
 pub use establishing::Establishing;
-pub use lapm_frames::{Arrived, Seen, Sent};
+pub use lapm_frames::{Arrived, Arrives, LentArrived, Seen, Sent};
 pub use link_account::{LinkFault, Phase, Setup};
 pub use negotiating::Negotiating;
 pub use releasing::Releasing;

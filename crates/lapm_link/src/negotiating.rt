@@ -4,7 +4,7 @@ ghost use Rattle.std.specs.Prelude.{◌≡◌, ◌<◌, ◌^◌, IfOk, OnErr};
 
 use crate::answering::Answering;
 use crate::asking::Asking;
-use crate::{AnyEnd, Arrived, Broken, Sent};
+use crate::{AnyEnd, Arrives, Broken, Sent};
 
 /// An end that negotiates: the originator sends its offer until the other one comes, and the answerer has heard one.
 #[derive(Drop)]
@@ -44,10 +44,10 @@ impl Negotiating {
     ghost use Rattle.link_account.specs.Numbers.{IsNumbered};
 
     /// What the end becomes by what it hears in this turn.
-    pub fn hear(self, turn: u64, arrived: &Arrived) -> Result<AnyEnd, Broken>
+    pub fn hear<A: Arrives>(self, turn: u64, arrived: &A) -> Result<AnyEnd, Broken>
         requires turn { turn < 2 ^ 40 }
-        requires numbers { IsNumbered arrived.now }
-        ensures hears { (a : Account) → StandsFor (AnyEnd.Negotiating self) a → Hears (hear turn arrived.now a) a result }
+        requires numbers { IsNumbered (A.arrival arrived.now) }
+        ensures hears { (a : Account) → StandsFor (AnyEnd.Negotiating self) a → Hears (hear turn (A.arrival arrived.now) a) a result }
         ensures counted { IfOk result (λ end. taken_of end ≡ 0) }
     {
         match self.talk {

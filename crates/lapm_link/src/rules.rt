@@ -9,7 +9,7 @@ ghost use Rattle.break_signals.specs.Words.{word_in};
 use crate::answer::without_adp;
 use crate::connected::Connected;
 use crate::number::{Meaning, Readiness, heard};
-use crate::{AnyEnd, Arrived, Broken, Closed, LinkFault};
+use crate::{AnyEnd, Arrives, Broken, Closed, LentArrived, LinkFault};
 use break_signals::{BreakWord, read_break};
 use frame_check::Info;
 use lapm_frames::Frame;
@@ -316,23 +316,23 @@ impl Connected {
 
     /// What the end becomes by what it hears in this turn. It breaks where an N(R) is of no number that was sent, and where the other
     /// end begins anew or refuses.
-    pub fn hear(self, turn: u64, arrived: &Arrived) -> Result<AnyEnd, Broken>
+    pub fn hear<A: Arrives>(self, turn: u64, arrived: &A) -> Result<AnyEnd, Broken>
         requires turn { turn < 2 ^ 40 }
-        requires numbers { IsNumbered arrived.now }
+        requires numbers { IsNumbered (A.arrival arrived.now) }
         requires counted { taken_of (AnyEnd.Connected self) < 2 ^ 56 }
         requires delivered { undelivered_of (AnyEnd.Connected self) ≡ 0 }
         requires given { waiting_of (AnyEnd.Connected self) ≡ None }
-        ensures hears { (a : Account) → StandsFor (AnyEnd.Connected self) a → Hears (hear turn arrived.now a) a result }
+        ensures hears { (a : Account) → StandsFor (AnyEnd.Connected self) a → Hears (hear turn (A.arrival arrived.now) a) a result }
         ensures counted { IfOk result (λ end. taken_of end ≤ taken_of (AnyEnd.Connected self) + 128) }
     {
-        match arrived {
-            Arrived::Nothing => {
+        match arrived.lent() {
+            LentArrived::Nothing => {
                 let mut end = self;
                 end.owes.answer = without_adp(end.owes.answer);
                 Ok(AnyEnd::Connected(end))
             }
-            Arrived::Pattern(_) => Ok(AnyEnd::Connected(self)),
-            Arrived::Frame(frame) => self.on_frame(turn, frame),
+            LentArrived::Pattern(_) => Ok(AnyEnd::Connected(self)),
+            LentArrived::Frame(frame) => self.on_frame(turn, frame),
         }
     }
 }

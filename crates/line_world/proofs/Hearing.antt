@@ -101,37 +101,29 @@ hears-well laws c files ts ends heard limits run h = record { orig = well Origin
         (runs-over laws.play laws.delays laws.carried c files ts ends limits run) (laws.one c ts t in-turn)
 
 -- what both ends are once they have heard
-both-of : (ends : Accounts) (turn : ℕ) (heard : Both Heard) (mid : Accounts) (to_orig to_answ : Arrived) (number : ℕ) → number ≡ turn
-    → to_orig ≡ arrival heard.orig → to_answ ≡ arrival heard.answ
-    → hear number to_orig ends.orig ≡ Ok mid.orig → hear number to_answ ends.answ ≡ Ok mid.answ
+both-of : (ends : Accounts) (turn : ℕ) (heard : Both Heard) (mid : Accounts) (number : ℕ) → number ≡ turn
+    → hear number (arrival heard.orig) ends.orig ≡ Ok mid.orig → hear number (arrival heard.answ) ends.answ ≡ Ok mid.answ
     → (role : Role) → hear turn (arrival (of role heard)) (of role ends) ≡ Ok (of role mid)
-both-of ends turn heard mid to_orig to_answ number n o a ho ha Originator =
-    ap (λ t. hear t (arrival heard.orig) ends.orig) (sym n) ∙ ap (λ x. hear number x ends.orig) (sym o) ∙ ho
-both-of ends turn heard mid to_orig to_answ number n o a ho ha Answerer =
-    ap (λ t. hear t (arrival heard.answ) ends.answ) (sym n) ∙ ap (λ x. hear number x ends.answ) (sym a) ∙ ha
+both-of ends turn heard mid number n ho ha Originator = rw (← n) ho
+both-of ends turn heard mid number n ho ha Answerer = rw (← n) ha
 
-pub record Hearing (m : Modems) (files : Both (List ℕ)) (ends : Accounts) (heard : Both Heard) (turn : ℕ) (to_orig to_answ : Arrived)
-    : Type 0 where
-  pub orig_is : to_orig ≡ arrival heard.orig
-  pub answ_is : to_answ ≡ arrival heard.answ
-  pub hears : HearsBoth m.link files ends turn to_orig to_answ
+pub record Hearing (m : Modems) (files : Both (List ℕ)) (ends : Accounts) (heard : Both Heard) (turn : ℕ) : Type 0 where
+  pub hears : HearsBoth m.link files ends turn (arrival heard.orig) (arrival heard.answ)
   pub checks : (role : Role) → of role m.heard_by ≡ check_of (of role hears.mid)
 
 pub has-heard : (old m : Modems) (l : Lines) (c : Wire) (links : ℕ) (streams : Both (List Carried)) (files : Both (List ℕ)) (ts : List Turn)
-    (ends : Accounts) (heard : Both Heard) (to_orig to_answ : Arrived)
+    (ends : Accounts) (heard : Both Heard)
     → ModemsAfter old c files ts ends → m.turn ≡ old.turn → IsHeardBy c ts ends heard → HaveArrived l c links streams
-    → Hearing m files ends heard old.turn to_orig to_answ → TalliesHeard m.tally ts ends heard
+    → Hearing m files ends heard old.turn → TalliesHeard m.tally ts ends heard
     → HasHeard m l c links streams files ts ends heard
-has-heard old m l c links streams files ts ends heard to_orig to_answ h number a arrived hearing tally = record {
+has-heard old m l c links streams files ts ends heard h number a arrived hearing tally = record {
   mid = hearing.hears.mid;
   stands = record {
     overhears = record {
       run = h.run;
       heard_of = a.heard_of;
       well = a.well;
-      hears = both-of ends (length ts) heard hearing.hears.mid to_orig to_answ old.turn h.turn hearing.orig_is hearing.answ_is
-          hearing.hears.orig
-          hearing.hears.answ;
+      hears = both-of ends (length ts) heard hearing.hears.mid old.turn h.turn hearing.hears.orig hearing.hears.answ;
     };
     link = hearing.hears.stands;
     turn = number ∙ h.turn;

@@ -17,7 +17,6 @@ mod direction;
 mod directions;
 mod end_coder;
 mod fault;
-mod heard;
 pub mod laws;
 mod lines;
 mod link;
@@ -36,7 +35,6 @@ mod world;
 
 pub use direction::DelayedLine;
 pub use directions::{Directions, LineEnd, slot_symbols};
-use heard::arrived;
 pub use line_run::Names;
 pub use line_texts::{TraceLine, write_frame_text, write_line, write_parts};
 pub use lines::Lines;

@@ -12,7 +12,7 @@ ghost use Rattle.lapm_frames.specs.Sendable.{IsSendable};
 ghost use Rattle.link_account.specs.Numbers.{IsNumbered};
 ghost use Rattle.link_account.specs.Account.{Account, fresh, after_given, after_busy, given_break, check_of};
 ghost use Rattle.link_run.specs.End.{delivered, asked, is_busy, is_closed, is_released, has_finished};
-ghost use Rattle.link_run.specs.Run.{Accounts, both_finished, start};
+ghost use Rattle.link_run.specs.Run.{Accounts, arrival, both_finished, start};
 ghost use Rattle.line_run.specs.Scripted.{setup_of, breaks_of, busy_of, party_of, link_of};
 ghost use Rattle.line_world.specs.Station.{Stands, IsIdle, IsCounted};
 ghost use Rattle.line_run.specs.Names.{inputs_of, outputs_of, written};
@@ -21,7 +21,8 @@ ghost use Rattle.link_account.specs.Hear.{hear};
 
 use crate::Station;
 use frame_check::Check;
-use lapm_link::{Arrived, LinkFault, Phase, Sent, Setup};
+use lapm_frames::Heard;
+use lapm_link::{LinkFault, Phase, Sent, Setup};
 use line_run::Names;
 use line_run::laws::scripts_make_links;
 use noise_script::Script;
@@ -108,16 +109,16 @@ fn is_finished(station: &Station, script: &Script, role: Role, turn: u64) -> boo
 }
 
 /// An end hears what an own end sent, which breaks no link.
-fn hear_well(station: &mut Station, turn: u64, arrived: &Arrived)
+fn hear_well(station: &mut Station, turn: u64, heard: &Heard)
     requires turn { turn < 2 ^ 40 }
-    requires numbers { IsNumbered arrived.now }
+    requires numbers { IsNumbered (arrival heard.now) }
     requires idle { IsIdle station.old }
     requires counted { IsCounted station.old turn turn }
-    requires well { (file : List ℕ) × (a : Account) × Stands station.old file a × (is_ok (hear turn arrived.now a) ≡ true) }
-    ensures hears { (file : List ℕ) (a : Account) → Stands station.old file a → is_ok (hear turn arrived.now a) ≡ true → HearsOn station.new file a turn arrived.now }
+    requires well { (file : List ℕ) × (a : Account) × Stands station.old file a × (is_ok (hear turn (arrival heard.now) a) ≡ true) }
+    ensures hears { (file : List ℕ) (a : Account) → Stands station.old file a → is_ok (hear turn (arrival heard.now) a) ≡ true → HearsOn station.new file a turn (arrival heard.now) }
     ensures counted { IsCounted station.new (turn + 1) turn }
 {
-    match station.hear(turn, arrived) {
+    match station.hear(turn, heard) {
         Ok(()) => {}
         Err(_) => unreachable!(),
     }
@@ -150,19 +151,19 @@ impl Link {
     }
 
     /// Both ends hear.
-    pub fn hear(&mut self, turn: u64, to_orig: &Arrived, to_answ: &Arrived)
+    pub fn hear(&mut self, turn: u64, heard: &Both<Heard>)
         requires turn { turn < 2 ^ 40 }
-        requires orig_numbers { IsNumbered to_orig.now }
-        requires answ_numbers { IsNumbered to_answ.now }
+        requires orig_numbers { IsNumbered (arrival heard.now.orig) }
+        requires answ_numbers { IsNumbered (arrival heard.now.answ) }
         requires idle { AreIdle self.old }
         requires counted { AreCounted self.old turn turn }
-        requires well { (files : Both (List ℕ)) × (ends : Accounts) × LinkStands self.old files ends × HearsWell ends turn to_orig.now to_answ.now }
-        ensures hears { (files : Both (List ℕ)) (ends : Accounts) → LinkStands self.old files ends → HearsWell ends turn to_orig.now to_answ.now
-            → HearsBoth self.new files ends turn to_orig.now to_answ.now }
+        requires well { (files : Both (List ℕ)) × (ends : Accounts) × LinkStands self.old files ends × HearsWell ends turn (arrival heard.now.orig) (arrival heard.now.answ) }
+        ensures hears { (files : Both (List ℕ)) (ends : Accounts) → LinkStands self.old files ends → HearsWell ends turn (arrival heard.now.orig) (arrival heard.now.answ)
+            → HearsBoth self.new files ends turn (arrival heard.now.orig) (arrival heard.now.answ) }
         ensures counted { AreCounted self.new (turn + 1) turn }
     {
-        hear_well(&mut self.orig, turn, to_orig);
-        hear_well(&mut self.answ, turn, to_answ);
+        hear_well(&mut self.orig, turn, &heard.orig);
+        hear_well(&mut self.answ, turn, &heard.answ);
     }
 
     /// What both ends took is appended to the received files, the originator's first.

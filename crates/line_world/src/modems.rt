@@ -121,8 +121,7 @@ impl Modems {
             Err(end) => return Err(end),
         };
         self.tally.hear(&heard);
-        self.link
-            .hear(self.turn, &arrived(&heard.orig), &arrived(&heard.answ));
+        self.link.hear(self.turn, &heard);
         self.heard_by = self.link.checks();
         Ok(heard)
     }

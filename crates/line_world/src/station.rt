@@ -4,7 +4,7 @@ ghost use Rattle.lapm_link.specs.Fits.{IsSetUp};
 
 use crate::segment::read_segment;
 use frame_check::{Check, INFO, Info};
-use lapm_link::{AnyEnd, Arrived, Broken, Closed, Detecting, LinkFault, Phase, Sent, Setup};
+use lapm_link::{AnyEnd, Arrives, Broken, Closed, Detecting, LinkFault, Phase, Sent, Setup};
 use link_run::laws::{
     pieces_are_offered_until_none_is_wanted, segments_are_offered_as_they_are_read,
 };
@@ -91,12 +91,12 @@ impl Station {
     }
 
     /// Hears what arrives. After a fault the end is closed and owes nothing, and its user's breaks are counted as before.
-    pub fn hear(&mut self, turn: u64, arrived: &Arrived) -> Result<(), LinkFault>
+    pub fn hear<A: Arrives>(&mut self, turn: u64, arrived: &A) -> Result<(), LinkFault>
         requires turn { turn < 2 ^ 40 }
-        requires numbers { IsNumbered arrived.now }
+        requires numbers { IsNumbered (A.arrival arrived.now) }
         requires idle { IsIdle self.old }
         requires counted { IsCounted self.old turn turn }
-        ensures hears { (file : List ℕ) (a : Account) → Stands self.old file a → HearsAs (hear turn arrived.now a) file self.new result }
+        ensures hears { (file : List ℕ) (a : Account) → Stands self.old file a → HearsAs (hear turn (A.arrival arrived.now) a) file self.new result }
         ensures counted { OnOk result (IsCounted self.new (turn + 1) turn) }
         ensures over { OnErr result ((file : List ℕ) (a : Account) → Stands self.old file a → Stands self.new file (given_up a)) }
     {

@@ -5,11 +5,9 @@ use Rattle.std.specs.Prelude.{is_some}
 use Rattle.shared_terms.specs.declared.role.Role.{Role}
 use Rattle.shared_terms.specs.declared.role.Role.TheVariants.{Originator, Answerer}
 use Rattle.lapm_receiver.specs.Incoming.{next_expected}
-use Rattle.lapm_frames.specs.declared.seen.Seen.TheVariants as seen
-use Rattle.lapm_frames.specs.declared.arrived.Arrived.{Arrived}
 use Rattle.lapm_frames.specs.declared.arrived.Arrived.TheVariants as arrivals
 use Rattle.lapm_frames.specs.declared.sent.Sent.{Sent}
-use Rattle.lapm_frames.specs.declared.sent.Sent.TheVariants as slots
+pub use Rattle.lapm_frames.specs.Arrivals.{arrives}
 use Rattle.shared_terms.specs.declared.fault.LinkFault.{LinkFault}
 use Rattle.link_account.specs.Account.{Account, wants, piece_size, after_offer, after_delivery, after_break_asked, after_given, after_busy}
 use Rattle.link_account.specs.Hear.{hear}
@@ -20,14 +18,6 @@ pub record Slot : Type 0 where
   pub sent : Sent
   pub number : ℕ
   pub told : ℕ
-
--- what the hearer of a slot hears
-abbrev pub arrives : Sent → Arrived
-arrives slots.Mark = arrivals.Nothing
-arrives slots.Odp = arrivals.Pattern seen.Odp
-arrives slots.Adp = arrivals.Pattern seen.Adp
-arrives slots.Flags = arrivals.Nothing
-arrives (slots.Frame frame) = arrivals.Frame frame
 
 -- one end, what it has sent that hasn't arrived, the oldest first, and its fault where it has one
 pub record Side : Type 0 where

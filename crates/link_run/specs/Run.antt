@@ -5,17 +5,14 @@ use Rattle.frame_check.specs.declared.check.Check.{Check}
 use Rattle.shared_terms.specs.declared.role.Role.{Role}
 use Rattle.shared_terms.specs.declared.role.Role.TheVariants.{Originator, Answerer}
 use Rattle.shared_terms.specs.Both.{Both, of}
-use Rattle.lapm_frames.specs.declared.arrived.Arrived.{Arrived}
-use Rattle.lapm_frames.specs.declared.arrived.Arrived.TheVariants as arrivals
 use Rattle.lapm_frames.specs.declared.sent.Sent.{Sent}
 use Rattle.lapm_frames.specs.declared.heard.Heard.{Heard}
-use Rattle.lapm_frames.specs.declared.heard.Heard.TheVariants.{Nothing, Passed, Lost, Chance}
+pub use Rattle.lapm_frames.specs.Arrivals.{arrival}
 use Rattle.shared_terms.specs.declared.fault.LinkFault.{LinkFault}
 use Rattle.link_account.specs.declared.setup.Setup.{Setup}
 use Rattle.link_account.specs.Account.{Account, fresh, given_break, check_of}
 use Rattle.link_account.specs.Hear.{hear}
 use Rattle.link_account.specs.Speak.{Said, speak}
-use Rattle.link_account.specs.Play.{arrives}
 use Rattle.link_run.specs.End.{User, Served, served, is_released, is_closed, has_finished}
 
 -- an end as a run begins, with its user
@@ -51,13 +48,6 @@ pub record Side : Type 0 where
 -- both ends in a turn
 abbrev pub Turn : Type 0
 Turn = Both Side
-
--- what an end hears of a slot
-abbrev pub arrival : Heard → Arrived
-arrival Nothing = arrivals.Nothing
-arrival (Passed s) = arrives s
-arrival (Lost s) = arrivals.Nothing
-arrival Chance = arrivals.Nothing
 
 -- An end hears in a turn, and its user is given a break that came.
 pub record HearsAt (turn : ℕ) (before : Account) (s : Side) (mid : Account) : Type 0 where

@@ -16,25 +16,8 @@ returns-in-Connected c =
       answer = λ a h. let l = (links a h).beside in
           c.ask.ensures.answer a.own_breaks l.breaks_stand.own ∙ sym (takes-break c.args.turn a l.phase_is);
       account = λ a h. let l = links a h in
-          links-asked _ c.args.turn c.args.length a l.beside.phase_is (record {
-            sender_stands = l.sender_stands;
-            beside = record {
-              phase_is = l.beside.phase_is;
-              setup_is = l.beside.setup_is;
-              terms_are = l.beside.terms_are;
-              numbered_is = l.beside.numbered_is;
-              receiver_stands = l.beside.receiver_stands;
-              breaks_stand = record {
-                own = c.ask.ensures.stands a.own_breaks l.beside.breaks_stand.own;
-                their = l.beside.breaks_stand.their;
-                told_within = l.beside.breaks_stand.told_within;
-                given_is = l.beside.breaks_stand.given_is;
-              };
-              owes_is = l.beside.owes_is;
-              waits = record { poll_is = l.beside.waits.poll_is; urgent_is = l.beside.waits.urgent_is; timer_is = l.beside.waits.timer_is };
-              special_is = l.beside.special_is;
-            };
-          });
+          links-asked _ c.args.turn c.args.length a l.beside.phase_is (assumption
+          (c.ask.ensures.stands a.own_breaks l.beside.breaks_stand.own));
       takes_nothing = record {
         taken_of = subst (λ (n : ℕ). c.in-Connected.end.receiver.taken ≤ n) (sym (ap taken_of c.in-Connected.is))
             (same-number c.in-Connected.end.receiver.taken);

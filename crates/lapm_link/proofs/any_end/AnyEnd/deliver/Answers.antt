@@ -20,8 +20,7 @@ fewer-ready true (first ∷ old) new left is = subst (λ (xs : List (List ℕ)).
     less xs = omega arith
 
 no-more : (old : List (List ℕ)) → length (drop 1 old) ≤ length old
-no-more [] = omega arith
-no-more (first ∷ old) = omega arith
+no-more q0 = grind (arith)
 
 same-number : (n : ℕ) → n ≤ n
 same-number n = omega arith
@@ -40,25 +39,7 @@ returns-in-Connected c =
       segment = λ a segment h e. let l = (links a h).beside in
           c.deliver.ensures.segment a.incoming segment l.receiver_stands (sym (delivers-next a l.phase_is) ∙ e);
       account = λ a h. let l = links a h in
-          links-delivered _ a l.beside.phase_is (record {
-            sender_stands = l.sender_stands;
-            beside = record {
-              phase_is = l.beside.phase_is;
-              setup_is = l.beside.setup_is;
-              terms_are = l.beside.terms_are;
-              numbered_is = l.beside.numbered_is;
-              receiver_stands = c.deliver.ensures.stands a.incoming l.beside.receiver_stands;
-              breaks_stand = record {
-                own = l.beside.breaks_stand.own;
-                their = l.beside.breaks_stand.their;
-                told_within = l.beside.breaks_stand.told_within;
-                given_is = l.beside.breaks_stand.given_is;
-              };
-              owes_is = l.beside.owes_is;
-              waits = record { poll_is = l.beside.waits.poll_is; urgent_is = l.beside.waits.urgent_is; timer_is = l.beside.waits.timer_is };
-              special_is = l.beside.special_is;
-            };
-          });
+          links-delivered _ a l.beside.phase_is (assumption (c.deliver.ensures.stands a.incoming l.beside.receiver_stands));
       unchanged = c.deliver.ensures.out_unchanged;
       delivered = c.deliver.ensures.empty;
       fewer = subst (λ (n : ℕ). OnTrue c.deliver.result (length c.deliver.new.self.ready < n)) (sym (ap undelivered_of c.in-Connected.is))

@@ -1,24 +1,19 @@
-use Rattle.std.proofs.Common.{subst}
-use Rattle.lapm_link.specs.declared.any_end.AnyEnd.{AnyEnd}
-use Rattle.lapm_link.specs.Stands.{StandsFor}
 use Rattle.lapm_link.proofs.any_end.AnyEnd.hear.Goals as goal
 
 pub returns-in-Detecting-clause-hears : goal.returns-in-Detecting-clause-hears
-returns-in-Detecting-clause-hears c = λ a h. c.hear.ensures.hears a (subst (λ (v : AnyEnd). StandsFor v a) c.in-Detecting.is h)
+returns-in-Detecting-clause-hears g c = rw c.in-Detecting.is c.hear.ensures.hears
 
 pub returns-in-Negotiating-clause-hears : goal.returns-in-Negotiating-clause-hears
-returns-in-Negotiating-clause-hears c =
-    λ a h. c.hear-in-Negotiating.ensures.hears a (subst (λ (v : AnyEnd). StandsFor v a) c.in-Negotiating.is h)
+returns-in-Negotiating-clause-hears g c = rw c.in-Negotiating.is c.hear-in-Negotiating.ensures.hears
 
 pub returns-in-Establishing-clause-hears : goal.returns-in-Establishing-clause-hears
-returns-in-Establishing-clause-hears c =
-    λ a h. c.hear-in-Establishing.ensures.hears a (subst (λ (v : AnyEnd). StandsFor v a) c.in-Establishing.is h)
+returns-in-Establishing-clause-hears g c = rw c.in-Establishing.is c.hear-in-Establishing.ensures.hears
 
 pub returns-in-Connected-clause-hears : goal.returns-in-Connected-clause-hears
-returns-in-Connected-clause-hears c = λ a h. c.hear-in-Connected.ensures.hears a (subst (λ (v : AnyEnd). StandsFor v a) c.in-Connected.is h)
+returns-in-Connected-clause-hears g c = rw c.in-Connected.is c.hear-in-Connected.ensures.hears
 
 pub returns-in-Releasing-clause-hears : goal.returns-in-Releasing-clause-hears
-returns-in-Releasing-clause-hears c = λ a h. c.hear-in-Releasing.ensures.hears a (subst (λ (v : AnyEnd). StandsFor v a) c.in-Releasing.is h)
+returns-in-Releasing-clause-hears g c = rw c.in-Releasing.is c.hear-in-Releasing.ensures.hears
 
 pub returns-in-Closed-clause-hears : goal.returns-in-Closed-clause-hears
-returns-in-Closed-clause-hears c = λ a h. c.hear-in-Closed.ensures.hears a (subst (λ (v : AnyEnd). StandsFor v a) c.in-Closed.is h)
+returns-in-Closed-clause-hears g c = rw c.in-Closed.is c.hear-in-Closed.ensures.hears

@@ -15,29 +15,11 @@ use Rattle.lapm_link.proofs.asking.Asking.speak.Goals as goal
 -- an end that tries its offer again still asks
 asks : (asking : Asking) (attempt : Attempt) (a b : Account) → IsAsking asking a → Tries attempt b → b ≡ retried b a
     → IsAsking (record asking { attempt = attempt }) b
-asks asking attempt a b h tries e = subst (λ (x : Account). IsAsking (record asking { attempt = attempt }) x) (sym e) (record {
-  phase_is = h.phase_is;
-  originates = h.originates;
-  unlinked = unlinked;
-  terms_are = h.terms_are;
-  tries = record { due_is = tries.due_is; set_is = tries.set_is; left_is = tries.left_is ∙ ap (λ (x : Account). x.setup.tries) e };
-})
+asks asking attempt a b h tries e = subst (λ (x : Account). IsAsking (record asking { attempt = attempt }) x) (sym e) (assumption (unlinked,
+    tries.left_is ∙ ap (λ (x : Account). x.setup.tries) e))
   where
     unlinked : IsUnlinked asking.memory.setup asking.memory.answer (retried b a)
-    unlinked = let u = h.unlinked in record {
-      setup_is = u.setup_is;
-      owes_is = u.owes_is;
-      numbered_is = u.numbered_is;
-      outgoing_is = u.outgoing_is;
-      incoming_is = u.incoming_is;
-      own_is = u.own_is;
-      their_is = u.their_is;
-      told_is = u.told_is;
-      poll_is = u.poll_is;
-      urgent_is = u.urgent_is;
-      timer_is = u.timer_is;
-      special_is = u.special_is;
-    }
+    unlinked = let u = h.unlinked in assumption
 
 spoken : (r : Result Said LinkFault) (asking : Asking) (attempt : Attempt) (a : Account) (before sent : Sent) (end : AnyEnd)
     → IsAsking asking a

@@ -1,4 +1,4 @@
-use Rattle.std.proofs.Common.{◌≡◌, ◌∙◌, ◌&&◌, ◌||◌, Bool, Result, Ok, Err, if◌then◌else◌, refl, sym, ap}
+use Rattle.std.proofs.Common.{arith, ◌≡◌, ◌∙◌, ◌&&◌, ◌||◌, Bool, Result, Ok, Err, if◌then◌else◌, sym, ap}
 use Rattle.std.proofs.lemmas.Result.{err_from_is_err_and}
 use Rattle.lapm_sender.specs.Outgoing.{replied, acknowledged}
 use Rattle.shared_terms.specs.declared.fault.LinkFault.{LinkFault}
@@ -15,8 +15,7 @@ use Rattle.lapm_link.proofs.connected.Connected.on_rnr.Goals.{else-self+else-com
 -- a refused number stays refused
 refused : (f : Account → Account) (r : Result Account LinkFault) (end : Connected) (fault : LinkFault) → Becomes r end (Err fault)
     → Becomes (then_in f r) end (Err fault)
-refused f (Ok a) end fault h = absurd h
-refused f (Err other) end fault h = h
+refused f q1 end fault h = grind (arith)
 
 pub returns-in_err-on_number-clause-becomes : goal.returns-in_err-on_number-clause-becomes
 returns-in_err-on_number-clause-becomes c = λ a h.
@@ -38,8 +37,7 @@ returns-in_err-on_number-clause-becomes c = λ a h.
 goes_on : (f : Account → Account) (r : Result Account LinkFault) (end end' : Connected) → Becomes r end (Ok tt)
     → ((b : Account) → Links end b → Links end' (f b))
     → Becomes (then_in f r) end' (Ok tt)
-goes_on f (Ok a) end end' h k = k a h
-goes_on f (Err other) end end' h k = absurd h
+goes_on f q1 end end' h k = grind (arith)
 
 pub returns-clause-becomes : goal.returns-clause-becomes
 returns-clause-becomes c = λ a h.
@@ -65,24 +63,5 @@ returns-clause-becomes c = λ a h.
           (ap (λ r. r || polls) w.if-self.false ∙ ap (λ command. command && c.args.pf) w.if-command.false)
     ] in
     rw (sym by)
-    (goes_on _ _ c.on_number.new.self _ (c.in_ok-on_number.ensures.becomes a h) (λ b k. record {
-      sender_stands = k.sender_stands;
-      beside = record {
-        phase_is = k.beside.phase_is;
-        setup_is = k.beside.setup_is;
-        terms_are = k.beside.terms_are;
-        numbered_is = k.beside.numbered_is;
-        receiver_stands = k.beside.receiver_stands;
-        breaks_stand = record {
-          own = k.beside.breaks_stand.own;
-          their = k.beside.breaks_stand.their;
-          told_within = k.beside.breaks_stand.told_within;
-          given_is = k.beside.breaks_stand.given_is;
-        };
-        owes_is =
-            ap (λ (r : Bool). record owes { reply = r }) reply
-            ∙ ap (λ (owes : Owes). record owes { reply = owes.reply || polls }) k.beside.owes_is;
-        waits = record { poll_is = k.beside.waits.poll_is; urgent_is = k.beside.waits.urgent_is; timer_is = refl };
-        special_is = k.beside.special_is;
-      };
-    }))
+    (goes_on _ _ c.on_number.new.self _ (c.in_ok-on_number.ensures.becomes a h) (λ b k. assumption (ap (λ
+    (r : Bool). record owes { reply = r }) reply ∙ ap (λ (owes : Owes). record owes { reply = owes.reply || polls }) k.beside.owes_is)))

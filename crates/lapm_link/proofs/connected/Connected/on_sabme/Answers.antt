@@ -30,22 +30,4 @@ returns-clause-becomes c = λ a h.
     let numbered = sym h.beside.numbered_is ∙ c.if-self.false in
     let role = ap (λ (setup : Setup). is_originator setup.role) h.beside.setup_is in
     owes_ua _ c.args.pf a (ap (λ b. b || is_originator a.setup.role) numbered ∙ sym role ∙ sym c.if-is_originator.ensures)
-    (record {
-      sender_stands = h.sender_stands;
-      beside = record {
-        phase_is = h.beside.phase_is;
-        setup_is = h.beside.setup_is;
-        terms_are = h.beside.terms_are;
-        numbered_is = h.beside.numbered_is;
-        receiver_stands = h.beside.receiver_stands;
-        breaks_stand = record {
-          own = h.beside.breaks_stand.own;
-          their = h.beside.breaks_stand.their;
-          told_within = h.beside.breaks_stand.told_within;
-          given_is = h.beside.breaks_stand.given_is;
-        };
-        owes_is = ap (λ (owes : Owes). record owes { answer = Some (answers.Ua c.args.pf) }) h.beside.owes_is;
-        waits = record { poll_is = h.beside.waits.poll_is; urgent_is = h.beside.waits.urgent_is; timer_is = h.beside.waits.timer_is };
-        special_is = h.beside.special_is;
-      };
-    })
+    (assumption (ap (λ (owes : Owes). record owes { answer = Some (answers.Ua c.args.pf) }) h.beside.owes_is))

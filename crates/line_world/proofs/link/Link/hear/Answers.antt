@@ -1,11 +1,12 @@
+use Rattle.link_run.specs.Run.{arrival}
 use Rattle.line_world.specs.Link.{HearsOn}
 use Rattle.line_world.proofs.link.Link.hear.Goals as goal
 
 pub returns-clause-hears : goal.returns-clause-hears
 returns-clause-hears c = λ files ends h well.
-    let orig : HearsOn c.hear_well.new.station files.orig ends.orig c.args.turn c.args.to_orig.now =
+    let orig : HearsOn c.hear_well.new.station files.orig ends.orig c.args.turn (arrival c.args.heard.now.orig) =
     c.hear_well.ensures.hears files.orig ends.orig h.orig well.orig in
-    let answ : HearsOn c.hear_well-2.new.station files.answ ends.answ c.args.turn c.args.to_answ.now =
+    let answ : HearsOn c.hear_well-2.new.station files.answ ends.answ c.args.turn (arrival c.args.heard.now.answ) =
     c.hear_well-2.ensures.hears files.answ ends.answ h.answ well.answ in
     record {
       mid = record { orig = orig.mid; answ = answ.mid };

@@ -52,7 +52,7 @@ hear-requires-2-clause-well c =
     (c.checks-checks.ensures r.files r.ends h.link) a in
     let well : HearsWell r.ends _ (arrival c.in-Ok.heard.orig) (arrival c.in-Ok.heard.answ) =
     hears-well laws channel r.files r.turns r.ends c.in-Ok.heard r.limits h.run by in
-    (r.files, r.ends, h.link, rw (h.turn, c.arrived.ensures, c.arrived-2.ensures) well)
+    (r.files, r.ends, h.link, rw h.turn well)
 
 pub returns-clause-hears : goal.returns-clause-hears
 returns-clause-hears c = λ channel links streams files ts ends script dlci h waits due.
@@ -71,18 +71,9 @@ returns-clause-hears c = λ channel links streams files ts ends script dlci h wa
     (c.checks-checks.ensures files ends h.link) a in
     let well : HearsWell ends _ (arrival c.in-Ok.heard.orig) (arrival c.in-Ok.heard.answ) =
     hears-well laws channel files ts ends c.in-Ok.heard (subst IsInLimits (sym script) r.limits) h.run by in
-    let so : HearsWell ends c.args.self.now.turn c.arrived.result c.arrived-2.result =
-    rw (h.turn, c.arrived.ensures, c.arrived-2.ensures) well in
-    let hears = c.hear-2.ensures.hears files ends h.link so in
-    has-heard c.args.self.now _ c.arrive.new.self channel links streams files ts ends c.in-Ok.heard c.arrived.result c.arrived-2.result h
-    refl by
-    a.lines
-    (record {
-      orig_is = c.arrived.ensures;
-      answ_is = c.arrived-2.ensures;
-      hears = hears;
-      checks = c.checks-self.ensures files hears.mid hears.stands;
-    })
+    let hears = c.hear-2.ensures.hears files ends h.link (rw h.turn well) in
+    has-heard c.args.self.now _ c.arrive.new.self channel links streams files ts ends c.in-Ok.heard h refl by a.lines
+    (record { hears = hears; checks = c.checks-self.ensures files hears.mid hears.stands })
     (tallies-heard c.args.self.now.tally c.hear.new.self ts ends c.in-Ok.heard h.tally c.hear.ensures)
 
 pub returns-in-Err-clause-spoke : goal.returns-in-Err-clause-spoke

@@ -4,9 +4,9 @@ use Rattle.line_world.proofs.Standing.{kept-heard, kept-counted, heard-gives-up}
 use Rattle.line_world.proofs.station.Station.hear.Goals as goal
 
 pub returns : goal.returns
-returns c = record {
+returns g c = record {
   hears = λ file a h.
-      kept-heard c.segments_are_offered_as_they_are_read.ensures.heard c.args.turn c.args.arrived.now file a
+      kept-heard c.segments_are_offered_as_they_are_read.ensures.heard c.args.turn (g.A.Arrives.arrival c.args.arrived.now) file a
       c.args.self.now c.keep_end.new.self c.hear-became.result c.keep_end.result h
       (c.keep_end.ensures.breaks ∙ c.take_end.ensures.breaks) c.keep_end.ensures.kept
       (c.hear-became.ensures.hears a (subst (λ e. StandsFor e a) (sym c.take_end.ensures.end) h.end));
@@ -16,7 +16,8 @@ returns c = record {
       (subst (λ before. IfOk c.hear-became.result (λ end. taken_of end ≤ taken_of before + 128)) c.take_end.ensures.end
       c.hear-became.ensures.counted) c.requires.counted;
   over =
-      heard-gives-up c.args.turn c.args.arrived.now c.args.self.now c.keep_end.new.self c.hear-became.result c.keep_end.result
+      heard-gives-up c.args.turn (g.A.Arrives.arrival c.args.arrived.now) c.args.self.now c.keep_end.new.self c.hear-became.result
+      c.keep_end.result
       (c.keep_end.ensures.breaks ∙ c.take_end.ensures.breaks) c.keep_end.ensures.kept
       (λ a h. c.hear-became.ensures.hears a (subst (λ e. StandsFor e a) (sym c.take_end.ensures.end) h));
 }
