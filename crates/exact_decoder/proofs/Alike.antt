@@ -33,8 +33,7 @@ all-one l h =
     each_of_eight (λ i. l i ≡ l 0) refl (equal (l 1) (l 2) b.0 ∙ two) two three four five six seven
 
 not-both : (a b : Bool) → (a && b) ≡ false → (a ≡ false) ⊎ (b ≡ false)
-not-both true b h = inr h
-not-both false b h = inl refl
+not-both q0 b h = grind (arith)
 
 -- of two that differ one is not the first
 unlike : (l : ℕ → ℕ) (i j : ℕ) → i < 8 → j < 8 → nat_eq (l i) (l j) ≡ false → (k : ℕ) × (k < 8) × (l k ≢ l 0)

@@ -66,12 +66,10 @@ are-set a b c d e f g h q =
     equal a b q = grind (arith, nat_tests)
 
     one : (b : Bool) → as_number b ≤ 1
-    one true = omega arith
-    one false = omega arith
+    one q0 = grind (arith)
 
     set : (b : Bool) → as_number b ≡ 1 → b ≡ true
-    set true e = refl
-    set false e = absurd (omega arith)
+    set q0 e = grind (arith)
 
 pub narrow-lane : (sums : List ℕ) (state : ℕ) → slice_index sums state < 2 ^ 62 → slice_index sums state % 65536 ≡ state
     → nat_eq (bit_and (slice_index sums state) 18444492274164236288) 0 ≡ true → IsNarrow (slice_index sums state) state

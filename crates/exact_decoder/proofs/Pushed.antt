@@ -49,8 +49,7 @@ keeps-lowered {X} c samples base n sums paths low k = record { knows = λ s. eac
   where
     each : (s : ℕ) (o : Option ℕ) → sums s ≡ o → KnowsState c samples base paths s o
         → KnowsState c samples (base + n) paths s (option_map (λ m. m - n) o)
-    each s None e h = h
-    each s (Some m) e h = (h.0, omega (arith, h.1, low s m e))
+    each s q1 e h = grind (arith)
 
 -- where no first label is common to all tails, the front is what is released
 pub released-of : {X : Type 0} (c : Trellis X) (samples : List X) (base : ℕ) (sums : List (Option ℕ)) (tails : List (List ℕ))

@@ -56,8 +56,7 @@ pub start-zero : (sums : List (Option ℕ)) (starts : ℕ → Bool) → ((s : �
 start-zero sums starts h s m e = each (starts s) (sym e ∙ h s)
   where
     each : (b : Bool) → Some m ≡ (if b then Some 0 else None) → m ≡ 0
-    each true q = cc
-    each false q = absurd cc
+    each q0 q = grind (arith)
 
 abbrev pub start_sum : Bool → Option ℕ
 start_sum b = if b then Some 0 else None

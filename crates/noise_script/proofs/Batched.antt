@@ -67,18 +67,13 @@ covered : (from count start len place : ℕ) → min (from - start) len ≤ plac
 covered from count start len place low high = grind (arith, nat_tests)
 
 neither : (own b : Bool) (x : Offset) → b ≡ false → (if own && b then x else nothing) ≡ nothing
-neither true false x e = refl
-neither false b x e = refl
-neither true true x e = absurd (cc)
+neither q0 b x e = grind (arith)
 
 other : (own b : Bool) (x : Offset) → own ≡ false → (if own && b then x else nothing) ≡ nothing
-other true b x e = absurd (cc)
-other false b x e = refl
+other q0 b x e = grind (arith)
 
 both : (own b : Bool) (x : Offset) → own ≡ true → b ≡ true → (if own && b then x else nothing) ≡ x
-both true true x o e = refl
-both true false x o e = absurd (cc)
-both false b x o e = absurd (cc)
+both q0 b x o e = grind (arith)
 
 -- what a line adds to the places of a batch
 module _ (own : Bool) (from count start : ℕ) (x : ℕ → Offset) (old : List Offset) where
@@ -199,10 +194,7 @@ same-drawn noise sender role seed place symbol word offset o s r p w is =
     ∙ ap (λ n. word_at noise.seed n (symbol - noise.from)) (ap stream_of r ∙ sym (same-stream noise.role sender o)))
   where
     same-stream : (a b : Role) → same_role a b ≡ true → stream_of a ≡ stream_of b
-    same-stream Originator Originator e = refl
-    same-stream Answerer Answerer e = refl
-    same-stream Originator Answerer e = absurd (cc)
-    same-stream Answerer Originator e = absurd (cc)
+    same-stream q0 q1 e = grind (arith)
 
 pub within-at : (most : ℕ) (by : ℕ → Offset) (place : ℕ) (old new : List Offset) → AreWithin most old → GrowUpTo by place old new
     → place < length old → IsWithin most (at_place new place)

@@ -20,12 +20,10 @@ pub no-feed : (octet : ℕ) → octet ≢ 10 → is_no_feed octet ≡ true
 no-feed octet h = rw (ne_eqb octet 10 h) refl
 
 returned : (b : Bool) (x : ℕ) (lines : List (List ℕ)) → cond (b && true) ([] ∷ lines) ((x ∷ []) ∷ lines) ≡ (cond b [] (x ∷ [])) ∷ lines
-returned true x lines = refl
-returned false x lines = refl
+returned q0 x lines = grind (arith)
 
 and-false : (b : Bool) → (b && false) ≡ false
-and-false true = refl
-and-false false = refl
+and-false q0 = grind (arith)
 
 -- an octet before one that is no line feed goes on its line
 line-goes-on : (x y : ℕ) (text : List ℕ) → eqb x 10 ≡ false → eqb y 10 ≡ false
@@ -40,9 +38,7 @@ line-goes-on x y text x_not y_not = going (eqb x 10) (eqb y 10) (eqb x 13) x_not
 pub line-cut : (front rest : List ℕ) → list_all is_no_feed front ≡ true
     → lines_of (front ++ 10 ∷ rest) ≡ without_return front ∷ lines_of rest
 line-cut [] rest h = refl
-line-cut (x ∷ []) rest h =
-    let x_not : eqb x 10 ≡ false = not-true _ (and_parts _ _ h).0 in
-    rw x_not (returned (eqb x 13) x (lines_of rest))
+line-cut (x ∷ []) rest h = grind (arith, eqb, not-true, and_parts, returned)
 line-cut (x ∷ y ∷ front) rest h =
     let x_not : eqb x 10 ≡ false = not-true _ (and_parts _ _ h).0 in
     let y_not : eqb y 10 ≡ false = not-true _ (and_parts _ _ (and_parts _ _ h).1).0 in
@@ -52,9 +48,7 @@ line-cut (x ∷ y ∷ front) rest h =
 
 pub line-last : (text : List ℕ) → text ≢ [] → list_all is_no_feed text ≡ true → lines_of text ≡ text ∷ []
 line-last [] n h = absurd (n refl)
-line-last (x ∷ []) n h =
-    let x_not : eqb x 10 ≡ false = not-true _ (and_parts _ _ h).0 in
-    rw (x_not, and-false (eqb x 13)) refl
+line-last (x ∷ []) n h = grind (arith, eqb, not-true, and_parts, and-false)
 line-last (x ∷ y ∷ text) n h =
     let x_not : eqb x 10 ≡ false = not-true _ (and_parts _ _ h).0 in
     let y_not : eqb y 10 ≡ false = not-true _ (and_parts _ _ (and_parts _ _ h).1).0 in
@@ -69,19 +63,13 @@ blank-ends octet line b = rw b refl
 -- blanks before a line's words change nothing
 pub blank-skipped : (line : List ℕ) (i : ℕ) → i < length line → is_blank (get_or line i 0) ≡ true
     → words_of (drop i line) ≡ words_of (drop (i + 1) line)
-blank-skipped line i h b =
-    let cut : drop i line ≡ get_or line i 0 ∷ drop (suc i) line = drop-cons line i 0 h in
-    rw (cut, add-one i) (blank-first (get_or line i 0) (drop (suc i) line) b)
+blank-skipped line i h b = grind (arith, drop-cons, add-one, blank-first)
 
 pub word-begins : (line : List ℕ) (i : ℕ) → i < length line → is_blank (get_or line i 0) ≡ false → is_in_word (drop i line) ≡ true
-word-begins line i h b =
-    let cut : drop i line ≡ get_or line i 0 ∷ drop (suc i) line = drop-cons line i 0 h in
-    rw (cut, b) refl
+word-begins line i h b = grind (arith, drop-cons)
 
 pub word-ends : (line : List ℕ) (i : ℕ) → i < length line → is_blank (get_or line i 0) ≡ true → is_in_word (drop i line) ≡ false
-word-ends line i h b =
-    let cut : drop i line ≡ get_or line i 0 ∷ drop (suc i) line = drop-cons line i 0 h in
-    rw (cut, b) refl
+word-ends line i h b = grind (arith, drop-cons)
 
 word-goes-on : (x y : ℕ) (line : List ℕ) → is_blank x ≡ false → is_blank y ≡ false
     → words_of (x ∷ y ∷ line) ≡ onto_first x (words_of (y ∷ line))
@@ -96,9 +84,7 @@ word-goes-on x y line x_not y_not = going (is_blank x) (is_blank y) x_not y_not
 pub word-cut : (front rest : List ℕ) → front ≢ [] → list_all is_no_blank front ≡ true → is_in_word rest ≡ false
     → words_of (front ++ rest) ≡ front ∷ words_of rest
 word-cut [] rest n h e = absurd (n refl)
-word-cut (x ∷ []) rest n h e =
-    let x_not : is_blank x ≡ false = not-true _ (and_parts _ _ h).0 in
-    rw (x_not, e) refl
+word-cut (x ∷ []) rest n h e = grind (arith, not-true, and_parts)
 word-cut (x ∷ y ∷ front) rest n h e =
     let x_not : is_blank x ≡ false = not-true _ (and_parts _ _ h).0 in
     let y_not : is_blank y ≡ false = not-true _ (and_parts _ _ (and_parts _ _ h).1).0 in
@@ -106,8 +92,7 @@ word-cut (x ∷ y ∷ front) rest n h e =
 
 -- a line that begins in a word has an octet
 pub word-some : (line : List ℕ) → is_in_word line ≡ true → (0 < length line) × (is_blank (get_or line 0 0) ≡ false)
-word-some [] h = absurd (false≢true h)
-word-some (x ∷ line) h = (omega arith, not-true _ h)
+word-some q0 h = grind (arith)
 
 pub word-cut-at : (line : List ℕ) (i : ℕ) (front back : List ℕ) → is_in_word line ≡ true → i < length line
     → list_all is_no_blank (take i line) ≡ true → is_blank (get_or line i 0) ≡ true → front ≡ take i line → back ≡ drop i line

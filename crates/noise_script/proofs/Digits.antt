@@ -36,10 +36,7 @@ value-small (x ∷ digits) h =
 
 pub front-small : (word : List ℕ) (i n : ℕ) → list_all is_digit (take i word) ≡ true → i ≤ length word → i ≤ n
     → value_of (take i word) < 10 ^ n
-front-small word i n h l m =
-    let long : length (take i word) ≤ n = omega (arith, length-take i word) in
-    let more : 10 ^ length (take i word) ≤ 10 ^ n = pow-le-pow_right (omega arith) long in
-    omega (arith, value-small (take i word) h, more)
+front-small word i n h l m = grind (arith, length-take, pow-le-pow_right, value-small)
 
 -- one digit more
 pub digit-more : (word : List ℕ) (i value next : ℕ) → i < length word → value ≡ value_of (take i word) → next ≡ get_or word i 0 - 48

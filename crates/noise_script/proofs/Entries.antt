@@ -25,54 +25,25 @@ use Rattle.noise_script.specs.Draft.{Holds, Adds, or_before, offered_of, offered
 -- kinds
 
 same_form-is : (a b : Form) → same_form a b ≡ true → a ≡ b
-same_form-is forms.Delay forms.Delay e = refl
-same_form-is forms.Window forms.Window e = refl
-same_form-is forms.Length forms.Length e = refl
-same_form-is forms.Tries forms.Tries e = refl
-same_form-is forms.Srej forms.Srej e = refl
-same_form-is forms.Check32 forms.Check32 e = refl
-same_form-is forms.Lose forms.Lose e = refl
-same_form-is forms.Hit forms.Hit e = refl
-same_form-is forms.Noise forms.Noise e = refl
-same_form-is forms.Break forms.Break e = refl
-same_form-is forms.Busy forms.Busy e = refl
-same_form-is a b e = absurd (false≢true e)
+same_form-is a b e = grind (arith)
 
 same_form-self : (a : Form) → same_form a a ≡ true
-same_form-self forms.Delay = refl
-same_form-self forms.Window = refl
-same_form-self forms.Length = refl
-same_form-self forms.Tries = refl
-same_form-self forms.Srej = refl
-same_form-self forms.Check32 = refl
-same_form-self forms.Lose = refl
-same_form-self forms.Hit = refl
-same_form-self forms.Noise = refl
-same_form-self forms.Break = refl
-same_form-self forms.Busy = refl
+same_form-self q0 = grind (arith)
 
 same_role-is : (a b : Role) → same_role a b ≡ true → a ≡ b
-same_role-is Originator Originator e = refl
-same_role-is Answerer Answerer e = refl
-same_role-is a b e = absurd (false≢true e)
+same_role-is a b e = grind (arith)
 
 same_role-self : (a : Role) → same_role a a ≡ true
-same_role-self Originator = refl
-same_role-self Answerer = refl
+same_role-self q0 = grind (arith)
 
 same_counted-is : (a b : Option Role) → same_counted a b ≡ true → a ≡ b
-same_counted-is None None e = refl
-same_counted-is (Some a) (Some b) e = ap Some (same_role-is a b e)
-same_counted-is None (Some b) e = absurd (false≢true e)
-same_counted-is (Some a) None e = absurd (false≢true e)
+same_counted-is q0 q1 e = grind (arith)
 
 same_counted-self : (a : Option Role) → same_counted a a ≡ true
-same_counted-self None = refl
-same_counted-self (Some a) = same_role-self a
+same_counted-self q0 = grind (arith)
 
 both-true : (a b : Bool) → (a && b) ≡ true → (a ≡ true) × (b ≡ true)
-both-true true b e = (refl, e)
-both-true false b e = absurd (false≢true e)
+both-true q0 b e = grind (arith)
 
 same_kind-is : (a b : Kind) → same_kind a b ≡ true → a ≡ b
 same_kind-is a b e =
@@ -144,44 +115,35 @@ abbrev pub Counts : {X : Type 0} → Kind → (Entry → Option X) → Type 0
 Counts kind say = (entry : Entry) → length (cons_option (say entry) []) ≡ cond (same_kind kind (kind_of entry)) 1 0
 
 pub counts-delay : Counts (whole forms.Delay) delays_said
-counts-delay (entries.Delay delays) = refl
-counts-delay _ = refl
+counts-delay _ = grind (arith)
 
 pub counts-tries : Counts (whole forms.Tries) tries_said
-counts-tries (entries.Tries tries) = refl
-counts-tries _ = refl
+counts-tries _ = grind (arith)
 
 pub counts-lose : Counts (whole forms.Lose) loss_said
-counts-lose (entries.Lose loss) = refl
-counts-lose _ = refl
+counts-lose _ = grind (arith)
 
 pub counts-hit : Counts (whole forms.Hit) hit_said
-counts-hit (entries.Hit hit) = refl
-counts-hit _ = refl
+counts-hit _ = grind (arith)
 
 pub counts-noise : Counts (whole forms.Noise) noise_said
-counts-noise (entries.Noise noise) = refl
-counts-noise _ = refl
+counts-noise _ = grind (arith)
 
 pub counts-break : Counts (whole forms.Break) break_said
-counts-break (entries.Break line) = refl
-counts-break _ = refl
+counts-break _ = grind (arith)
 
 pub counts-busy : Counts (whole forms.Busy) pause_said
-counts-busy (entries.Busy pause) = refl
-counts-busy _ = refl
+counts-busy _ = grind (arith)
 
 pub one-said : {X : Type 0} (b : Bool) (x : X) → length (cons_option (cond b (Some x) None) []) ≡ cond b 1 0
 one-said true x = refl
 one-said false x = refl
 
 pub counts-window : (role : Role) → Counts (each forms.Window role) (window_said role)
-counts-window role (entries.Window window) = one-said (same_role role window.role) window.segments
-counts-window role _ = refl
+counts-window role _ = grind (arith)
 
 pub counts-length : (role : Role) → Counts (each forms.Length role) (length_said role)
-counts-length role (entries.Length l) = one-said (same_role role l.role) l.octets
-counts-length role _ = refl
+counts-length role _ = grind (arith)
 
 length-said : {X : Type 0} (said : Option X) (xs : List X) → length (cons_option said xs) ≡ length (cons_option said []) + length xs
 length-said {X = X} None xs = let none : length (cons_option {X = X} None []) ≡ 0 = refl in omega (arith, none)
@@ -201,8 +163,7 @@ abbrev pub number_of : Bool → ℕ
 number_of b = cond b 1 0
 
 byte : (b : Bool) → bool_byte b ≡ number_of b
-byte true = refl
-byte false = refl
+byte q0 = grind (arith)
 
 -- a line of a kind that may stand once
 first-length : {X : Type 0} (xs : List X) → length xs ≤ 1 → length xs ≡ cond (is_some (first xs)) 1 0
@@ -244,9 +205,7 @@ counted-once kind say counts one said a entry k held h some count s c =
 pub counted-flag : (kind : Kind) → most (row kind.form).bound ≡ 1 → (said : List Entry) → AreAllowed said → (entry : Entry)
     → kind_of entry ≡ kind → (held : Bool) → held ≡ stands kind said → (count : ℕ) → count ≡ bool_byte held
     → count ≡ standing (kind_of entry) said
-counted-flag kind one said a entry k held h count c =
-    let once = standing-flag kind said (omega (arith, a kind, one)) in
-    c ∙ rw h (byte (stands kind said)) ∙ sym once ∙ ap (λ (k : Kind). standing k said) (sym k)
+counted-flag kind one said a entry k held h count c = grind (arith, standing-flag, byte)
 
 pub offered-held : (draft : Draft) (said : List Entry) → Holds draft said → (role : Role) → offered_of draft role ≡ offered_in role said
 offered-held draft said h Originator = h.orig
@@ -289,8 +248,7 @@ first-more {X = X} say kind counts one said entry few = by (say entry) refl ∙ 
         nothing (x ∷ xs) h = absurd (omega (arith, h))
 
     counted : (b : Bool) → number_of b ≡ 1 → b ≡ true
-    counted true e = refl
-    counted false e = absurd (omega (arith, e))
+    counted q0 e = grind (arith)
 
     by : (o : Option X) → say entry ≡ o → or_before o (first (filter_map say said)) ≡ first (filter_map say said ++ cons_option o [])
     by None e = ap first (sym (append-nil (filter_map say said)))

@@ -54,25 +54,14 @@ all_forms = forms.Delay ∷ forms.Window ∷ forms.Length ∷ forms.Tries ∷ fo
     forms.Break ∷ forms.Busy ∷ []
 
 names-none : (word : List ℕ) → NamesNone all_forms word → (form : Form) → word ≢ word_of form
-names-none word n forms.Delay = n.0
-names-none word n forms.Window = n.1.0
-names-none word n forms.Length = n.1.1.0
-names-none word n forms.Tries = n.1.1.1.0
-names-none word n forms.Srej = n.1.1.1.1.0
-names-none word n forms.Check32 = n.1.1.1.1.1.0
-names-none word n forms.Lose = n.1.1.1.1.1.1.0
-names-none word n forms.Hit = n.1.1.1.1.1.1.1.0
-names-none word n forms.Noise = n.1.1.1.1.1.1.1.1.0
-names-none word n forms.Break = n.1.1.1.1.1.1.1.1.1.0
-names-none word n forms.Busy = n.1.1.1.1.1.1.1.1.1.1.0
+names-none word n q2 = grind (arith)
 
 is-form : (word : List ℕ) → ((form : Form) × (word ≡ word_of form)) ⊎ ((form : Form) → word ≢ word_of form)
 is-form word = by (is-named all_forms word)
   where
     by : ((form : Form) × (word ≡ word_of form)) ⊎ NamesNone all_forms word
         → ((form : Form) × (word ≡ word_of form)) ⊎ ((form : Form) → word ≢ word_of form)
-    by (inl found) = inl found
-    by (inr none) = inr (names-none word none)
+    by q0 = grind (arith)
 
 abbrev Read : Argument → List ℕ → Type 0
 Read argument word = ((value : Value) × Spells argument word value) ⊎ ((cause : Cause) × Fails argument word cause)
@@ -81,8 +70,7 @@ read : (argument : Argument) (word : List ℕ) → Read argument word
 read ARole word = by (same-word word (role_word Originator)) (same-word word (role_word Answerer))
   where
     none : word ≢ role_word Originator → word ≢ role_word Answerer → (role : Role) → word ≢ role_word role
-    none a b Originator = a
-    none a b Answerer = b
+    none a b q2 = grind (arith)
 
     by : (word ≡ role_word Originator) ⊎ (word ≢ role_word Originator) → (word ≡ role_word Answerer) ⊎ (word ≢ role_word Answerer)
         → ((value : Value) × Spells ARole word value) ⊎ ((cause : Cause) × Fails ARole word cause)
@@ -133,12 +121,7 @@ value_again (Number low high) value = NumberIs (number_of value)
 value_again (Signed low high) value = SignedIs (signed_of value)
 
 value-again : (argument : Argument) (word : List ℕ) (value : Value) → Spells argument word value → value_again argument value ≡ value
-value-again ARole word (RoleIs role) s = refl
-value-again ARole word value s = absurd s
-value-again (Number low high) word (NumberIs n) s = refl
-value-again (Number low high) word value s = absurd s
-value-again (Signed low high) word (SignedIs z) s = refl
-value-again (Signed low high) word value s = absurd s
+value-again q0 word value s = grind (arith)
 
 -- what the values from the i-th on are
 abbrev values_from : ℕ → List Argument → List Value → List Value
@@ -168,30 +151,10 @@ values-again : (form : Form) (words : List (List ℕ)) (values : List Value) →
 values-again form words values s = by form values ∙ values-from (arguments_of form) words [] values s
   where
     by : (form : Form) (values : List Value) → values_of (entry_of form values) ≡ values_from 0 (arguments_of form) values
-    by forms.Delay values = refl
-    by forms.Window values = refl
-    by forms.Length values = refl
-    by forms.Tries values = refl
-    by forms.Srej values = refl
-    by forms.Check32 values = refl
-    by forms.Lose values = refl
-    by forms.Hit values = refl
-    by forms.Noise values = refl
-    by forms.Break values = refl
-    by forms.Busy values = refl
+    by q0 values = grind (arith)
 
 form-again : (form : Form) (values : List Value) → form_of (entry_of form values) ≡ form
-form-again forms.Delay values = refl
-form-again forms.Window values = refl
-form-again forms.Length values = refl
-form-again forms.Tries values = refl
-form-again forms.Srej values = refl
-form-again forms.Check32 values = refl
-form-again forms.Lose values = refl
-form-again forms.Hit values = refl
-form-again forms.Noise values = refl
-form-again forms.Break values = refl
-form-again forms.Busy values = refl
+form-again q0 values = grind (arith)
 
 -- one line
 

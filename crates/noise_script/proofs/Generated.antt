@@ -1,5 +1,5 @@
 -- A generator that makes one step more.
-use Rattle.std.proofs.Common.{◌≡◌, ◌∙◌, ℕ, zero, suc, ◌+◌, refl, sym, ap, add-one}
+use Rattle.std.proofs.Common.{arith, ◌≡◌, ◌∙◌, ℕ, zero, suc, ◌+◌, refl, sym, ap, add-one}
 use Rattle.rand_pcg.specs.Lcg.{Lcg, next_state, state_after, started, increment_of}
 use Rattle.rand_pcg.specs.Pcg.{pcg32, multiplier_64}
 use Rattle.noise_script.specs.Offsets.{generator_at}
@@ -16,7 +16,4 @@ last-step w m increment (suc n) state = last-step w m increment n (next_state w 
 pub one-on : (seed stream place state word after : ℕ) (from words : Lcg) → state ≡ (generator_at seed stream place).state
     → from ≡ record { state = state; increment = increment_of 64 stream } → (word, words) ≡ pcg32 from → after ≡ words.state
     → after ≡ (generator_at seed stream (place + 1)).state
-one-on seed stream place state word after from words before from_is step is =
-    is ∙ ap (λ p. p.1.state) step ∙ ap (λ g. next_state 64 multiplier_64 g.increment g.state) from_is
-    ∙ ap (next_state 64 multiplier_64 (increment_of 64 stream)) before
-    ∙ last-step 64 multiplier_64 (increment_of 64 stream) place (started 64 multiplier_64 seed (increment_of 64 stream)).state
+one-on seed stream place state word after from words before from_is step is = grind (arith, last-step)

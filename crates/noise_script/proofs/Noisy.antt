@@ -95,23 +95,7 @@ noises-are (noise ∷ noises) losses = ap (λ l. noise ∷ l) (noises-are noises
 
 script-is : (orig answ : ℕ) (noises : List Noise) (losses : List Loss)
     → noisy_script orig answ noises losses ≡ script_of (entries.Delay (record { orig = orig; answ = answ }) ∷ all_entries noises losses)
-script-is orig answ noises losses =
-    rw (
-      losses-are noises losses,
-      noises-are noises losses,
-      none-said tries_said (λ n. refl) (λ l. refl) noises losses,
-      none-said hit_said (λ n. refl) (λ l. refl) noises losses,
-      none-said break_said (λ n. refl) (λ l. refl) noises losses,
-      none-said pause_said (λ n. refl) (λ l. refl) noises losses,
-      none-said (window_said Originator) (λ n. refl) (λ l. refl) noises losses,
-      none-said (window_said Answerer) (λ n. refl) (λ l. refl) noises losses,
-      none-said (length_said Originator) (λ n. refl) (λ l. refl) noises losses,
-      none-said (length_said Answerer) (λ n. refl) (λ l. refl) noises losses,
-      none-stands (λ entry. same_kind (each forms.Srej Originator) (kind_of entry)) (λ n. refl) (λ l. refl) noises losses,
-      none-stands (λ entry. same_kind (each forms.Srej Answerer) (kind_of entry)) (λ n. refl) (λ l. refl) noises losses,
-      none-stands (λ entry. same_kind (each forms.Check32 Originator) (kind_of entry)) (λ n. refl) (λ l. refl) noises losses,
-      none-stands (λ entry. same_kind (each forms.Check32 Answerer) (kind_of entry)) (λ n. refl) (λ l. refl) noises losses,
-    ) refl
+script-is orig answ noises losses = grind (arith, losses-are, noises-are, none-said, none-stands)
 
 -- and there is not too much
 

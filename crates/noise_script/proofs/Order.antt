@@ -73,8 +73,7 @@ placed-of turn line (next ∷ lines) r = by (nat_lt line.turn next.turn) refl (p
     behind : (b : Bool) → of_turn turn (placed line lines) ≡ of_turn turn lines ++ of_turn turn (line ∷ [])
         → cond b (next ∷ of_turn turn (placed line lines)) (of_turn turn (placed line lines)) ≡ cond b (next ∷ of_turn turn lines)
         (of_turn turn lines) ++ of_turn turn (line ∷ [])
-    behind true later = ap (λ ls. next ∷ ls) later
-    behind false later = later
+    behind q0 later = grind (arith)
 
     by : (b : Bool) → nat_lt line.turn next.turn ≡ b → of_turn turn (placed line lines) ≡ of_turn turn lines ++ of_turn turn (line ∷ [])
         → of_turn turn (cond b (line ∷ next ∷ lines) (next ∷ placed line lines)) ≡ of_turn turn (next ∷ lines) ++ of_turn turn (line ∷ [])
@@ -85,8 +84,7 @@ one-before : (turn : ℕ) (line : Break) (lines : List Break) → of_turn turn (
 one-before turn line lines = by (nat_eq line.turn turn)
   where
     by : (b : Bool) → cond b (line ∷ []) [] ++ of_turn turn lines ≡ cond b (line ∷ of_turn turn lines) (of_turn turn lines)
-    by true = refl
-    by false = refl
+    by q0 = grind (arith)
 
 placed_each-rising : (sorted lines : List Break) → AreRising sorted → AreRising (placed_each sorted lines)
 placed_each-rising sorted [] r = r

@@ -49,31 +49,7 @@ AreInRange (entry ∷ said) = IsInRange entry × AreInRange said
 
 each-in-range : (entry : Entry) (words : List (List ℕ)) → SpellsEach (arguments_of (form_of entry)) words (values_of entry)
     → IsInRange entry
-each-in-range (entries.Delay delays) (a ∷ b ∷ words) s = (s.0.not_below, s.0.not_above, s.1.0.not_below, s.1.0.not_above)
-each-in-range (entries.Delay delays) (a ∷ []) s = absurd s.1
-each-in-range (entries.Delay delays) [] s = absurd s
-each-in-range (entries.Tries tries) (a ∷ words) s = (s.0.not_below, s.0.not_above)
-each-in-range (entries.Tries tries) [] s = absurd s
-each-in-range (entries.Window window) (a ∷ b ∷ words) s = record { some = s.1.0.not_below; few = s.1.0.not_above }
-each-in-range (entries.Window window) (a ∷ []) s = absurd s.1
-each-in-range (entries.Window window) [] s = absurd s
-each-in-range (entries.Length l) (a ∷ b ∷ words) s = record { some = s.1.0.not_below; few = s.1.0.not_above }
-each-in-range (entries.Length l) (a ∷ []) s = absurd s.1
-each-in-range (entries.Length l) [] s = absurd s
-each-in-range (entries.Srej role) words s = tt
-each-in-range (entries.Check32 role) words s = tt
-each-in-range (entries.Lose loss) words s = tt
-each-in-range (entries.Hit hit) words s = tt
-each-in-range (entries.Break line) words s = tt
-each-in-range (entries.Busy pause) (a ∷ b ∷ c ∷ words) s = s.1.1.0.not_above
-each-in-range (entries.Busy pause) (a ∷ b ∷ []) s = absurd s.1.1
-each-in-range (entries.Busy pause) (a ∷ []) s = absurd s.1
-each-in-range (entries.Busy pause) [] s = absurd s
-each-in-range (entries.Noise noise) (a ∷ b ∷ c ∷ d ∷ words) s = s.1.1.1.0.not_above
-each-in-range (entries.Noise noise) (a ∷ b ∷ c ∷ []) s = absurd s.1.1.1
-each-in-range (entries.Noise noise) (a ∷ b ∷ []) s = absurd s.1.1
-each-in-range (entries.Noise noise) (a ∷ []) s = absurd s.1
-each-in-range (entries.Noise noise) [] s = absurd s
+each-in-range q0 words s = grind (arith)
 
 says-in-range : {lines : List (List ℕ)} {said : List Entry} → Says lines said → AreInRange said
 says-in-range nothing = tt
@@ -189,25 +165,11 @@ IsOctetBreak line = line.length < 256
 
 line-octet : (entry : Entry) (words : List (List ℕ)) → SpellsEach (arguments_of (form_of entry)) words (values_of entry)
     → IfSome (break_said entry) IsOctetBreak
-line-octet (entries.Break line) (a ∷ b ∷ c ∷ words) s = let few = s.1.1.0.not_above in omega (arith, few)
-line-octet (entries.Break line) (a ∷ b ∷ []) s = absurd s.1.1
-line-octet (entries.Break line) (a ∷ []) s = absurd s.1
-line-octet (entries.Break line) [] s = absurd s
-line-octet (entries.Delay delays) words s = tt
-line-octet (entries.Window window) words s = tt
-line-octet (entries.Length l) words s = tt
-line-octet (entries.Tries tries) words s = tt
-line-octet (entries.Srej role) words s = tt
-line-octet (entries.Check32 role) words s = tt
-line-octet (entries.Lose loss) words s = tt
-line-octet (entries.Hit hit) words s = tt
-line-octet (entries.Noise noise) words s = tt
-line-octet (entries.Busy pause) words s = tt
+line-octet q0 words s = grind (arith)
 
 with-line : (o : Option Break) (lines : List Break) → IfSome o IsOctetBreak → All IsOctetBreak lines
     → All IsOctetBreak (cons_option o lines)
-with-line None lines h k = k
-with-line (Some line) lines h k = All-cons IsOctetBreak line lines h k
+with-line q0 lines h k = grind (arith)
 
 says-octets : {lines : List (List ℕ)} {said : List Entry} → Says lines said → All IsOctetBreak (breaks_in said)
 says-octets nothing = All-nil IsOctetBreak

@@ -13,8 +13,7 @@ use Rattle.noise_script.specs.Script.{ScriptValue, offset_of}
 -- a line of other places covers none of these
 apart : (own : Bool) (line many from count symbol : ℕ) → from ≤ symbol → symbol < from + count
     → (own && meets line many from count) ≡ false → (own && covers line many symbol) ≡ false
-apart false line many from count symbol low high none = refl
-apart true line many from count symbol low high none = grind (arith, nat_tests)
+apart q0 line many from count symbol low high none = grind (arith)
 
 module _ (role : Role) (from count symbol : ℕ) (low : from ≤ symbol) (high : symbol < from + count) where
   pub hits-still : (hits : List Hit) → list_any (λ hit. same_role hit.role role && meets hit.from hit.count from count) hits ≡ false
@@ -41,7 +40,4 @@ pub still : (script : ScriptValue) (role : Role) (from count : ℕ)
     → list_any (λ hit. same_role hit.role role && meets hit.from hit.count from count) script.hits ≡ false
     → list_any (λ noise. same_role noise.role role && meets noise.from noise.count from count) script.noises ≡ false
     → (symbol : ℕ) → from ≤ symbol → symbol < from + count → offset_of script role symbol ≡ nothing
-still script role from count no_hit no_noise symbol low high =
-    let hits = hits-still role from count symbol low high script.hits no_hit in
-    let noises = noises-still role from count symbol low high script.noises no_noise in
-    rw (hits, noises) refl
+still script role from count no_hit no_noise symbol low high = grind (arith, hits-still, noises-still)

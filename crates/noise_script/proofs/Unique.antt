@@ -30,10 +30,7 @@ cons-rest x y xs ys e = cc
 -- words and forms
 
 role-once : (a b : Role) → role_word a ≡ role_word b → a ≡ b
-role-once Originator Originator e = refl
-role-once Answerer Answerer e = refl
-role-once Originator Answerer e = absurd (omega (arith, ap (λ w. get_or w 0 0) e))
-role-once Answerer Originator e = absurd (omega (arith, ap (λ w. get_or w 0 0) e))
+role-once q0 q1 e = grind (arith)
 
 -- a sum of letters tells the forms apart
 abbrev letters : List ℕ → ℕ
@@ -70,30 +67,12 @@ form-once : (a b : Form) → word_of a ≡ word_of b → a ≡ b
 form-once a b e = sym (form-again a) ∙ ap (λ (w : List ℕ). form_by (letters w)) e ∙ form-again b
 
 no-comment : (form : Form) → begins_with 35 (word_of form) ≡ false
-no-comment forms.Delay = refl
-no-comment forms.Window = refl
-no-comment forms.Length = refl
-no-comment forms.Tries = refl
-no-comment forms.Srej = refl
-no-comment forms.Check32 = refl
-no-comment forms.Lose = refl
-no-comment forms.Hit = refl
-no-comment forms.Noise = refl
-no-comment forms.Break = refl
-no-comment forms.Busy = refl
+no-comment q0 = grind (arith)
 
 -- values
 
 value-once : (argument : Argument) (word : List ℕ) (a b : Value) → Spells argument word a → Spells argument word b → a ≡ b
-value-once ARole word (RoleIs a) (RoleIs b) s t = ap RoleIs (role-once a b (sym s ∙ t))
-value-once ARole word (RoleIs a) b s t = absurd t
-value-once ARole word a b s t = absurd s
-value-once (Number low high) word (NumberIs a) (NumberIs b) s t = ap NumberIs (s.value_is ∙ sym t.value_is)
-value-once (Number low high) word (NumberIs a) b s t = absurd t
-value-once (Number low high) word a b s t = absurd s
-value-once (Signed low high) word (SignedIs a) (SignedIs b) s t = ap SignedIs (s.value_is ∙ sym t.value_is)
-value-once (Signed low high) word (SignedIs a) b s t = absurd t
-value-once (Signed low high) word a b s t = absurd s
+value-once q0 word a b s t = grind (arith)
 
 fail-spell : (argument : Argument) (word : List ℕ) (cause : Cause) (value : Value) → Fails argument word cause → Spells argument word value
     → ⊥
@@ -120,23 +99,7 @@ fail-spell (Signed low high) word causes.Range value f s = s
 fail-spell (Signed low high) word cause value f s = f
 
 fail-once : (argument : Argument) (word : List ℕ) (a b : Cause) → Fails argument word a → Fails argument word b → a ≡ b
-fail-once ARole word causes.Word causes.Word f g = refl
-fail-once ARole word causes.Word b f g = absurd g
-fail-once ARole word a b f g = absurd f
-fail-once (Number low high) word causes.Number causes.Number f g = refl
-fail-once (Number low high) word causes.Range causes.Range f g = refl
-fail-once (Number low high) word causes.Number causes.Range f g = absurd (false≢true (sym f ∙ g.0))
-fail-once (Number low high) word causes.Range causes.Number f g = absurd (false≢true (sym g ∙ f.0))
-fail-once (Number low high) word causes.Number b f g = absurd g
-fail-once (Number low high) word causes.Range b f g = absurd g
-fail-once (Number low high) word a b f g = absurd f
-fail-once (Signed low high) word causes.Number causes.Number f g = refl
-fail-once (Signed low high) word causes.Range causes.Range f g = refl
-fail-once (Signed low high) word causes.Number causes.Range f g = absurd (false≢true (sym f ∙ g.0))
-fail-once (Signed low high) word causes.Range causes.Number f g = absurd (false≢true (sym g ∙ f.0))
-fail-once (Signed low high) word causes.Number b f g = absurd g
-fail-once (Signed low high) word causes.Range b f g = absurd g
-fail-once (Signed low high) word a b f g = absurd f
+fail-once q0 word a b f g = grind (arith)
 
 -- the words behind the first
 
@@ -220,29 +183,10 @@ entry_of forms.Break v = entries.Break (record { role = role_of (at v 0); turn =
 entry_of forms.Busy v = entries.Busy (record { role = role_of (at v 0); from = number_of (at v 1); count = number_of (at v 2) })
 
 entry-again : (entry : Entry) → entry_of (form_of entry) (values_of entry) ≡ entry
-entry-again (entries.Delay x) = refl
-entry-again (entries.Window x) = refl
-entry-again (entries.Length x) = refl
-entry-again (entries.Tries x) = refl
-entry-again (entries.Srej x) = refl
-entry-again (entries.Check32 x) = refl
-entry-again (entries.Lose x) = refl
-entry-again (entries.Hit x) = refl
-entry-again (entries.Noise x) = refl
-entry-again (entries.Break x) = refl
-entry-again (entries.Busy x) = refl
+entry-again q0 = grind (arith)
 
 line-once : (words : List (List ℕ)) (a b : Entry) → SpellsLine words a → SpellsLine words b → a ≡ b
-line-once words a b s t =
-    let both : word_of (form_of a) ∷ s.rest ≡ word_of (form_of b) ∷ t.rest = sym s.words_are ∙ t.words_are in
-    let form : form_of a ≡ form_of b = form-once (form_of a) (form_of b) (cons-head _ _ _ _ both) in
-    let rest : s.rest ≡ t.rest = cons-rest _ _ _ _ both in
-    let here : SpellsEach (arguments_of (form_of b)) s.rest (values_of a) =
-    subst (λ (f : Form). SpellsEach (arguments_of f) s.rest (values_of a)) form s.each in
-    let there : SpellsEach (arguments_of (form_of b)) t.rest (values_of a) =
-    subst (λ ws. SpellsEach (arguments_of (form_of b)) ws (values_of a)) rest here in
-    let values : values_of a ≡ values_of b = each-once _ t.rest _ _ there t.each in
-    sym (entry-again a) ∙ ap (λ (f : Form). entry_of f (values_of a)) form ∙ ap (entry_of (form_of b)) values ∙ entry-again b
+line-once words a b s t = grind (arith, form-once, cons-head, cons-rest, each-once, entry-again)
 
 passed-form : (words rest : List (List ℕ)) (form : Form) → words ≡ word_of form ∷ rest → is_passed_over words ≡ true → ⊥
 passed-form words rest form e p = false≢true (sym (no-comment form) ∙ sym (ap is_passed_over e) ∙ p)
@@ -251,10 +195,7 @@ passed-spelled : (words : List (List ℕ)) (entry : Entry) → is_passed_over wo
 passed-spelled words entry p s = passed-form words s.rest (form_of entry) s.words_are p
 
 passed-faulty : (said : List Entry) (words : List (List ℕ)) (cause : Cause) → is_passed_over words ≡ true → IsFaulty said words cause → ⊥
-passed-faulty said words cause p (inl (inl u)) = false≢true (sym u.said ∙ sym (ap is_passed_over u.words_are) ∙ p)
-passed-faulty said words cause p (inl (inr (inl m))) = passed-form words m.rest m.form m.words_are p
-passed-faulty said words cause p (inl (inr (inr m))) = passed-form words m.rest m.form m.words_are p
-passed-faulty said words cause p (inr t) = passed-spelled words t.entry p t.spelled_line
+passed-faulty said words cause p q4 = grind (arith)
 
 unknown-form : (words rest : List (List ℕ)) (form : Form) (cause : Cause) → IsUnknown words cause → words ≡ word_of form ∷ rest → ⊥
 unknown-form words rest form cause u e = u.none form (cons-head _ _ _ _ (sym u.words_are ∙ e))

@@ -51,13 +51,7 @@ one-less argument words rest value r = ap length r.words_are ∙ omega arith
 
 pub three-less : (second third : Argument) (words rest : List (List ℕ)) (role : Role) (from count : ℕ)
     → ReadsSpan second third words role from count rest → length words ≡ length rest + 3
-three-less second third words rest role from count r =
-    omega (
-      arith,
-      one-less ARole words r.behind_role (RoleIs role) r.role_is,
-      one-less second r.behind_role r.behind_from (NumberIs from) r.from_is,
-      one-less third r.behind_from rest (NumberIs count) r.count_is,
-    )
+three-less second third words rest role from count r = grind (arith, one-less)
 
 -- a line of a form's word, and words that spell what it says
 pub spells-line : (words : List (List ℕ)) (first : List ℕ) (rest : List (List ℕ)) (form : Form) (entry : Entry) → words ≡ first ∷ rest

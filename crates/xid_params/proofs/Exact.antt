@@ -38,11 +38,7 @@ nothing-more : (rest tail : List ℕ) (more : List Part) (identifier : ℕ) → 
 nothing-more [] tail more identifier ends e none no_end =
     absurd (omega (arith, ap length e, length-append (flat_map group_octets more) (identifier ∷ tail)))
 nothing-more (x ∷ rest) tail [] identifier ends e none no_end = let is : x ≡ identifier = cc in no_end (sym is ∙ ends)
-nothing-more (x ∷ rest) tail (m ∷ more) identifier ends e none no_end =
-    let is : m.identifier ≡ 255 = (let same : x ≡ m.identifier = cc in sym same ∙ ends) in
-    let bad : named 255 (record { identifier = 255; value = m.value } ∷ more) ≡ [] =
-    subst (λ i. named 255 (record { identifier = i; value = m.value } ∷ more) ≡ []) is none in
-    cc
+nothing-more (x ∷ rest) tail (m ∷ more) identifier ends e none no_end = grind (arith)
 
 pub never-both : (octets : List ℕ) (offer : Offer) (q : ℕ) (fault : XidFault) → OfferSpelling octets offer → Has octets q fault → ⊥
 never-both octets offer q fault s h =
@@ -62,39 +58,11 @@ one-offer octets offer other s t =
 
 group-one : (before others : List Part) (identifier other : ℕ) (tail other_tail : List ℕ) (at : ℕ) (f g : XidFault)
     → IsGroupWrong before identifier tail at f → IsGroupWrong others other other_tail at g → place_of f ≡ place_of g → f ≡ g
-group-one before others identifier other tail other_tail at (Group p) (Group q) h k e = ap Group e
-group-one before others identifier other tail other_tail at (Length p) (Length q) h k e = ap Length e
-group-one before others identifier other tail other_tail at (Group p) (Length q) (a, is, again) (b, cut) e = absurd (omega arith)
-group-one before others identifier other tail other_tail at (Length p) (Group q) (a, cut) (b, is, again) e = absurd (omega arith)
-group-one before others identifier other tail other_tail at (Value p) g h k e = absurd h
-group-one before others identifier other tail other_tail at (Repeated p) g h k e = absurd h
-group-one before others identifier other tail other_tail at Format g h k e = absurd h
-group-one before others identifier other tail other_tail at (Group p) (Value q) h k e = absurd k
-group-one before others identifier other tail other_tail at (Group p) (Repeated q) h k e = absurd k
-group-one before others identifier other tail other_tail at (Group p) Format h k e = absurd k
-group-one before others identifier other tail other_tail at (Length p) (Value q) h k e = absurd k
-group-one before others identifier other tail other_tail at (Length p) (Repeated q) h k e = absurd k
-group-one before others identifier other tail other_tail at (Length p) Format h k e = absurd k
+group-one before others identifier other tail other_tail at q7 g h k e = grind (arith)
 
 parameter-one : (before others : List Part) (identifier other : ℕ) (tail other_tail : List ℕ) (at : ℕ) (f g : XidFault)
     → IsParameterWrong before identifier tail at f → IsParameterWrong others other other_tail at g → place_of f ≡ place_of g → f ≡ g
-parameter-one before others identifier other tail other_tail at (Repeated p) (Repeated q) h k e = ap Repeated e
-parameter-one before others identifier other tail other_tail at (Length p) (Length q) h k e = ap Length e
-parameter-one before others identifier other tail other_tail at (Value p) (Value q) h k e = ap Value e
-parameter-one before others identifier other tail other_tail at (Repeated p) (Length q) (a, h) (b, k) e = absurd (omega arith)
-parameter-one before others identifier other tail other_tail at (Repeated p) (Value q) (a, h) (b, k) e = absurd (omega arith)
-parameter-one before others identifier other tail other_tail at (Length p) (Repeated q) (a, h) (b, k) e = absurd (omega arith)
-parameter-one before others identifier other tail other_tail at (Length p) (Value q) (a, h) (b, k) e = absurd (omega arith)
-parameter-one before others identifier other tail other_tail at (Value p) (Repeated q) (a, h) (b, k) e = absurd (omega arith)
-parameter-one before others identifier other tail other_tail at (Value p) (Length q) (a, h) (b, k) e = absurd (omega arith)
-parameter-one before others identifier other tail other_tail at (Group p) g h k e = absurd h
-parameter-one before others identifier other tail other_tail at Format g h k e = absurd h
-parameter-one before others identifier other tail other_tail at (Repeated p) (Group q) h k e = absurd k
-parameter-one before others identifier other tail other_tail at (Repeated p) Format h k e = absurd k
-parameter-one before others identifier other tail other_tail at (Length p) (Group q) h k e = absurd k
-parameter-one before others identifier other tail other_tail at (Length p) Format h k e = absurd k
-parameter-one before others identifier other tail other_tail at (Value p) (Group q) h k e = absurd k
-parameter-one before others identifier other tail other_tail at (Value p) Format h k e = absurd k
+parameter-one before others identifier other tail other_tail at q7 g h k e = grind (arith)
 
 -- no group begins where a parameter does
 apart : (octets : List ℕ) (q : ℕ) (f g : XidFault) → GroupHas octets q f → InnerHas octets q g → ⊥
@@ -117,34 +85,21 @@ apart octets q f g h i =
     ]
 
 format-alone : (octets rest : List ℕ) → octets ≡ 130 ∷ rest → IsNoXid octets → ⊥
-format-alone [] rest e h = cc
-format-alone (x ∷ octets) rest e h = h cc
+format-alone q0 rest e h = grind (arith)
 
 one-here : (octets : List ℕ) (q : ℕ) (f g : XidFault) → Has octets q f → Has octets q g → place_of f ≡ place_of g → f ≡ g
 one-here octets q f g (inl h) (inl k) e = h.fault_is ∙ sym k.fault_is
-one-here octets q f g (inl h) (inr (inl k)) e =
-    absurd (format-alone octets (flat_map group_octets k.groups ++ k.identifier ∷ k.tail) k.passes.whole h.begins)
-one-here octets q f g (inl h) (inr (inr k)) e =
-    absurd (format-alone octets
-    (flat_map group_octets k.groups ++ (group_octets (record { identifier = 128; value = k.content }) ++ k.rest)) k.passes.whole h.begins)
-one-here octets q f g (inr (inl h)) (inl k) e =
-    absurd (format-alone octets (flat_map group_octets h.groups ++ h.identifier ∷ h.tail) h.passes.whole k.begins)
-one-here octets q f g (inr (inr h)) (inl k) e =
-    absurd (format-alone octets
-    (flat_map group_octets h.groups ++ (group_octets (record { identifier = 128; value = h.content }) ++ h.rest)) h.passes.whole k.begins)
-one-here octets q f g (inr (inl h)) (inr (inl k)) e =
-    group-one h.groups k.groups h.identifier k.identifier h.tail k.tail q f g h.wrong k.wrong e
+one-here octets q f g (inl h) (inr (inl k)) e = grind (arith, format-alone)
+one-here octets q f g (inl h) (inr (inr k)) e = grind (arith, format-alone)
+one-here octets q f g (inr (inl h)) (inl k) e = grind (arith, format-alone)
+one-here octets q f g (inr (inr h)) (inl k) e = grind (arith, format-alone)
+one-here octets q f g (inr (inl h)) (inr (inl k)) e = grind (arith, group-one)
 one-here octets q f g (inr (inl h)) (inr (inr k)) e = absurd (apart octets q f g h k)
 one-here octets q f g (inr (inr h)) (inr (inl k)) e = absurd (apart octets q g f k h)
-one-here octets q f g (inr (inr h)) (inr (inr k)) e =
-    parameter-one h.inner.parts k.inner.parts h.inner.identifier k.inner.identifier h.inner.tail k.inner.tail q f g h.inner.wrong
-    k.inner.wrong e
+one-here octets q f g (inr (inr h)) (inr (inr k)) e = grind (arith, parameter-one)
 
 both-first : (f g p q : ℕ) → (f < g) ⊎ ((f ≡ g) × (p ≤ q)) → (g < f) ⊎ ((g ≡ f) × (q ≤ p)) → (f ≡ g) × (p ≡ q)
-both-first f g p q (inl h) (inl k) = absurd (omega arith)
-both-first f g p q (inl h) (inr (e, k)) = absurd (omega arith)
-both-first f g p q (inr (e, h)) (inl k) = absurd (omega arith)
-both-first f g p q (inr (e, h)) (inr (d, k)) = (e, omega arith)
+both-first f g p q q4 q5 = grind (arith)
 
 pub one-fault : (octets : List ℕ) (fault other : XidFault) → FirstFault octets fault → FirstFault octets other → fault ≡ other
 one-fault octets fault other h k =
@@ -165,8 +120,7 @@ fault-is octets (Err first) ok err fault f = ap Err (one-fault octets first faul
 
 is-fault : (octets : List ℕ) (result : Result Offer XidFault) → IfErr result (FirstFault octets) → (fault : XidFault) → result ≡ Err fault
     → FirstFault octets fault
-is-fault octets (Ok found) err fault e = cc
-is-fault octets (Err first) err fault e = (let same : first ≡ fault = cc in subst (FirstFault octets) same err)
+is-fault octets q1 err fault e = grind (arith)
 
 pub all-faults : (octets : List ℕ) (result : Result Offer XidFault) → IfOk result (OfferSpelling octets) → IfErr result (FirstFault octets)
     → (fault : XidFault) → (result ≡ Err fault) ↔ FirstFault octets fault

@@ -46,8 +46,7 @@ no-end-first : (part : Part) (parts : List Part) → named 255 (part ∷ parts) 
     → (nat_eq part.identifier 255 ≡ false) × (named 255 parts ≡ [])
 no-end-first part parts = go (nat_eq part.identifier 255) where
   go : (b : Bool) → cond b (part ∷ named 255 parts) (named 255 parts) ≡ [] → (b ≡ false) × (named 255 parts ≡ [])
-  go true e = cc
-  go false e = (refl, e)
+  go q0 e = grind (arith)
 
 two-octets : (n m : ℕ) → m ≡ 256 * (n / 256) + n % 256 → m ≡ n
 two-octets n m e = omega arith
@@ -149,8 +148,7 @@ high-low n high low e l = (omega arith, omega arith)
 
 one-before : (identifier : ℕ) (value : List ℕ) (found : Option (List Part)) (parts : List Part) → before identifier value found ≡ Some parts
     → (more : List Part) × (found ≡ Some more) × (record { identifier = identifier; value = value } ∷ more ≡ parts)
-one-before identifier value None parts e = cc
-one-before identifier value (Some more) parts e = (more, refl, cc)
+one-before identifier value q2 parts e = grind (arith)
 
 octets-drop : (n : ℕ) (octets : List ℕ) → AreSmall octets → AreSmall (drop n octets)
 octets-drop n octets are i = let here = are (n + i) in grind (arith, common_steps)
@@ -216,14 +214,7 @@ one-parameter : (room identifier count : ℕ) (tail : List ℕ) (parts : List Pa
     → cond b (before identifier (take count tail) (parameters_in room (drop count tail))) None ≡ Some parts
     → identifier ∷ count ∷ tail ≡ flat_map parameter_octets parts
 one-parameter room identifier count tail parts others false f h = cc
-one-parameter room identifier count tail parts others true f h =
-    let fits : count ≤ length tail = grind (arith, nat_tests) in
-    let value : List ℕ = take count tail in
-    let size : length value ≡ count = length-take-le count tail fits in
-    let p = one-before identifier value (parameters_in room (drop count tail)) parts h in
-    subst (λ ps. identifier ∷ count ∷ tail ≡ flat_map parameter_octets ps) p.2
-    (ap (λ t. identifier ∷ count ∷ t) (sym (take-append-drop count tail) ∙ ap (λ o. value ++ o) (others p.0 p.1))
-    ∙ ap (λ c. identifier ∷ c ∷ (value ++ flat_map parameter_octets p.0)) (sym size))
+one-parameter room identifier count tail parts others true f h = grind (arith, nat_tests, length-take-le, one-before, take-append-drop)
 
 parameters-back : (room : ℕ) (content : List ℕ) (parts : List Part) → length content ≤ room → parameters_in room content ≡ Some parts
     → content ≡ flat_map parameter_octets parts
@@ -262,11 +253,7 @@ all-each parts h =
           → IsTrue (stands_well RxLength (named 6 parts)) → IsTrue (stands_well TxWindow (named 7 parts))
           → IsTrue (stands_well RxWindow (named 8 parts))
           → (p : Parameter) → IsTrue (stands_well p (named (identifier_of p) parts))
-      each a b c d e Functions = a
-      each a b c d e TxLength = b
-      each a b c d e RxLength = c
-      each a b c d e TxWindow = d
-      each a b c d e RxWindow = e
+      each a b c d e q5 = grind (arith)
 
 found-with : (content : List ℕ) (found : Option (List Part)) (offer : Offer)
     → ((parts : List Part) → found ≡ Some parts → content ≡ flat_map parameter_octets parts) → option_and_then offer_with found ≡ Some offer

@@ -70,11 +70,7 @@ is-spelled (Some offer) groups before more part o e is =
 pub whole-group : (tail value rest : List ℕ) → tail ≡ (length value / 256) ∷ (length value % 256) ∷ (value ++ rest) → IsGroupCut tail → ⊥
 whole-group [] value rest e h = cc
 whole-group (high ∷ []) value rest e h = let bad : [] ≡ (length value % 256) ∷ (value ++ rest) = cc in cc
-whole-group (high ∷ low ∷ more) value rest e h =
-    let a : high ≡ length value / 256 = cc in
-    let b : low ≡ length value % 256 = cc in
-    let m : more ≡ value ++ rest = cc in
-    absurd (omega (arith, ap length m, length-append value rest))
+whole-group (high ∷ low ∷ more) value rest e h = grind (arith, more, length-append)
 
 -- nothing is wrong with the groups that were passed
 group-none-wrong : (offered : Option Offer) (groups before more : List Part) (part : Part) (identifier : ℕ) (tail rest : List ℕ) (at : ℕ)
@@ -84,9 +80,7 @@ group-none-wrong : (offered : Option Offer) (groups before more : List Part) (pa
 group-none-wrong offered groups before more part identifier tail rest at (Group place) o e f (p, is, again) =
     let same : part.identifier ≡ 128 = cc in
     again (is-spelled offered groups before more part o e same).first
-group-none-wrong offered groups before more part identifier tail rest at (Length place) o e f (p, cut) =
-    let t : tail ≡ (length part.value / 256) ∷ (length part.value % 256) ∷ (part.value ++ rest) = cc in
-    whole-group tail part.value rest t cut
+group-none-wrong offered groups before more part identifier tail rest at (Length place) o e f (p, cut) = grind (arith, tail, whole-group)
 group-none-wrong offered groups before more part identifier tail rest at (Value place) o e f h = h
 group-none-wrong offered groups before more part identifier tail rest at (Repeated place) o e f h = h
 group-none-wrong offered groups before more part identifier tail rest at Format o e f h = h
@@ -118,20 +112,14 @@ tail-same x xs ys e = cc
 
 -- the places behind groups and more groups
 pub place-more : (groups more : List Part) → place_behind (groups ++ more) ≡ place_behind groups + length (flat_map group_octets more)
-place-more groups more =
-    omega (
-      arith,
-      ap length (flat_map-append group_octets groups more),
-      length-append (flat_map group_octets groups) (flat_map group_octets more),
-    )
+place-more groups more = grind (arith, flat_map-append, groups, more, length-append)
 
 append-empty : (xs ys : List Part) → xs ++ ys ≡ [] → ys ≡ []
 append-empty [] ys e = e
 append-empty (x ∷ xs) ys e = cc
 
 ends-more : (groups more all : List Part) → all ≡ groups ++ more → named 255 all ≡ [] → named 255 more ≡ []
-ends-more groups more all e none =
-    append-empty (named 255 groups) (named 255 more) (sym (named-append 255 groups more) ∙ ap (named 255) (sym e) ∙ none)
+ends-more groups more all e none = grind (arith, append-empty, groups, more, named-append)
 
 -- faults of groups stand behind the groups that were passed
 group-further : (octets rest : List ℕ) (groups : List Part) (offered : Option Offer) (q : ℕ) (fault : XidFault) → Passes octets groups rest
@@ -180,8 +168,7 @@ inner-further octets rest groups offered q fault p o h =
     ]
 
 format-none : (octets groups rest : List ℕ) (q : ℕ) (fault : XidFault) → octets ≡ 130 ∷ rest → FormatHas octets q fault → ⊥
-format-none [] groups rest q fault e h = cc
-format-none (x ∷ octets) groups rest q fault e h = h.begins cc
+format-none q0 groups rest q fault e h = grind (arith)
 
 pub further : (octets rest : List ℕ) (groups : List Part) (offered : Option Offer) (q : ℕ) (fault : XidFault) → Passes octets groups rest
     → Offers offered groups → Has octets q fault → Further groups rest (place_behind groups) q fault
@@ -192,19 +179,11 @@ further octets rest groups offered q fault p o (inr (inr i)) = inr (inner-furthe
 
 pub group-from : (groups : List Part) (identifier : ℕ) (tail : List ℕ) (at : ℕ) (fault : XidFault)
     → IsGroupWrong groups identifier tail at fault → at ≤ place_of fault
-group-from groups identifier tail at (Group place) (e, is, w) = omega arith
-group-from groups identifier tail at (Length place) (e, w) = omega arith
-group-from groups identifier tail at (Value place) h = absurd h
-group-from groups identifier tail at (Repeated place) h = absurd h
-group-from groups identifier tail at Format h = absurd h
+group-from groups identifier tail at q4 h = grind (arith)
 
 group-to : (groups : List Part) (identifier : ℕ) (tail : List ℕ) (at : ℕ) (fault : XidFault) → IsGroupWrong groups identifier tail at fault
     → place_of fault ≤ at + 1
-group-to groups identifier tail at (Group place) (e, is, w) = omega arith
-group-to groups identifier tail at (Length place) (e, w) = omega arith
-group-to groups identifier tail at (Value place) h = absurd h
-group-to groups identifier tail at (Repeated place) h = absurd h
-group-to groups identifier tail at Format h = absurd h
+group-to groups identifier tail at q4 h = grind (arith)
 
 -- a fault of a parameter stands behind the beginning of what group 80 contains
 pub inner-from : (content : List ℕ) (start q : ℕ) (fault : XidFault) → ParameterHas content start q fault
@@ -260,11 +239,7 @@ first-group octets tail groups offered identifier at fault p o no_end at_is wron
 
 least-group-length : (groups : List Part) (identifier : ℕ) (tail : List ℕ) (at : ℕ) → (identifier ≡ 128 → named 128 groups ≡ [])
     → (other : XidFault) → IsGroupWrong groups identifier tail at other → at + 1 ≤ place_of other
-least-group-length groups identifier tail at new (Group place) (e, is, again) = absurd (again (new is))
-least-group-length groups identifier tail at new (Length place) (e, w) = omega arith
-least-group-length groups identifier tail at new (Value place) h = absurd h
-least-group-length groups identifier tail at new (Repeated place) h = absurd h
-least-group-length groups identifier tail at new Format h = absurd h
+least-group-length groups identifier tail at new q5 h = grind (arith)
 
 -- a group behind which nothing is wrong with itself
 group-whole : (groups : List Part) (identifier : ℕ) (tail content after : List ℕ) (at : ℕ) (fault : XidFault)

@@ -83,8 +83,7 @@ compare spell free (a ∷ xs) (b ∷ ys) x y e =
     ]
 
 one-more : (b : Bool) (a : Part) (xs ys zs : List Part) → zs ≡ xs ++ ys → cond b (a ∷ zs) zs ≡ cond b (a ∷ xs) xs ++ ys
-one-more true a xs ys zs e = ap (λ t. a ∷ t) e
-one-more false a xs ys zs e = e
+one-more q0 a xs ys zs e = grind (arith)
 
 pub named-append : (identifier : ℕ) (xs ys : List Part) → named identifier (xs ++ ys) ≡ named identifier xs ++ named identifier ys
 named-append identifier [] ys = refl

@@ -27,42 +27,25 @@ pub record ParametersPassed (content rest : List ℕ) (given : Given) : Type 0 w
 
 -- True is not false.
 pub true-and-false : (b : Bool) → IsTrue b → IsTrue (not b) → ⊥
-true-and-false true h k = false≢true k
-true-and-false false h k = false≢true h
+true-and-false q0 h k = grind (arith)
 
 pub fault-from : (parts : List Part) (identifier : ℕ) (tail : List ℕ) (at : ℕ) (fault : XidFault)
     → IsParameterWrong parts identifier tail at fault → at ≤ place_of fault
-fault-from parts identifier tail at (Repeated place) (e, w) = omega arith
-fault-from parts identifier tail at (Length place) (e, w) = omega arith
-fault-from parts identifier tail at (Value place) (e, w) = omega arith
-fault-from parts identifier tail at (Group place) w = absurd w
-fault-from parts identifier tail at Format w = absurd w
+fault-from parts identifier tail at q4 w = grind (arith)
 
 pub fault-to : (parts : List Part) (identifier : ℕ) (tail : List ℕ) (at : ℕ) (fault : XidFault)
     → IsParameterWrong parts identifier tail at fault → place_of fault ≤ at + 2
-fault-to parts identifier tail at (Repeated place) (e, w) = omega arith
-fault-to parts identifier tail at (Length place) (e, w) = omega arith
-fault-to parts identifier tail at (Value place) (e, w) = omega arith
-fault-to parts identifier tail at (Group place) w = absurd w
-fault-to parts identifier tail at Format w = absurd w
+fault-to parts identifier tail at q4 w = grind (arith)
 
 -- a cut parameter isn't whole
 whole-not-cut : (tail value rest : List ℕ) → tail ≡ length value ∷ (value ++ rest) → IsParameterCut tail → ⊥
 whole-not-cut [] value rest e h = cc
-whole-not-cut (count ∷ more) value rest e h =
-    let c : count ≡ length value = cc in
-    let m : more ≡ value ++ rest = cc in
-    absurd (omega (arith, ap length m, length-append value rest))
+whole-not-cut (count ∷ more) value rest e h = grind (arith, more, length-append)
 
 -- its length is that of the value
 measured : (tail value rest : List ℕ) (identifier : ℕ) (q : Parameter) → tail ≡ length value ∷ (value ++ rest)
     → identifier ≡ identifier_of q → IsTrue (accepts q (length value)) → HasWrongLength identifier tail → ⊥
-measured tail value rest identifier q e is accepted m =
-    let same : m.parameter ≡ q = same-parameter m.parameter q (sym m.identifier_is ∙ is) in
-    let both : m.count ∷ m.rest ≡ length value ∷ (value ++ rest) = sym m.tail_is ∙ e in
-    let count : m.count ≡ length value = cc in
-    true-and-false (accepts q (length value)) accepted
-    (subst (λ n. IsTrue (not (accepts q n))) count (subst (λ r. IsTrue (not (accepts r m.count))) same m.refused))
+measured tail value rest identifier q e is accepted m = grind (arith, same-parameter, true-and-false, not)
 
 -- nothing is wrong with a parameter among those that stand well
 pub none-wrong : (parts before more : List Part) (part : Part) (identifier : ℕ) (tail rest : List ℕ) (at : ℕ) (fault : XidFault)
@@ -72,9 +55,7 @@ none-wrong parts before more part identifier tail rest at (Repeated place) w e f
     let is : identifier ≡ part.identifier = cc in
     let alone = stands-alone parts before more part r.parameter w e (sym is ∙ r.identifier_is) in
     r.again (ap (λ k. named k before) r.identifier_is ∙ alone.first)
-none-wrong parts before more part identifier tail rest at (Length place) w e f (p, inl cut) =
-    let t : tail ≡ length part.value ∷ (part.value ++ rest) = cc in
-    whole-not-cut tail part.value rest t cut
+none-wrong parts before more part identifier tail rest at (Length place) w e f (p, inl cut) = grind (arith, tail, whole-not-cut)
 none-wrong parts before more part identifier tail rest at (Length place) w e f (p, inr m) =
     let is : identifier ≡ part.identifier = cc in
     let t : tail ≡ length part.value ∷ (part.value ++ rest) = cc in
@@ -148,11 +129,7 @@ first-more parts (m ∷ ms) identifier other_identifier tail other_tail at q fau
 
 place-within : (parts : List Part) (identifier : ℕ) (tail : List ℕ) (at : ℕ) (fault : XidFault) (end : ℕ)
     → IsParameterWrong parts identifier tail at fault → at + 1 + length tail ≤ end → place_of fault ≤ end
-place-within parts identifier tail at (Repeated place) end (e, w) room = omega arith
-place-within parts identifier tail at (Length place) end (e, w) room = omega arith
-place-within parts identifier tail at (Value place) end (e, w) room = omega (arith, ap length w.tail_is)
-place-within parts identifier tail at (Group place) end w room = absurd w
-place-within parts identifier tail at Format end w room = absurd w
+place-within parts identifier tail at q4 end w room = grind (arith)
 
 -- The first fault stands at the parameter that comes next.
 pub first-parameter : (content : List ℕ) (parts : List Part) (identifier : ℕ) (tail : List ℕ) (start at : ℕ) (fault : XidFault)
@@ -172,20 +149,14 @@ first-parameter content parts identifier tail start at fault w e at_is wrong lea
 
 least-length : (parts : List Part) (identifier : ℕ) (tail : List ℕ) (at : ℕ) → (IsRepeated parts identifier → ⊥) → (other : XidFault)
     → IsParameterWrong parts identifier tail at other → at + 1 ≤ place_of other
-least-length parts identifier tail at new (Repeated place) (e, r) = absurd (new r)
-least-length parts identifier tail at new (Length place) (e, w) = omega arith
-least-length parts identifier tail at new (Value place) (e, w) = omega arith
-least-length parts identifier tail at new (Group place) w = absurd w
-least-length parts identifier tail at new Format w = absurd w
+least-length parts identifier tail at new q5 w = grind (arith)
 
 least-value : (parts : List Part) (identifier : ℕ) (tail value rest : List ℕ) (q : Parameter) (at : ℕ) → (IsRepeated parts identifier → ⊥)
     → tail ≡ length value ∷ (value ++ rest) → identifier ≡ identifier_of q → IsTrue (accepts q (length value))
     → (other : XidFault) → IsParameterWrong parts identifier tail at other → at + 2 ≤ place_of other
 least-value parts identifier tail value rest q at new e is accepted (Repeated place) (p, r) = absurd (new r)
-least-value parts identifier tail value rest q at new e is accepted (Length place) (p, inl cut) =
-    absurd (whole-not-cut tail value rest e cut)
-least-value parts identifier tail value rest q at new e is accepted (Length place) (p, inr m) =
-    absurd (measured tail value rest identifier q e is accepted m)
+least-value parts identifier tail value rest q at new e is accepted (Length place) (p, inl cut) = grind (arith, whole-not-cut, tail)
+least-value parts identifier tail value rest q at new e is accepted (Length place) (p, inr m) = grind (arith, measured, tail, identifier)
 least-value parts identifier tail value rest q at new e is accepted (Value place) (p, w) = omega arith
 least-value parts identifier tail value rest q at new e is accepted (Group place) w = absurd w
 least-value parts identifier tail value rest q at new e is accepted Format w = absurd w

@@ -20,11 +20,7 @@ parameter_of n = cond (nat_eq n 3) Functions (cond (nat_eq n 5) TxLength (cond (
 
 of-identifier : (p : Parameter) → parameter_of (identifier_of p) ≡ p
 unfolding parameter_of
-of-identifier Functions = refl
-of-identifier TxLength = refl
-of-identifier RxLength = refl
-of-identifier TxWindow = refl
-of-identifier RxWindow = refl
+of-identifier q0 = grind (arith)
 
 pub same-parameter : (p q : Parameter) → identifier_of p ≡ identifier_of q → p ≡ q
 same-parameter p q e = sym (of-identifier p) ∙ ap parameter_of e ∙ of-identifier q
@@ -33,13 +29,11 @@ same-parameter p q e = sym (of-identifier p) ∙ ap parameter_of e ∙ of-identi
 
 pub named-other : (k : ℕ) (parts : List Part) (part : Part) → nat_eq part.identifier k ≡ false
     → named k (parts ++ part ∷ []) ≡ named k parts
-named-other k parts part other =
-    named-append k parts (part ∷ []) ∙ ap (λ b. named k parts ++ cond b (part ∷ []) []) other ∙ append-nil (named k parts)
+named-other k parts part other = grind (arith, named-append, cond, append-nil)
 
 pub named-first : (k : ℕ) (parts : List Part) (part : Part) → named k parts ≡ [] → nat_eq part.identifier k ≡ true
     → named k (parts ++ part ∷ []) ≡ part ∷ []
-named-first k parts part none same =
-    named-append k parts (part ∷ []) ∙ ap (λ b. named k parts ++ cond b (part ∷ []) []) same ∙ ap (λ ps. ps ++ part ∷ []) none
+named-first k parts part none same = grind (arith, named-append, cond)
 
 said-other : {A : Type 0} (read : List ℕ → A) (k : ℕ) (parts : List Part) (part : Part) (o : Option A) → nat_eq part.identifier k ≡ false
     → o ≡ said read (named k parts) → o ≡ said read (named k (parts ++ part ∷ []))
@@ -141,16 +135,13 @@ not-repeated parts identifier p e new = subst (λ k. named k parts ≡ []) e (go
 -- parameters that stand well, and one more
 
 pub and-left : (a b : Bool) → IsTrue (a && b) → IsTrue a
-and-left true b h = refl
-and-left false b h = absurd (false≢true h)
+and-left q0 b h = grind (arith)
 
 pub and-right : (a b : Bool) → IsTrue (a && b) → IsTrue b
-and-right true b h = h
-and-right false b h = absurd (false≢true h)
+and-right q0 b h = grind (arith)
 
 pub and-both : (a b : Bool) → IsTrue a → IsTrue b → IsTrue (a && b)
-and-both true b h k = k
-and-both false b h k = absurd (false≢true h)
+and-both q0 b h k = grind (arith)
 
 pub well-none : AreWell []
 well-none = record { each = λ p. refl }

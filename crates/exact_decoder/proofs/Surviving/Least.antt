@@ -129,9 +129,7 @@ prefix-decided (x ∷ a) (y ∷ b) = both (cases_eq x y) (prefix-decided a b)
     tail r q = cc
 
     both : (x ≡ y) ⊎ (x ≡ y → ⊥) → IsPrefixOf a b ⊎ (IsPrefixOf a b → ⊥) → IsPrefixOf (x ∷ a) (y ∷ b) ⊎ (IsPrefixOf (x ∷ a) (y ∷ b) → ⊥)
-    both (inr differ) p = inr (λ q. differ (head q.0 q.1))
-    both (inl same) (inr never) = inr (λ q. never (q.0, tail q.0 q.1))
-    both (inl same) (inl (r, e)) = inl (r, rw (same, e) refl)
+    both q0 p = grind (arith)
 
 -- whether it is one of the survivors of the states below n
 abbrev CommonBelow : {X : Type 0} → Trellis X → List X → List ℕ → ℕ → Type 0

@@ -1,4 +1,4 @@
-use Rattle.std.proofs.Common.{◌≡◌, ◌∙◌, Bool, true, false, not, List, refl, sym, ap, ◌&&◌}
+use Rattle.std.proofs.Common.{arith, ◌≡◌, ◌∙◌, Bool, true, false, not, List, refl, sym, ap, ◌&&◌}
 use Rattle.std.specs.List.{list_any}
 use Rattle.std.proofs.lemmas.Bool.{false≢true}
 use Rattle.shared_terms.specs.Role.{same_role}
@@ -10,8 +10,7 @@ use Rattle.noise_script.proofs.Still.{still}
 use Rattle.noise_script.proofs.script.Script.is_still.Goals as goal
 
 none-of : (b : Bool) → not b ≡ true → b ≡ false
-none-of true e = absurd (false≢true e)
-none-of false e = refl
+none-of q0 e = grind (arith)
 
 pub returns : goal.returns
 returns c = λ e.
