@@ -1,11 +1,7 @@
 -- What stands behind an open flag.
-use Rattle.std.proofs.Common.{◌≡◌, ℕ, zero, suc, ◌+◌, ◌-◌, ◌<◌, ◌≤◌, min, Bool, true, false, List, [], ◌∷◌, ◌++◌, length, take, drop, arith}
-use Rattle.std.proofs.Common.{refl, sym, ◌∙◌, ap, subst, inl, inr}
-use Rattle.std.proofs.lemmas.Grind.{common_steps}
-use Rattle.std.proofs.lemmas.List.{take_more, drop-append-le}
-use Rattle.std.proofs.lemmas.Bool.{cases_lt, false≢true}
-use Rattle.bit_stuffing.specs.Flags.{bit_of, FlagEndsAt, SevenOnesEndAt, OpenedAt}
-use Rattle.bit_stuffing.specs.Stuffing.{Fits, room_after}
+use Rattle.bit_stuffing.proofs.Names.{◌≡◌, ℕ, zero, suc, ◌+◌, ◌-◌, ◌<◌, ◌≤◌, min, Bool, true, false, List, [], ◌∷◌, ◌++◌, length, take}
+use Rattle.bit_stuffing.proofs.Names.{drop, arith, refl, sym, ◌∙◌, ap, subst, inl, inr, cases_lt, false≢true, common_steps, take_more}
+use Rattle.bit_stuffing.proofs.Names.{drop-append-le, bit_of, FlagEndsAt, SevenOnesEndAt, OpenedAt, Fits, room_after}
 use Rattle.bit_stuffing.proofs.Ones.{CountsOnes, one-more, zero-more, flag-six, seven-ones}
 use Rattle.bit_stuffing.proofs.Openings.{before_open}
 use Rattle.bit_stuffing.proofs.Stuffed.{next_room, room-snoc, fits-snoc}

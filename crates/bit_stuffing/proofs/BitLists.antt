@@ -1,8 +1,7 @@
 -- Bits that are gathered to a number.
-use Rattle.std.proofs.Common.{◌≡◌, ℕ, zero, suc, ◌+◌, ◌*◌, ◌/◌, ◌%◌, ◌^◌, ◌<◌, ◌≤◌, Bool, true, false, [], ◌∷◌, ◌++◌, nat_eq, arith, refl}
-use Rattle.std.proofs.Common.{ap}
+use Rattle.bit_stuffing.proofs.Names.{◌≡◌, ℕ, zero, suc, ◌+◌, ◌*◌, ◌/◌, ◌%◌, ◌^◌, ◌<◌, ◌≤◌, Bool, true, false, [], ◌∷◌, ◌++◌, nat_eq, arith}
+use Rattle.bit_stuffing.proofs.Names.{refl, ap, low_bits, number}
 use Rattle.std.proofs.Math.Nat.{pow-suc, pow-le-pow_right}
-use Rattle.frame_check.specs.Bits.{low_bits, number}
 
 twice : (k : ℕ) → 2 ^ suc k ≡ 2 * 2 ^ k
 twice k = omega (arith, pow-suc 2 k)

@@ -1,16 +1,8 @@
 -- Contents, one bit after another, and what a piece is.
-use Rattle.std.proofs.Common.{◌≡◌, ◌≢◌, ℕ, ◌+◌, ◌-◌, ◌≤◌, Bool, true, false, List, [], ◌∷◌, ◌++◌, length, take, arith, refl, sym, ◌∙◌, ap}
-use Rattle.std.proofs.Common.{subst, IsTrue, get_or, Some}
-use Rattle.std.proofs.lemmas.Grind.{common_steps}
-use Rattle.std.proofs.lemmas.Bool.Decides.{nat_tests}
-use Rattle.std.proofs.lemmas.List.{take_more, drop-append-le, take-append-le, drop_all}
-use Rattle.std.proofs.lemmas.Bool.{false≢true}
-use Rattle.bit_stuffing.specs.declared.piece.Piece.{Piece}
-use Rattle.bit_stuffing.specs.declared.piece.Piece.TheVariants.{Whole, Ragged, Aborted, TooLong, TooShort}
-use Rattle.bit_stuffing.specs.Flags.{OpenedAt, IsFar, IsNear, Aborts, Closes}
-use Rattle.bit_stuffing.specs.Stuffing.{Fits}
-use Rattle.bit_stuffing.specs.Pieces.{content, IsWhole, Judged, EndsWhole, IsAnswer}
-use Rattle.bit_stuffing.specs.Deframer.{back, Gathering, Gathers, Lends}
+use Rattle.bit_stuffing.proofs.Names.{◌≡◌, ◌≢◌, ℕ, ◌+◌, ◌-◌, ◌≤◌, Bool, true, false, List, [], ◌∷◌, ◌++◌, length, take, arith, refl, sym}
+use Rattle.bit_stuffing.proofs.Names.{◌∙◌, ap, subst, IsTrue, get_or, Some, false≢true, nat_tests, common_steps, take_more, drop-append-le}
+use Rattle.bit_stuffing.proofs.Names.{take-append-le, drop_all, back, Gathering, Gathers, Lends, OpenedAt, IsFar, IsNear, Aborts, Closes}
+use Rattle.bit_stuffing.proofs.Names.{content, IsWhole, Judged, EndsWhole, IsAnswer, Fits, Piece, Whole, Ragged, Aborted, TooLong, TooShort}
 use Rattle.bit_stuffing.proofs.Places.{length-snoc}
 use Rattle.bit_stuffing.proofs.Openings.{opened-once, opened-was}
 use Rattle.bit_stuffing.proofs.Between.{runs, take-length}

@@ -1,11 +1,9 @@
 -- A machine of two counters, for bits of which only the runs of ones are known.
-use Rattle.std.proofs.Common.{◌≡◌, ◌≢◌, ℕ, ◌+◌, ◌<◌, min, Bool, true, false, if◌then◌else◌, nat_eq, List, [], ◌∷◌, ◌++◌, length, Option}
-use Rattle.std.proofs.Common.{Some, None, arith, append_assoc, refl, sym, ◌∙◌, ap, subst}
-use Rattle.std.proofs.lemmas.Bool.{false≢true, eqb-true, eqb-false}
-use Rattle.std.proofs.lemmas.List.{append-nil}
-use Rattle.bit_stuffing.specs.Flags.{OpenedAt, SevenOnesEndAt, Aborts, Closes}
-use Rattle.bit_stuffing.specs.Deframer.{CountsSince}
-use Rattle.bit_stuffing.specs.Found.{Found, found_at, listed, pieces_of}
+use Rattle.bit_stuffing.proofs.Names.{◌≡◌, ◌≢◌, ℕ, ◌+◌, ◌<◌, min, Bool, true, false, if◌then◌else◌, nat_eq, List, [], ◌∷◌, ◌++◌, length}
+use Rattle.bit_stuffing.proofs.Names.{Option, Some, None, arith, append_assoc, refl, sym, ◌∙◌, ap, subst, false≢true, eqb-true, append-nil}
+use Rattle.bit_stuffing.proofs.Names.{CountsSince, OpenedAt, SevenOnesEndAt, Aborts, Closes, Found, listed}
+use Rattle.std.proofs.lemmas.Bool.{eqb-false}
+use Rattle.bit_stuffing.specs.Found.{found_at, pieces_of}
 use Rattle.bit_stuffing.proofs.Places.{length-snoc}
 use Rattle.bit_stuffing.proofs.Ones.{CountsOnes, one-more, zero-more, no_flag-one, flag-six, six-flag, seven-ones, ones-seven}
 use Rattle.bit_stuffing.proofs.Ones.{no_seven-zero, opened-few}

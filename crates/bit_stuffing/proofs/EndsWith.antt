@@ -1,13 +1,7 @@
 -- Tests of the last bits of a stream.
-use Rattle.std.proofs.Common.{◌≡◌, ℕ, ◌+◌, ◌-◌, ◌<◌, ◌≤◌, Bool, true, false, List, [], ◌∷◌, length, drop, get_or, arith, length-drop, refl}
-use Rattle.std.proofs.Common.{sym, ◌∙◌, ap}
-use Rattle.std.specs.Bool.{beq}
-use Rattle.std.specs.List.{ends_with}
-use Rattle.std.specs.Cmp.Lexicographic.{pointwise}
-use Rattle.std.proofs.lemmas.Bool.{false≢true}
-use Rattle.std.proofs.lemmas.List.{get_or-drop, same_lists, get_or_default}
-use Rattle.bit_stuffing.specs.Flags.{bit_of, flag, FlagEndsAt, SevenOnesEndAt}
-use Rattle.bit_stuffing.specs.Found.{seven_ones}
+use Rattle.bit_stuffing.proofs.Names.{◌≡◌, ℕ, ◌+◌, ◌-◌, ◌<◌, ◌≤◌, Bool, true, false, List, [], ◌∷◌, length, drop, get_or, arith}
+use Rattle.bit_stuffing.proofs.Names.{length-drop, refl, sym, ◌∙◌, ap, false≢true, get_or-drop, same_lists, get_or_default, beq, pointwise}
+use Rattle.bit_stuffing.proofs.Names.{ends_with, bit_of, flag, FlagEndsAt, SevenOnesEndAt, seven_ones}
 use Rattle.bit_stuffing.proofs.Latest.{below8}
 
 pub same_bits : (xs ys : List Bool) → pointwise beq xs ys ≡ true → xs ≡ ys

@@ -1,14 +1,7 @@
 -- Flags in a row, the last of which may be cut, and the bits of slots.
-use Rattle.std.proofs.Common.{◌≡◌, ℕ, zero, suc, ◌+◌, ◌-◌, ◌*◌, ◌/◌, ◌%◌, ◌<◌, ◌≤◌, Bool, List, Option, [], ◌∷◌, ◌++◌, length}
-use Rattle.std.proofs.Common.{take, arith, append_assoc, length-append, refl, sym, ◌∙◌, ap}
-use Rattle.std.proofs.lemmas.List.{append-nil}
-use Rattle.frame_check.specs.Bits.{low_bits}
-use Rattle.bit_stuffing.specs.declared.pen.Pen.{Pen}
-use Rattle.bit_stuffing.specs.BitSlot.{line_bits}
-use Rattle.bit_stuffing.specs.Pen.{written}
-use Rattle.bit_stuffing.specs.Flags.{flag}
-use Rattle.bit_stuffing.specs.Slots.{Slot, flags, fill, opening, slot_bits, next_phase, bits_from, phase_from}
-use Rattle.bit_stuffing.specs.Slots.Slot.{Plain, Flags}
+use Rattle.bit_stuffing.proofs.Names.{◌≡◌, ℕ, zero, suc, ◌+◌, ◌-◌, ◌*◌, ◌/◌, ◌%◌, ◌<◌, ◌≤◌, Bool, List, Option, [], ◌∷◌, ◌++◌, length, take}
+use Rattle.bit_stuffing.proofs.Names.{arith, append_assoc, length-append, refl, sym, ◌∙◌, ap, append-nil, line_bits, flag, written, Slot}
+use Rattle.bit_stuffing.proofs.Names.{flags, fill, opening, slot_bits, next_phase, bits_from, phase_from, Plain, Flags, Pen, low_bits}
 use Rattle.bit_stuffing.proofs.Between.{take-length}
 use Rattle.bit_stuffing.proofs.Written.{length-written}
 

@@ -1,17 +1,13 @@
 -- What is found at a bit, as a relation and as a function.
-use Rattle.std.proofs.Common.{◌≡◌, ℕ, zero, suc, ◌+◌, ◌-◌, ◌<◌, ◌≤◌, inl, inr, Bool, true, false, if◌then◌else◌, nat_lt, List, [], ◌∷◌}
-use Rattle.std.proofs.Common.{◌++◌, All, length, take, get_or, Option, Some, None, arith, refl, sym, ◌∙◌, ap, subst}
-use Rattle.std.specs.Bool.{beq}
-use Rattle.std.specs.List.{ends_with}
-use Rattle.std.specs.Option.{option_map, option_map_or}
-use Rattle.std.proofs.lemmas.Bool.{false≢true, ltb-true, ltb-false}
-use Rattle.std.proofs.lemmas.List.{take_more, take-append-le, take_all}
-use Rattle.std.proofs.lemmas.List.Elements.{All-cons, All-nil}
-use Rattle.bit_stuffing.specs.declared.piece.Piece.{Piece}
-use Rattle.bit_stuffing.specs.declared.piece.Piece.TheVariants.{Whole, Ragged, Aborted, TooLong, TooShort}
-use Rattle.bit_stuffing.specs.Flags.{flag, FlagEndsAt, OpenedAt, Aborts, Closes}
-use Rattle.bit_stuffing.specs.Pieces.{content, IsWhole, Judged, IsAnswer, EndsWhole, IsLent}
-use Rattle.bit_stuffing.specs.Found.{Found, seven_ones, opened_before, judged, octets_in, found_from, found_at, answer_of, lent_of, listed}
+use Rattle.bit_stuffing.proofs.Names.{◌≡◌, ℕ, zero, suc, ◌+◌, ◌-◌, ◌<◌, ◌≤◌, inl, inr, Bool, true, false, if◌then◌else◌, nat_lt, List, []}
+use Rattle.bit_stuffing.proofs.Names.{◌∷◌, ◌++◌, All, length, take, get_or, Option, Some, None, arith, refl, sym, ◌∙◌, ap, subst}
+use Rattle.bit_stuffing.proofs.Names.{false≢true, ltb-true, ltb-false, take_more, take-append-le, take_all, All-cons, All-nil, beq}
+use Rattle.bit_stuffing.proofs.Names.{ends_with, option_map, flag, FlagEndsAt, OpenedAt, Aborts, Closes, Found, seven_ones, opened_before}
+use Rattle.bit_stuffing.proofs.Names.{judged, octets_in, found_from, listed, content, IsWhole, Judged, IsAnswer, EndsWhole, Piece, Whole}
+use Rattle.bit_stuffing.proofs.Names.{Ragged, Aborted, TooLong, TooShort}
+use Rattle.std.specs.Option.{option_map_or}
+use Rattle.bit_stuffing.specs.Pieces.{IsLent}
+use Rattle.bit_stuffing.specs.Found.{found_at, answer_of, lent_of}
 use Rattle.bit_stuffing.specs.Found.{found_before, pieces_of}
 use Rattle.bit_stuffing.proofs.Places.{length-snoc}
 use Rattle.bit_stuffing.proofs.Openings.{opened-once, opened-stays, opened-by_flag, at_end, from_end, seven_at_end, seven_from_end}

@@ -1,17 +1,12 @@
 -- A finder of flags at four bits with which nothing ends, or at eight of flags that follow one another: each case is computed.
-use Rattle.std.proofs.Common.{◌≡◌, ℕ, ◌+◌, ◌-◌, ◌*◌, ◌/◌, ◌%◌, ◌<◌, ◌≤◌, Bool, true, false, ◌&&◌, if◌then◌else◌, nat_eq}
-use Rattle.std.proofs.Common.{nat_lt, List, [], ◌∷◌, ◌++◌, length, Option, Some, None, lit≤, arith, append_assoc, refl, sym, ◌∙◌, ap, subst}
-use Rattle.std.proofs.Common.{inl, inr}
-use Rattle.std.proofs.lemmas.Bool.{cases_lt, false≢true, eqb-true, eq-eqb, ltb-true, lt-ltb, le-ltb, and_parts}
-use Rattle.std.proofs.lemmas.List.{append-nil}
-use Rattle.std.specs.Int.{bit_at, rotate_right}
-use Rattle.std.specs.Int.Width.{w8}
-use Rattle.frame_check.specs.Bits.{number, low_bits, octet_bits}
-use Rattle.bit_stuffing.specs.Flags.{bit_of, OpenedAt}
-use Rattle.bit_stuffing.specs.Pieces.{EndsWhole}
+use Rattle.bit_stuffing.proofs.Names.{◌≡◌, ℕ, ◌+◌, ◌-◌, ◌*◌, ◌/◌, ◌%◌, ◌<◌, ◌≤◌, Bool, true, false, ◌&&◌, if◌then◌else◌, nat_eq, nat_lt}
+use Rattle.bit_stuffing.proofs.Names.{List, [], ◌∷◌, ◌++◌, length, Option, Some, None, arith, append_assoc, refl, sym, ◌∙◌, ap, subst, inl}
+use Rattle.bit_stuffing.proofs.Names.{inr, cases_lt, false≢true, eqb-true, eq-eqb, ltb-true, lt-ltb, and_parts, append-nil, bit_at}
+use Rattle.bit_stuffing.proofs.Names.{rotate_right, w8, back, HoldsLatest, CountsSince, Finding, Finds, PassesBits, bit_of, OpenedAt}
+use Rattle.bit_stuffing.proofs.Names.{since_four, EndsWhole, number, low_bits, octet_bits}
+use Rattle.std.proofs.Common.{lit≤}
+use Rattle.std.proofs.lemmas.Bool.{le-ltb}
 use Rattle.bit_stuffing.specs.Found.{pieces_of}
-use Rattle.bit_stuffing.specs.Deframer.{back, HoldsLatest, CountsSince, Finding, Finds, PassesBits}
-use Rattle.bit_stuffing.specs.Fours.{since_four}
 use Rattle.bit_stuffing.proofs.Latest.{back-within, back-past, latest-shifted}
 use Rattle.bit_stuffing.proofs.Quiet.{number-is, latest-octet}
 use Rattle.bit_stuffing.proofs.Octets.{each_below, at_each}

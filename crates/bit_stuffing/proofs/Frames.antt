@@ -1,15 +1,9 @@
 -- A frame in a flag slot.
-use Rattle.std.proofs.Common.{◌≡◌, ℕ, ◌+◌, ◌-◌, ◌≤◌, min, Bool, true, false, List, [], ◌∷◌, ◌++◌, length, take, drop, Some, arith}
-use Rattle.std.proofs.Common.{append_assoc, length-append, refl, sym, ◌∙◌, ap, subst}
-use Rattle.std.proofs.lemmas.List.{take-append-le, drop-append-le, take_all, drop_all}
-use Rattle.frame_check.specs.Bits.{bits_of}
-use Rattle.frame_check.proofs.BitLists.{length-bits_of}
+use Rattle.bit_stuffing.proofs.Names.{◌≡◌, ℕ, ◌+◌, ◌-◌, ◌≤◌, min, Bool, true, false, List, [], ◌∷◌, ◌++◌, length, take, drop, Some, arith}
+use Rattle.bit_stuffing.proofs.Names.{append_assoc, length-append, refl, sym, ◌∙◌, ap, subst, take-append-le, drop-append-le, take_all}
+use Rattle.bit_stuffing.proofs.Names.{drop_all, flag, OpenedAt, Closes, content, flags, fill, rest_of_flag, opening, slot_bits, Flags}
+use Rattle.bit_stuffing.proofs.Names.{stuffed, length-bits_of, bits_of}
 use Rattle.bit_stuffing.specs.declared.piece.TheConstants.{SHORTEST}
-use Rattle.bit_stuffing.specs.Flags.{flag, OpenedAt, Closes}
-use Rattle.bit_stuffing.specs.Stuffing.{stuffed}
-use Rattle.bit_stuffing.specs.Pieces.{content}
-use Rattle.bit_stuffing.specs.Slots.{flags, fill, rest_of_flag, opening, slot_bits}
-use Rattle.bit_stuffing.specs.Slots.Slot.{Flags}
 use Rattle.bit_stuffing.proofs.Ones.{flag-six}
 use Rattle.bit_stuffing.proofs.Openings.{opened-once, flag-closes, is_far}
 use Rattle.bit_stuffing.proofs.Counters.{Counters, Counts, run, Still, run-append, counts-run, Below6, below-append, below-still, open-run}

@@ -1,16 +1,10 @@
 -- A content, gathered bit by bit, and what it is.
-use Rattle.std.proofs.Common.{◌≡◌, ◌≢◌, ℕ, zero, suc, ◌+◌, ◌-◌, ◌*◌, ◌<◌, ◌≤◌, Bool, true, false, List, [], ◌∷◌, ◌++◌, length, arith}
-use Rattle.std.proofs.Common.{length-append, append_assoc, cond, refl, sym, ◌∙◌, ap, subst}
-use Rattle.std.proofs.lemmas.List.{append-nil}
-use Rattle.frame_check.specs.declared.sizes.TheConstants.{WHOLE}
-use Rattle.frame_check.specs.Bits.{low_bits, bits_of}
-use Rattle.frame_check.proofs.BitLists.{length-low_bits, length-bits_of}
-use Rattle.bit_stuffing.specs.declared.piece.Piece.{Piece}
-use Rattle.bit_stuffing.specs.declared.piece.Piece.TheVariants.{Whole, Ragged, Aborted, TooLong, TooShort}
+use Rattle.bit_stuffing.proofs.Names.{◌≡◌, ◌≢◌, ℕ, zero, suc, ◌+◌, ◌-◌, ◌*◌, ◌<◌, ◌≤◌, Bool, true, false, List, [], ◌∷◌, ◌++◌, length}
+use Rattle.bit_stuffing.proofs.Names.{arith, length-append, append_assoc, refl, sym, ◌∙◌, ap, subst, append-nil, Gathering, KeepsBits}
+use Rattle.bit_stuffing.proofs.Names.{Gathers, Carries, IsWhole, Judged, removed, room_after, Fits, Stuffs, Piece, Whole, Ragged, Aborted}
+use Rattle.bit_stuffing.proofs.Names.{TooLong, TooShort, length-low_bits, length-bits_of, low_bits, bits_of, WHOLE}
+use Rattle.std.proofs.Common.{cond}
 use Rattle.bit_stuffing.specs.declared.piece.TheConstants.{SHORTEST}
-use Rattle.bit_stuffing.specs.Stuffing.{removed, room_after, Fits, Stuffs}
-use Rattle.bit_stuffing.specs.Pieces.{Carries, IsWhole, Judged}
-use Rattle.bit_stuffing.specs.Deframer.{Gathering, KeepsBits, Gathers}
 use Rattle.bit_stuffing.proofs.Stuffed.{next_room, kept_bit, room-snoc, removed-snoc, is_removed, stuffs-room, fits-stuffs}
 
 -- the bit behind five ones is dropped

@@ -1,6 +1,5 @@
 -- The two fours of an octet.
-use Rattle.std.proofs.Common.{◌≡◌, ℕ, ◌/◌, ◌%◌, Bool, List, ◌++◌, arith, append_assoc, refl, ◌∙◌, ap}
-use Rattle.frame_check.specs.Bits.{low_bits, octet_bits}
+use Rattle.bit_stuffing.proofs.Names.{◌≡◌, ℕ, ◌/◌, ◌%◌, Bool, List, ◌++◌, arith, append_assoc, refl, ◌∙◌, ap, low_bits, octet_bits}
 
 -- four bits have no part in the higher ones
 pub low-four : (octet : ℕ) → low_bits 4 (octet % 16) ≡ low_bits 4 octet

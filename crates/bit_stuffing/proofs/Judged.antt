@@ -1,18 +1,12 @@
 -- What a content is, as a relation and as a function.
-use Rattle.std.proofs.Common.{◌≡◌, ◌≢◌, ◌⊎◌, inl, inr, ℕ, ◌*◌, ◌/◌, ◌%◌, ◌≤◌, Bool, true, false, ◌&&◌, not, if◌then◌else◌, List, length}
-use Rattle.std.proofs.Common.{nat_eq, nat_lt, arith, refl, sym, ◌∙◌, ap, subst}
-use Rattle.std.specs.Bool.{beq}
-use Rattle.std.specs.Cmp.Lexicographic.{pointwise}
-use Rattle.std.proofs.lemmas.Bool.{false≢true, ltb-true, ltb-false, eqb-true, eq-eqb}
-use Rattle.frame_check.specs.declared.sizes.TheConstants.{WHOLE}
+use Rattle.bit_stuffing.proofs.Names.{◌≡◌, ◌≢◌, ◌⊎◌, inl, inr, ℕ, ◌*◌, ◌/◌, ◌%◌, ◌≤◌, Bool, true, false, ◌&&◌, not, if◌then◌else◌, List}
+use Rattle.bit_stuffing.proofs.Names.{length, nat_eq, nat_lt, arith, refl, sym, ◌∙◌, ap, subst, false≢true, ltb-true, ltb-false, eqb-true}
+use Rattle.bit_stuffing.proofs.Names.{eq-eqb, beq, pointwise, judged, octets_in, Carries, IsWhole, Judged, Stuffs, stuffed, removed}
+use Rattle.bit_stuffing.proofs.Names.{room_after, Fits, Piece, Whole, Ragged, Aborted, TooLong, TooShort, same_octets, WHOLE}
 use Rattle.frame_check.specs.Bits.{octets_of}
-use Rattle.frame_check.proofs.BitLists.{bits_of-octets_of, octets_of-are_octets, length-octets_of, same_octets}
-use Rattle.bit_stuffing.specs.declared.piece.Piece.{Piece}
-use Rattle.bit_stuffing.specs.declared.piece.Piece.TheVariants.{Whole, Ragged, Aborted, TooLong, TooShort}
+use Rattle.frame_check.proofs.BitLists.{bits_of-octets_of, octets_of-are_octets, length-octets_of}
 use Rattle.bit_stuffing.specs.declared.piece.TheConstants.{SHORTEST}
-use Rattle.bit_stuffing.specs.Stuffing.{Stuffs, stuffed, removed, room_after, Fits}
-use Rattle.bit_stuffing.specs.Pieces.{Carries, IsWhole, Judged}
-use Rattle.bit_stuffing.specs.Found.{are_octets, judged, octets_in}
+use Rattle.bit_stuffing.specs.Found.{are_octets}
 use Rattle.bit_stuffing.proofs.Stuffed.{is_stuffed, is_removed, stuffs-stuffed, stuffs-room, fits-stuffs}
 use Rattle.bit_stuffing.proofs.Gather.{carried-length}
 use Rattle.bit_stuffing.proofs.EndsWith.{same_bits, bits-same}

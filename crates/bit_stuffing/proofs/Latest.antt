@@ -1,15 +1,10 @@
 -- The latest eight bits as a number.
-use Rattle.std.proofs.Common.{◌≡◌, ℕ, zero, suc, ◌+◌, ◌-◌, ◌*◌, ◌/◌, ◌%◌, ◌^◌, ◌<◌, ◌≤◌, Bool, true, false, nat_eq, List, [], ◌∷◌, ◌++◌}
-use Rattle.std.proofs.Common.{length, lit<, arith, refl, sym, ◌∙◌, ap, inl, inr}
-use Rattle.std.proofs.lemmas.Nat.Bits.{bit_at_cat_low, bit_at_lowest, bit_at-suc, same_from_bits_below}
-use Rattle.std.proofs.lemmas.Grind.{common_steps}
-use Rattle.std.proofs.lemmas.Bool.Decides.{nat_tests}
-use Rattle.std.specs.Int.{bit_at}
-use Rattle.std.proofs.lemmas.Bool.{cases_lt}
+use Rattle.bit_stuffing.proofs.Names.{◌≡◌, ℕ, zero, suc, ◌+◌, ◌-◌, ◌*◌, ◌/◌, ◌%◌, ◌^◌, ◌<◌, ◌≤◌, Bool, true, false, nat_eq, List, [], ◌∷◌}
+use Rattle.bit_stuffing.proofs.Names.{◌++◌, length, lit<, arith, refl, sym, ◌∙◌, ap, inl, inr, cases_lt, nat_tests, common_steps}
+use Rattle.bit_stuffing.proofs.Names.{bit_at_cat_low, bit_at-suc, bit_at, back, HoldsLatest, bit_of, flag, FlagEndsAt, SevenOnesEndAt}
+use Rattle.bit_stuffing.proofs.Names.{number}
+use Rattle.std.proofs.lemmas.Nat.Bits.{bit_at_lowest, same_from_bits_below}
 use Rattle.std.proofs.lemmas.Nat.{shr_split}
-use Rattle.frame_check.specs.Bits.{number}
-use Rattle.bit_stuffing.specs.Flags.{bit_of, flag, FlagEndsAt, SevenOnesEndAt}
-use Rattle.bit_stuffing.specs.Deframer.{back, HoldsLatest}
 
 back-first : (past : List Bool) (bit : Bool) → back (past ++ bit ∷ []) 1 ≡ bit
 back-first past bit = grind (arith, common_steps, nat_tests)

@@ -1,3 +1,4 @@
+mod Names
 pub mod Stuffed
 mod Places
 mod Openings

@@ -1,12 +1,10 @@
 -- Octets of a content in which no zero was inserted.
-use Rattle.std.proofs.Common.{◌≡◌, ℕ, zero, suc, ◌+◌, ◌-◌, ◌*◌, ◌/◌, ◌%◌, ◌^◌, ◌<◌, ◌≤◌, Bool, true, false, ◌&&◌, if◌then◌else◌, nat_eq}
-use Rattle.std.proofs.Common.{List, [], ◌∷◌, ◌++◌, arith, append_assoc, refl, sym, ◌∙◌, ap, subst, inl, inr}
-use Rattle.std.proofs.lemmas.Bool.{cases_lt, false≢true, eqb-true, and_parts}
-use Rattle.std.proofs.lemmas.List.Elements.{All-append, All-cons, All-nil}
-use Rattle.frame_check.proofs.BitLists.{bits_of-snoc}
-use Rattle.frame_check.specs.Bits.{low_bits, octet_bits, bits_of}
-use Rattle.bit_stuffing.specs.Stuffing.{stuffed, room_behind, removed, room_after}
-use Rattle.bit_stuffing.specs.Deframer.{Gathering, KeepsBits, Gathers, has_room, is_plain, room_behind_octet, room_behind_four}
+use Rattle.bit_stuffing.proofs.Names.{◌≡◌, ℕ, zero, suc, ◌+◌, ◌-◌, ◌*◌, ◌/◌, ◌%◌, ◌^◌, ◌<◌, ◌≤◌, Bool, true, false, ◌&&◌, if◌then◌else◌}
+use Rattle.bit_stuffing.proofs.Names.{nat_eq, List, [], ◌∷◌, ◌++◌, arith, append_assoc, refl, sym, ◌∙◌, ap, subst, inl, inr, cases_lt}
+use Rattle.bit_stuffing.proofs.Names.{false≢true, eqb-true, and_parts, All-append, All-cons, All-nil, Gathering, KeepsBits, Gathers}
+use Rattle.bit_stuffing.proofs.Names.{has_room, is_plain, stuffed, room_behind, removed, room_after, bits_of-snoc, low_bits, octet_bits}
+use Rattle.bit_stuffing.proofs.Names.{bits_of}
+use Rattle.bit_stuffing.specs.Deframer.{room_behind_octet, room_behind_four}
 use Rattle.bit_stuffing.proofs.Latest.{below8}
 
 -- more bits behind others

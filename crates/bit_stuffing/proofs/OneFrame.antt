@@ -1,13 +1,9 @@
 -- The bits of a flag slot tell which frame it carries, if it carries one.
-use Rattle.std.proofs.Common.{◌≡◌, ◌∙◌, ℕ, zero, suc, ◌-◌, ◌/◌, ◌%◌, ◌≤◌, Bool, true, false, List, [], ◌∷◌, ◌++◌, length, take, drop}
-use Rattle.std.proofs.Common.{Option, Some, None, refl, sym, ap, arith, append_assoc, length-append}
+use Rattle.bit_stuffing.proofs.Names.{◌≡◌, ◌∙◌, ℕ, zero, suc, ◌-◌, ◌/◌, ◌%◌, ◌≤◌, Bool, true, false, List, [], ◌∷◌, ◌++◌, length, take}
+use Rattle.bit_stuffing.proofs.Names.{drop, Option, Some, None, refl, sym, ap, arith, append_assoc, length-append, flag, flags, fill}
+use Rattle.bit_stuffing.proofs.Names.{rest_of_flag, framed, opening, slot_bits, IsFrame, IsSlot, Flags, stuffed, length-bits_of}
+use Rattle.bit_stuffing.proofs.Names.{same_octets, bits_of}
 use Rattle.std.proofs.Math.Seq.{drop-append_seam}
-use Rattle.frame_check.specs.Bits.{bits_of}
-use Rattle.frame_check.proofs.BitLists.{length-bits_of, same_octets}
-use Rattle.bit_stuffing.specs.Flags.{flag}
-use Rattle.bit_stuffing.specs.Slots.{flags, fill, rest_of_flag, framed, opening, slot_bits, IsFrame, IsSlot}
-use Rattle.bit_stuffing.specs.Slots.Slot.{Flags}
-use Rattle.bit_stuffing.specs.Stuffing.{stuffed}
 use Rattle.bit_stuffing.proofs.Fill.{length-fill}
 
 -- no six ones stand where a stuffing begins, nor where it ends before

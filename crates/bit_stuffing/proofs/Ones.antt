@@ -1,8 +1,6 @@
 -- The ones in a row at the end of a stream.
-use Rattle.std.proofs.Common.{◌≡◌, ℕ, ◌+◌, ◌-◌, ◌<◌, ◌≤◌, inl, inr, Bool, true, false, List, [], ◌∷◌, ◌++◌, length, arith, refl, sym, ◌∙◌}
-use Rattle.std.proofs.Common.{min}
-use Rattle.std.proofs.lemmas.Bool.{cases_lt, false≢true}
-use Rattle.bit_stuffing.specs.Flags.{bit_of, flag, FlagEndsAt, SevenOnesEndAt, OpenedAt}
+use Rattle.bit_stuffing.proofs.Names.{◌≡◌, ℕ, ◌+◌, ◌-◌, ◌<◌, ◌≤◌, inl, inr, Bool, true, false, List, [], ◌∷◌, ◌++◌, length, arith, refl}
+use Rattle.bit_stuffing.proofs.Names.{sym, ◌∙◌, min, cases_lt, false≢true, bit_of, flag, FlagEndsAt, SevenOnesEndAt, OpenedAt}
 use Rattle.bit_stuffing.proofs.Places.{length-snoc, bit-before, bit-last}
 use Rattle.bit_stuffing.proofs.Openings.{before_open}
 use Rattle.bit_stuffing.proofs.Latest.{below8}

@@ -1,9 +1,7 @@
 -- The flag that is open, at one more bit.
-use Rattle.std.proofs.Common.{◌≡◌, ◌≢◌, ℕ, ◌+◌, ◌-◌, ◌<◌, ◌≤◌, inl, inr, Bool, true, false, List, [], ◌∷◌, ◌++◌, length, arith, sym, ◌∙◌}
-use Rattle.std.proofs.Common.{min, Some, None, IsTrue, nat_eq}
-use Rattle.std.proofs.lemmas.Bool.{cases_lt, false≢true, eq-eqb}
-use Rattle.bit_stuffing.specs.Flags.{bit_of, FlagEndsAt, SevenOnesEndAt, OpenedAt, IsFar, IsNear, Aborts, Closes}
-use Rattle.bit_stuffing.specs.Deframer.{CountsSince}
+use Rattle.bit_stuffing.proofs.Names.{◌≡◌, ◌≢◌, ℕ, ◌+◌, ◌-◌, ◌<◌, ◌≤◌, inl, inr, Bool, true, false, List, [], ◌∷◌, ◌++◌, length, arith, sym}
+use Rattle.bit_stuffing.proofs.Names.{◌∙◌, min, Some, None, IsTrue, nat_eq, cases_lt, false≢true, eq-eqb, CountsSince, bit_of, FlagEndsAt}
+use Rattle.bit_stuffing.proofs.Names.{SevenOnesEndAt, OpenedAt, IsFar, IsNear, Aborts, Closes}
 use Rattle.bit_stuffing.proofs.Places.{length-snoc, bit-before, flag-stays, flag-was, seven-was, seven-stays, flag_or_seven}
 
 -- only one flag is the latest

@@ -1,14 +1,9 @@
 -- A deframer at an octet with which nothing ends.
-use Rattle.std.proofs.Common.{◌≡◌, ◌⊎◌, ℕ, zero, suc, ◌+◌, ◌-◌, ◌/◌, ◌%◌, ◌^◌, ◌<◌, ◌≤◌, min, Bool, false, List, [], ◌∷◌, ◌++◌}
-use Rattle.std.proofs.Common.{length, take, drop, Option, Some, None, IfSome, length-append, arith, refl, sym, ◌∙◌, ap, subst, inl, inr}
-use Rattle.std.proofs.lemmas.Bool.{cases_lt}
-use Rattle.std.proofs.lemmas.List.{drop-append-le, take-append-le}
-use Rattle.std.proofs.lemmas.Grind.{common_steps}
-use Rattle.frame_check.specs.Bits.{low_bits, octet_bits}
-use Rattle.bit_stuffing.specs.Flags.{OpenedAt}
-use Rattle.bit_stuffing.specs.Pieces.{content}
-use Rattle.bit_stuffing.specs.Deframer.{CountsSince, Finding, Finds, Gathering, Gathers, HoldsLatest, IsQuiet, LeavesFour, PassesBits}
-use Rattle.bit_stuffing.specs.Deframer.{DeframerStands}
+use Rattle.bit_stuffing.proofs.Names.{◌≡◌, ◌⊎◌, ℕ, zero, suc, ◌+◌, ◌-◌, ◌/◌, ◌%◌, ◌^◌, ◌<◌, ◌≤◌, min, Bool, false, List, [], ◌∷◌, ◌++◌}
+use Rattle.bit_stuffing.proofs.Names.{length, take, drop, Option, Some, None, IfSome, length-append, arith, refl, sym, ◌∙◌, ap, subst, inl}
+use Rattle.bit_stuffing.proofs.Names.{inr, cases_lt, common_steps, drop-append-le, take-append-le, CountsSince, Finding, Finds, Gathering}
+use Rattle.bit_stuffing.proofs.Names.{Gathers, HoldsLatest, IsQuiet, LeavesFour, PassesBits, DeframerStands, OpenedAt, content, low_bits}
+use Rattle.bit_stuffing.proofs.Names.{octet_bits}
 use Rattle.bit_stuffing.proofs.Between.{take-length}
 use Rattle.bit_stuffing.proofs.Openings.{opened-once}
 use Rattle.bit_stuffing.proofs.Quiet.{quiet-rests, latest-bits}

@@ -1,8 +1,6 @@
 -- One more bit: what ended at an earlier place still does.
-use Rattle.std.proofs.Common.{◌≡◌, ℕ, ◌+◌, ◌-◌, ◌<◌, ◌≤◌, Bool, List, [], ◌∷◌, ◌++◌, length, arith, length-append, sym, ◌∙◌}
-use Rattle.std.proofs.lemmas.Grind.{common_steps}
-use Rattle.std.proofs.lemmas.Bool.{false≢true}
-use Rattle.bit_stuffing.specs.Flags.{bit_of, FlagEndsAt, SevenOnesEndAt}
+use Rattle.bit_stuffing.proofs.Names.{◌≡◌, ℕ, ◌+◌, ◌-◌, ◌<◌, ◌≤◌, Bool, List, [], ◌∷◌, ◌++◌, length, arith, length-append, sym, ◌∙◌}
+use Rattle.bit_stuffing.proofs.Names.{false≢true, common_steps, bit_of, FlagEndsAt, SevenOnesEndAt}
 
 pub length-snoc : (bits : List Bool) (b : Bool) → length (bits ++ b ∷ []) ≡ length bits + 1
 length-snoc bits b = omega (arith, length-append {A = Bool})

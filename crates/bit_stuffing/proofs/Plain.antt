@@ -1,15 +1,10 @@
 -- Given bits in a slot: no flag stands in them, and they end with seven ones.
-use Rattle.std.proofs.Common.{◌≡◌, ℕ, ◌+◌, ◌-◌, ◌<◌, ◌≤◌, ◌⊎◌, inl, inr, Bool, true, false, List, [], ◌∷◌, ◌++◌, length, min, None, arith}
-use Rattle.std.proofs.Common.{append_assoc, length-append, refl, sym, ◌∙◌, ap, subst}
-use Rattle.std.specs.Bool.{beq}
-use Rattle.std.specs.List.{ends_with}
-use Rattle.std.proofs.lemmas.Bool.{cases_lt, false≢true}
-use Rattle.std.proofs.lemmas.List.{append-nil, get_or_append_left, get_or-append_right}
-use Rattle.bit_stuffing.specs.declared.piece.Piece.TheVariants.{Aborted}
-use Rattle.bit_stuffing.specs.Flags.{bit_of, flag, FlagEndsAt, SevenOnesEndAt, OpenedAt}
-use Rattle.bit_stuffing.specs.Deframer.{CountsSince}
-use Rattle.bit_stuffing.specs.Found.{seven_ones, found_at}
-use Rattle.bit_stuffing.specs.Slots.{IsPlain}
+use Rattle.bit_stuffing.proofs.Names.{◌≡◌, ℕ, ◌+◌, ◌-◌, ◌<◌, ◌≤◌, ◌⊎◌, inl, inr, Bool, true, false, List, [], ◌∷◌, ◌++◌, length, min, None}
+use Rattle.bit_stuffing.proofs.Names.{arith, append_assoc, length-append, refl, sym, ◌∙◌, ap, subst, cases_lt, false≢true, append-nil}
+use Rattle.bit_stuffing.proofs.Names.{get_or_append_left, beq, ends_with, CountsSince, bit_of, flag, FlagEndsAt, SevenOnesEndAt, OpenedAt}
+use Rattle.bit_stuffing.proofs.Names.{seven_ones, IsPlain, Aborted}
+use Rattle.std.proofs.lemmas.List.{get_or-append_right}
+use Rattle.bit_stuffing.specs.Found.{found_at}
 use Rattle.bit_stuffing.proofs.Places.{length-snoc}
 use Rattle.bit_stuffing.proofs.Ones.{CountsOnes, ones-shut}
 use Rattle.bit_stuffing.proofs.Openings.{at_end, from_end, seven_at_end, seven_from_end, opened-once, opened-stays, opened-by_flag}

@@ -1,16 +1,11 @@
 -- Octets with whose bits nothing ends.
-use Rattle.std.proofs.Common.{◌≡◌, ◌⊎◌, ℕ, zero, suc, ◌+◌, ◌-◌, ◌*◌, ◌/◌, ◌%◌, ◌^◌, ◌<◌, ◌≤◌, min, Bool, true, false, not, nat_eq, List, []}
-use Rattle.std.proofs.Common.{◌∷◌, ◌++◌, length, drop, Some, None, bit_and, lit<, arith, append_assoc, refl, sym, ◌∙◌, ap, subst, inl, inr}
-use Rattle.std.proofs.lemmas.Grind.{common_steps}
-use Rattle.std.proofs.lemmas.Bool.{cases_lt, false≢true, eqb-true}
-use Rattle.std.proofs.lemmas.Bool.Decides.{nat_tests}
-use Rattle.std.proofs.lemmas.List.{append-nil}
-use Rattle.std.proofs.lemmas.Nat.Bits.{bit_at_and, bit_at-suc, bit_at_cat_low, bit_at_cat_high, bit_at-zero}
-use Rattle.std.specs.Int.{bit_at}
-use Rattle.frame_check.specs.Bits.{number, octet_bits}
-use Rattle.bit_stuffing.specs.Flags.{bit_of, FlagEndsAt, SevenOnesEndAt, OpenedAt}
-use Rattle.bit_stuffing.specs.Deframer.{back, HoldsLatest, CountsSince, Finding, Finds, IsQuiet}
-use Rattle.bit_stuffing.specs.Found.{pieces_of, listed}
+use Rattle.bit_stuffing.proofs.Names.{◌≡◌, ◌⊎◌, ℕ, zero, suc, ◌+◌, ◌-◌, ◌*◌, ◌/◌, ◌%◌, ◌^◌, ◌<◌, ◌≤◌, min, Bool, true, false, not, nat_eq}
+use Rattle.bit_stuffing.proofs.Names.{List, [], ◌∷◌, ◌++◌, length, drop, Some, None, bit_and, lit<, arith, append_assoc, refl, sym, ◌∙◌, ap}
+use Rattle.bit_stuffing.proofs.Names.{subst, inl, inr, cases_lt, false≢true, eqb-true, nat_tests, common_steps, append-nil, bit_at-suc}
+use Rattle.bit_stuffing.proofs.Names.{bit_at_cat_low, bit_at, back, HoldsLatest, CountsSince, Finding, Finds, IsQuiet, bit_of, FlagEndsAt}
+use Rattle.bit_stuffing.proofs.Names.{SevenOnesEndAt, OpenedAt, listed, number, octet_bits}
+use Rattle.std.proofs.lemmas.Nat.Bits.{bit_at_and, bit_at_cat_high, bit_at-zero}
+use Rattle.bit_stuffing.specs.Found.{pieces_of}
 use Rattle.bit_stuffing.proofs.Latest.{below8, back-within}
 use Rattle.bit_stuffing.proofs.Places.{length-snoc}
 use Rattle.bit_stuffing.proofs.Openings.{opened-stays, opened-was, at_end, seven_at_end}

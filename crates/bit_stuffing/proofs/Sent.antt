@@ -1,16 +1,11 @@
 -- What is found in slots is what was sent in them.
-use Rattle.std.proofs.Common.{◌≡◌, ◌⊎◌, inl, inr, ℕ, ◌+◌, ◌-◌, ◌%◌, ◌<◌, ◌≤◌, Bool, true, false, List, [], ◌∷◌, ◌++◌, All, length, Some}
-use Rattle.std.proofs.Common.{None, arith, append_assoc, length-append, refl, sym, ◌∙◌, ap, subst}
-use Rattle.std.proofs.lemmas.List.{append-nil}
-use Rattle.std.proofs.lemmas.List.Elements.{All-append, All-cons, All-nil}
-use Rattle.frame_check.specs.Bits.{bits_of}
-use Rattle.bit_stuffing.specs.declared.piece.Piece.TheVariants.{Whole, Aborted}
-use Rattle.bit_stuffing.specs.Stuffing.{stuffed}
-use Rattle.bit_stuffing.specs.Pieces.{IsWhole, content}
-use Rattle.bit_stuffing.specs.Found.{Found, found_at, listed, pieces_of}
-use Rattle.bit_stuffing.specs.Slots.{Slot, flags, fill, rest_of_flag, opening, slot_bits, next_phase, bits_from, phase_from, sent_bits}
-use Rattle.bit_stuffing.specs.Slots.{phase_after, flags_behind, frames_of, IsFrame, IsSlot, AreSlots}
-use Rattle.bit_stuffing.specs.Slots.Slot.{Plain, Flags}
+use Rattle.bit_stuffing.proofs.Names.{◌≡◌, ◌⊎◌, inl, inr, ℕ, ◌+◌, ◌-◌, ◌%◌, ◌<◌, ◌≤◌, Bool, true, false, List, [], ◌∷◌, ◌++◌, All, length}
+use Rattle.bit_stuffing.proofs.Names.{Some, None, arith, append_assoc, length-append, refl, sym, ◌∙◌, ap, subst, append-nil, All-append}
+use Rattle.bit_stuffing.proofs.Names.{All-cons, All-nil, Found, listed, IsWhole, content, Slot, flags, fill, rest_of_flag, opening}
+use Rattle.bit_stuffing.proofs.Names.{slot_bits, next_phase, bits_from, phase_from, sent_bits, IsFrame, IsSlot, Plain, Flags, stuffed}
+use Rattle.bit_stuffing.proofs.Names.{Whole, Aborted, bits_of}
+use Rattle.bit_stuffing.specs.Found.{found_at, pieces_of}
+use Rattle.bit_stuffing.specs.Slots.{phase_after, flags_behind, frames_of, AreSlots}
 use Rattle.bit_stuffing.specs.Sent.{Added, whole_at, aborted_at, FoundIn, SlotAdds, octets_if_whole, wholes}
 use Rattle.bit_stuffing.proofs.Stuffed.{stuffs-stuffed}
 use Rattle.bit_stuffing.proofs.Found.{found-place, found-whole, pieces-none}

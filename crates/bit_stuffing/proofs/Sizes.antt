@@ -1,18 +1,12 @@
 -- How many bits slots have.
-use Rattle.std.proofs.Common.{◌≡◌, inl, inr, ℕ, zero, suc, ◌+◌, ◌-◌, ◌*◌, ◌/◌, ◌<◌, ◌≤◌, Bool, true, false, not, ◌&&◌, List, [], ◌∷◌, ◌++◌}
-use Rattle.std.proofs.Common.{length, take, replicate, Some, None, arith, length-append, length-drop, refl, sym, ◌∙◌, ap, subst}
-use Rattle.std.specs.Bool.{beq}
-use Rattle.std.specs.List.{starts_with, ends_with}
-use Rattle.std.specs.Cmp.Lexicographic.{pointwise}
-use Rattle.std.proofs.lemmas.Bool.{cases_lt, false≢true}
-use Rattle.std.proofs.lemmas.List.{append-nil, length-replicate, get_or-replicate, get_or-take, get_or_default, same_lists}
-use Rattle.frame_check.specs.Bits.{bits_of}
-use Rattle.frame_check.proofs.BitLists.{length-bits_of}
-use Rattle.bit_stuffing.specs.Flags.{bit_of, flag, FlagEndsAt}
-use Rattle.bit_stuffing.specs.Stuffing.{stuffed}
-use Rattle.bit_stuffing.specs.Found.{seven_ones}
-use Rattle.bit_stuffing.specs.Slots.{Slot, flags, rest_of_flag, opening, slot_bits, are_flagless, IsPlain, IsSlot}
-use Rattle.bit_stuffing.specs.Slots.Slot.{Plain, Flags}
+use Rattle.bit_stuffing.proofs.Names.{◌≡◌, inl, inr, ℕ, zero, suc, ◌+◌, ◌-◌, ◌*◌, ◌/◌, ◌<◌, ◌≤◌, Bool, true, false, not, ◌&&◌, List, []}
+use Rattle.bit_stuffing.proofs.Names.{◌∷◌, ◌++◌, length, take, replicate, Some, None, arith, length-append, length-drop, refl, sym, ◌∙◌, ap}
+use Rattle.bit_stuffing.proofs.Names.{subst, cases_lt, false≢true, append-nil, get_or_default, same_lists, beq, pointwise, ends_with}
+use Rattle.bit_stuffing.proofs.Names.{bit_of, flag, FlagEndsAt, seven_ones, Slot, flags, rest_of_flag, opening, slot_bits, IsPlain, IsSlot}
+use Rattle.bit_stuffing.proofs.Names.{Plain, Flags, stuffed, length-bits_of, bits_of}
+use Rattle.std.specs.List.{starts_with}
+use Rattle.std.proofs.lemmas.List.{length-replicate, get_or-replicate, get_or-take}
+use Rattle.bit_stuffing.specs.Slots.{are_flagless}
 use Rattle.bit_stuffing.proofs.Between.{take-length}
 use Rattle.bit_stuffing.proofs.EndsWith.{bits-same, ends-seven}
 use Rattle.bit_stuffing.proofs.Fill.{filled-up}

@@ -1,9 +1,7 @@
 -- The counters along flags and contents.
-use Rattle.std.proofs.Common.{◌≡◌, ℕ, zero, suc, ◌+◌, ◌-◌, ◌/◌, ◌%◌, ◌<◌, ◌≤◌, min, Bool, true, false, if◌then◌else◌, List, [], ◌∷◌, ◌++◌}
-use Rattle.std.proofs.Common.{length, take, drop, Some, None, lit<, arith, refl, sym, ◌∙◌, ap, subst}
-use Rattle.bit_stuffing.specs.Flags.{flag}
-use Rattle.bit_stuffing.specs.Stuffing.{stuffed}
-use Rattle.bit_stuffing.specs.Slots.{flags, fill, rest_of_flag}
+use Rattle.bit_stuffing.proofs.Names.{◌≡◌, ℕ, zero, suc, ◌+◌, ◌-◌, ◌/◌, ◌%◌, ◌<◌, ◌≤◌, min, Bool, true, false, if◌then◌else◌, List, [], ◌∷◌}
+use Rattle.bit_stuffing.proofs.Names.{◌++◌, length, take, drop, Some, None, lit<, arith, refl, sym, ◌∙◌, ap, subst, flag, flags, fill}
+use Rattle.bit_stuffing.proofs.Names.{rest_of_flag, stuffed}
 use Rattle.bit_stuffing.proofs.Latest.{below8}
 use Rattle.bit_stuffing.proofs.Counters.{Counters, step, run, Still, run-append, still-append, still-of, Below6, few_not, run-both}
 

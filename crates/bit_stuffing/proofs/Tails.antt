@@ -1,18 +1,12 @@
 -- The pieces of a stream's last bits are the last of its pieces.
-use Rattle.std.proofs.Common.{◌≡◌, ℕ, ◌+◌, ◌-◌, ◌<◌, ◌≤◌, inl, inr, Bool, true, false, if◌then◌else◌, nat_lt, List, [], ◌∷◌, ◌++◌, All}
-use Rattle.std.proofs.Common.{length, map, take, drop, get_or, ◌⊎◌, Option, Some, None, arith, append_assoc, length-append}
-use Rattle.std.proofs.Common.{refl, sym, ◌∙◌, ap, subst}
-use Rattle.std.specs.Bool.{beq}
-use Rattle.std.specs.List.{ends_with}
-use Rattle.std.specs.Cmp.Lexicographic.{pointwise}
-use Rattle.std.specs.Option.{option_map}
-use Rattle.std.proofs.lemmas.Bool.{cases_lt, false≢true}
-use Rattle.std.proofs.lemmas.Bool.Decides.{nat_tests}
-use Rattle.std.proofs.lemmas.List.{append-nil, drop-drop, drop_at, drop-take, get_or-append-add, get_or_append_left, map-append}
-use Rattle.std.proofs.lemmas.List.Elements.{All-append, All-nil}
-use Rattle.bit_stuffing.specs.Flags.{bit_of, flag, FlagEndsAt, SevenOnesEndAt, OpenedAt}
-use Rattle.bit_stuffing.specs.Pieces.{content}
-use Rattle.bit_stuffing.specs.Found.{Found, seven_ones, found_from, found_at, listed, pieces_of, closed, aborted, opened_before}
+use Rattle.bit_stuffing.proofs.Names.{◌≡◌, ℕ, ◌+◌, ◌-◌, ◌<◌, ◌≤◌, inl, inr, Bool, true, false, if◌then◌else◌, nat_lt, List, [], ◌∷◌, ◌++◌}
+use Rattle.bit_stuffing.proofs.Names.{All, length, take, drop, get_or, ◌⊎◌, Option, Some, None, arith, append_assoc, length-append, refl}
+use Rattle.bit_stuffing.proofs.Names.{sym, ◌∙◌, ap, subst, cases_lt, false≢true, nat_tests, append-nil, get_or_append_left, All-append}
+use Rattle.bit_stuffing.proofs.Names.{All-nil, beq, pointwise, ends_with, option_map, bit_of, flag, FlagEndsAt, SevenOnesEndAt, OpenedAt}
+use Rattle.bit_stuffing.proofs.Names.{Found, seven_ones, found_from, listed, opened_before, content}
+use Rattle.std.proofs.Common.{map}
+use Rattle.std.proofs.lemmas.List.{drop-drop, drop_at, drop-take, get_or-append-add, map-append}
+use Rattle.bit_stuffing.specs.Found.{found_at, pieces_of, closed, aborted}
 use Rattle.bit_stuffing.specs.Tails.{behind, LastPiecesAreFound}
 use Rattle.bit_stuffing.proofs.Places.{length-snoc, flag-stays, flag-was}
 use Rattle.bit_stuffing.proofs.Openings.{opened-once}

@@ -1,12 +1,7 @@
 -- Worked values of the definitions.
-use Rattle.std.proofs.Common.{◌≡◌, replicate, true, false, [], ◌∷◌, ◌++◌, refl, Some}
-use Rattle.frame_check.specs.Bits.{bits_of}
-use Rattle.bit_stuffing.specs.declared.piece.Piece.TheVariants.{Whole, Ragged, Aborted}
-use Rattle.bit_stuffing.specs.Flags.{flag}
-use Rattle.bit_stuffing.specs.Stuffing.{stuffed}
+use Rattle.bit_stuffing.proofs.Names.{◌≡◌, replicate, true, false, [], ◌∷◌, ◌++◌, refl, Some, flag, sent_bits, Plain, Flags, stuffed, Whole}
+use Rattle.bit_stuffing.proofs.Names.{Ragged, Aborted, bits_of}
 use Rattle.bit_stuffing.specs.Found.{found_at, pieces_of}
-use Rattle.bit_stuffing.specs.Slots.{sent_bits}
-use Rattle.bit_stuffing.specs.Slots.Slot.{Plain, Flags}
 
 ones_stuffed : stuffed 5
     (bits_of (255 ∷ 255 ∷ [])) ≡ true ∷ true ∷ true ∷ true ∷ true ∷ false ∷ true ∷ true ∷ true ∷ true ∷ true ∷ false ∷ true ∷ true ∷ true ∷

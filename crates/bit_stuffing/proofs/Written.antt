@@ -1,17 +1,12 @@
 -- The bits that are written into a slot.
-use Rattle.std.proofs.Common.{◌≡◌, ℕ, zero, suc, ◌+◌, ◌-◌, ◌*◌, ◌/◌, ◌%◌, ◌^◌, ◌<◌, ◌≤◌, Bool, true, false, nat_eq, List, [], ◌∷◌, ◌++◌}
-use Rattle.std.proofs.Common.{length}
-use Rattle.std.proofs.Common.{take, drop, get_or, bit_and, arith, length-append, length-drop, refl, sym, ◌∙◌, ap, append_assoc}
+use Rattle.bit_stuffing.proofs.Names.{◌≡◌, ℕ, zero, suc, ◌+◌, ◌-◌, ◌*◌, ◌/◌, ◌%◌, ◌^◌, ◌<◌, ◌≤◌, Bool, true, false, nat_eq, List, [], ◌∷◌}
+use Rattle.bit_stuffing.proofs.Names.{◌++◌, length, take, drop, get_or, bit_and, arith, length-append, length-drop, refl, sym, ◌∙◌, ap}
+use Rattle.bit_stuffing.proofs.Names.{append_assoc, append-nil, take_more, get_or-drop, line_bits, flag, written, stuffed, room_behind, Pen}
+use Rattle.bit_stuffing.proofs.Names.{length-low_bits, bits_of-snoc, bits_of-append, low_bits, octet_bits, bits_of}
 use Rattle.std.proofs.lemmas.Grind.{flat_map-append}
-use Rattle.std.proofs.lemmas.List.{append-nil, take_more, take-append-drop, get_or-drop}
+use Rattle.std.proofs.lemmas.List.{take-append-drop}
 use Rattle.std.proofs.lemmas.Nat.{and_mask}
-use Rattle.frame_check.specs.Bits.{low_bits, octet_bits, bits_of}
-use Rattle.frame_check.proofs.BitLists.{length-low_bits, get_or-low_bits, bits_of-snoc, bits_of-append}
-use Rattle.bit_stuffing.specs.declared.pen.Pen.{Pen}
-use Rattle.bit_stuffing.specs.BitSlot.{line_bits}
-use Rattle.bit_stuffing.specs.Pen.{written}
-use Rattle.bit_stuffing.specs.Flags.{flag}
-use Rattle.bit_stuffing.specs.Stuffing.{stuffed, room_behind}
+use Rattle.frame_check.proofs.BitLists.{get_or-low_bits}
 use Rattle.bit_stuffing.proofs.Stuffed.{zero_first}
 use Rattle.bit_stuffing.proofs.Octets.{joined-bits, first-octet}
 

@@ -1,7 +1,6 @@
 -- Whether eight numbers are one.
-use Rattle.std.proofs.Common.{◌≡◌, ◌≢◌, ◌⊎◌, inl, inr, ℕ, ◌<◌, Bool, true, false, ◌&&◌, nat_eq, arith, refl, sym, ◌∙◌}
-use Rattle.std.proofs.lemmas.Bool.{and_parts, cases_eq}
-use Rattle.std.proofs.lemmas.Bool.Decides.{nat_tests}
+use Rattle.exact_decoder.proofs.Names.{◌≡◌, ◌≢◌, ◌⊎◌, inl, inr, ℕ, ◌<◌, Bool, true, false, ◌&&◌, nat_eq, arith, refl, sym, ◌∙◌, and_parts}
+use Rattle.exact_decoder.proofs.Names.{cases_eq, nat_tests}
 use Rattle.exact_decoder.proofs.Vectors.{each_of_eight}
 
 -- each of them is the next, and the last one the first

@@ -1,17 +1,15 @@
 -- The bits of octets, and the octets of bits.
-use Rattle.std.proofs.Common.{◌≡◌, ℕ, zero, suc, ◌+◌, ◌-◌, ◌*◌, ◌/◌, ◌%◌, ◌^◌, ◌<◌, ◌≤◌, inl, inr, Bool, true, false, List, [], ◌∷◌, ◌++◌}
-use Rattle.std.proofs.Common.{All, length, take, drop, get_or, nat_eq, lit<, arith, length-append, refl, sym, ◌∙◌, ap}
-use Rattle.std.specs.Int.{bit_at}
-use Rattle.std.proofs.lemmas.Bool.{cases_lt}
-use Rattle.std.proofs.lemmas.Grind.{common_steps}
-use Rattle.std.proofs.lemmas.List.{same_lists, get_or_append_left, get_or-append_right, take-append-drop}
+use Rattle.frame_check.proofs.Names.{◌≡◌, ℕ, zero, suc, ◌+◌, ◌-◌, ◌*◌, ◌/◌, ◌%◌, ◌^◌, ◌<◌, ◌≤◌, inl, inr, Bool, true, false, List, [], ◌∷◌}
+use Rattle.frame_check.proofs.Names.{◌++◌, All, length, take, drop, get_or, nat_eq, lit<, arith, length-append, refl, sym, ◌∙◌, ap}
+use Rattle.frame_check.proofs.Names.{pow-succ', cases_lt, nat_tests, common_steps, same_lists, bit_at_lowest, bit_at-suc, bit_at, low_bits}
+use Rattle.frame_check.proofs.Names.{octet_bits, bits_of, number}
+use Rattle.std.proofs.lemmas.List.{get_or_append_left, get_or-append_right, take-append-drop}
 use Rattle.std.proofs.lemmas.List.Concat.{flat_map-append}
 use Rattle.std.proofs.lemmas.List.Elements.{All-cons}
 use Rattle.std.proofs.lemmas.Nat.{shr_split}
-use Rattle.std.proofs.lemmas.Nat.Bits.{bit_at_lowest, bit_at-suc, bit_at-lt, bit_at_cat_low, bit_at_cat_high, same_from_bits_below}
-use Rattle.std.proofs.Math.Nat.{pow-succ', pow-le-pow_right}
-use Rattle.std.proofs.lemmas.Bool.Decides.{nat_tests}
-use Rattle.frame_check.specs.Bits.{low_bits, octet_bits, bits_of, number, number_of, octets_of}
+use Rattle.std.proofs.lemmas.Nat.Bits.{bit_at-lt, bit_at_cat_low, bit_at_cat_high, same_from_bits_below}
+use Rattle.std.proofs.Math.Nat.{pow-le-pow_right}
+use Rattle.frame_check.specs.Bits.{number_of, octets_of}
 
 -- the bits of a number
 

@@ -1,13 +1,10 @@
 -- The two generators as the code writes them, and the register at first.
-use Rattle.std.proofs.Common.{◌≡◌, ℕ, zero, suc, ◌-◌, ◌^◌, ◌<◌, inl, inr, Bool, true, false, ◌&&◌, List, nat_eq, slice_index_or, arith}
-use Rattle.std.proofs.Common.{refl, lit<}
-use Rattle.std.specs.Int.{bit_at}
-use Rattle.std.proofs.lemmas.Bool.{cases_lt, false≢true}
+use Rattle.frame_check.proofs.Names.{◌≡◌, ℕ, zero, suc, ◌-◌, ◌^◌, ◌<◌, inl, inr, Bool, true, false, List, nat_eq, slice_index_or, arith}
+use Rattle.frame_check.proofs.Names.{refl, lit<, cases_lt, false≢true, bit_at, number, coefficient, all_ones, generator_of, Mirrors, Holds}
+use Rattle.frame_check.proofs.Names.{Divides, AreFours, Sixteen, ThirtyTwo}
+use Rattle.std.proofs.Common.{◌&&◌}
 use borrow.Author.Tests.{eqb-true}
-use Rattle.frame_check.specs.declared.check.Check.TheVariants.{Sixteen, ThirtyTwo}
-use Rattle.frame_check.specs.Bits.{number}
-use Rattle.frame_check.specs.FrameCheck.{coefficient, all_ones, generator_of}
-use Rattle.frame_check.specs.Register.{Mirrors, Holds, Divides, AreFours, after_zeros}
+use Rattle.frame_check.specs.Register.{after_zeros}
 use Rattle.frame_check.specs.declared.register.TheConstants.{SIXTEEN, THIRTY_TWO}
 
 -- whether each number below n passes

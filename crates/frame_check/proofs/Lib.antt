@@ -1,3 +1,4 @@
+mod Names
 mod Polynomials
 mod Remainders
 mod Unique

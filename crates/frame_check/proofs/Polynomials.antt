@@ -1,12 +1,8 @@
 -- The coefficients of sums, of products and of what is raised.
-use Rattle.std.proofs.Common.{◌≡◌, ℕ, zero, suc, ◌+◌, ◌-◌, ◌<◌, ◌≤◌, inl, inr, Bool, true, false, List, [], ◌∷◌, length, arith, add-one}
-use Rattle.std.proofs.Common.{refl, sym, ◌∙◌, ap, cond, nat_eq, if◌then◌else◌}
-use Rattle.std.proofs.lemmas.Bool.{cases_lt}
-use Rattle.std.proofs.lemmas.Bool.Decides.{nat_tests}
-use Rattle.std.proofs.lemmas.Grind.{common_steps}
-use Rattle.std.proofs.Math.Nat.{eq-or-lt_of_le}
-use Rattle.frame_check.specs.FrameCheck.{coefficient, plus, raised}
-use Rattle.frame_check.specs.Xor.{xor}
+use Rattle.frame_check.proofs.Names.{◌≡◌, ℕ, zero, suc, ◌+◌, ◌-◌, ◌<◌, ◌≤◌, inl, inr, Bool, true, false, List, [], ◌∷◌, length, arith, refl}
+use Rattle.frame_check.proofs.Names.{sym, ◌∙◌, ap, cond, nat_eq, if◌then◌else◌, eq-or-lt_of_le, cases_lt, nat_tests, common_steps}
+use Rattle.frame_check.proofs.Names.{coefficient, plus, raised, xor}
+use Rattle.std.proofs.Common.{add-one}
 
 -- sums in the field
 

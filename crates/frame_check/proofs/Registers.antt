@@ -1,16 +1,12 @@
 -- The register after one more bit holds the next remainder.
-use Rattle.std.proofs.Common.{◌^◌, get_or, take, ◌≡◌, ℕ, zero, suc, ◌+◌, ◌-◌, ◌*◌, ◌/◌, ◌%◌, ◌<◌, ◌≤◌, inl, inr, Bool, true, false, List}
-use Rattle.std.proofs.Common.{◌∷◌, length, arith, refl, sym, ◌∙◌, ap, subst, cond, if◌then◌else◌, nat_eq, slice_index_or, bit_and, bit_xor}
-use Rattle.std.proofs.lemmas.Bool.{cases_lt}
-use Rattle.std.proofs.lemmas.Nat.Bits.{bit_at-suc, bit_at-zero, bit_at_above, bit_at_xor, bit_at_lowest, same_from_bits}
-use Rattle.std.specs.Int.{bit_at}
+use Rattle.frame_check.proofs.Names.{◌^◌, get_or, take, ◌≡◌, ℕ, zero, suc, ◌+◌, ◌-◌, ◌*◌, ◌/◌, ◌%◌, ◌<◌, ◌≤◌, inl, inr, Bool, true, false}
+use Rattle.frame_check.proofs.Names.{List, ◌∷◌, length, arith, refl, sym, ◌∙◌, ap, subst, cond, if◌then◌else◌, nat_eq, slice_index_or}
+use Rattle.frame_check.proofs.Names.{bit_xor, pow-succ', cases_lt, bit_at-suc, bit_at_lowest, bit_at, number, low_bits, octet_bits, bits_of}
+use Rattle.frame_check.proofs.Names.{next_remainder, remainder_from, coefficient, Mirrors, Holds, Divides, AreFours, xor}
+use Rattle.std.proofs.Common.{bit_and}
+use Rattle.std.proofs.lemmas.Nat.Bits.{bit_at-zero, bit_at_above, bit_at_xor, same_from_bits}
 use Rattle.std.proofs.lemmas.Nat.{pow_pos, xor_comm, xor_lt, xor_shr, xor_block, and_mask}
-use Rattle.std.proofs.Math.Nat.{pow-succ'}
-use Rattle.frame_check.specs.Bits.{number, low_bits, octet_bits, bits_of}
-use Rattle.frame_check.specs.FrameCheck.{coefficient}
-use Rattle.frame_check.specs.Xor.{xor}
-use Rattle.frame_check.specs.Division.{next_remainder, remainder_from}
-use Rattle.frame_check.specs.Register.{Mirrors, Holds, Divides, AreFours, after_zero, after_zeros}
+use Rattle.frame_check.specs.Register.{after_zero, after_zeros}
 use Rattle.frame_check.proofs.Polynomials.{xor_false, coefficient-behind, coefficient-lowest, at_power-other, coefficient-chosen}
 use Rattle.frame_check.proofs.Remainders.{is_taken, length-next, coefficient-next, remainder_from-append}
 use Rattle.frame_check.proofs.BitLists.{bits_of-snoc}

@@ -1,13 +1,10 @@
 -- The long division leaves the remainder of the equation, whatever bits follow.
-use Rattle.std.proofs.Common.{◌≡◌, ℕ, zero, suc, ◌+◌, ◌-◌, ◌<◌, ◌≤◌, inl, inr, Bool, true, false, List, [], ◌∷◌, ◌++◌, length, take}
-use Rattle.std.proofs.Common.{reverse, cond, if◌then◌else◌, arith, length-append, append_assoc, refl, sym, ◌∙◌, ap, subst}
-use Rattle.std.proofs.lemmas.Bool.{cases_lt}
-use Rattle.std.proofs.lemmas.Grind.{common_steps}
+use Rattle.frame_check.proofs.Names.{◌≡◌, ℕ, zero, suc, ◌+◌, ◌-◌, ◌<◌, ◌≤◌, inl, inr, Bool, true, false, List, [], ◌∷◌, ◌++◌, length, take}
+use Rattle.frame_check.proofs.Names.{reverse, cond, if◌then◌else◌, arith, length-append, refl, sym, ◌∙◌, ap, subst, eq-or-lt_of_le}
+use Rattle.frame_check.proofs.Names.{cases_lt, common_steps, next_remainder, remainder_from, coefficient, Same, plus, times, raised}
+use Rattle.frame_check.proofs.Names.{all_ones, Leaves, xor}
+use Rattle.std.proofs.Common.{append_assoc}
 use Rattle.std.proofs.lemmas.List.{reverse-append}
-use Rattle.std.proofs.Math.Nat.{eq-or-lt_of_le}
-use Rattle.frame_check.specs.FrameCheck.{coefficient, Same, plus, times, raised, all_ones, Leaves}
-use Rattle.frame_check.specs.Xor.{xor}
-use Rattle.frame_check.specs.Division.{next_remainder, remainder_from}
 use Rattle.frame_check.proofs.Polynomials.{xor_false, xor_twice, regroup, coefficient-plus, length-plus, coefficient-past}
 use Rattle.frame_check.proofs.Polynomials.{coefficient-behind, raised-suc, raised-nothing, coefficient-chosen, at_power, at_power-other}
 use Rattle.frame_check.proofs.Polynomials.{at_power-same, raised-cons}

@@ -1,10 +1,8 @@
 -- The remainder that bits leave is one.
-use Rattle.std.proofs.Common.{◌≡◌, ℕ, zero, suc, ◌+◌, ◌<◌, ◌≤◌, Bool, true, false, List, [], ◌∷◌, length, get_or, reverse, max, cond}
-use Rattle.std.proofs.Common.{if◌then◌else◌, arith, refl, sym, ◌∙◌, ap}
-use Rattle.std.proofs.lemmas.Grind.{common_steps}
-use Rattle.std.proofs.lemmas.List.{same_lists}
-use Rattle.frame_check.specs.FrameCheck.{coefficient, Same, plus, times, raised, all_ones, Leaves}
-use Rattle.frame_check.specs.Xor.{xor}
+use Rattle.frame_check.proofs.Names.{◌≡◌, ℕ, zero, suc, ◌+◌, ◌<◌, ◌≤◌, Bool, true, false, List, [], ◌∷◌, length, get_or, reverse, cond}
+use Rattle.frame_check.proofs.Names.{if◌then◌else◌, arith, refl, sym, ◌∙◌, ap, common_steps, same_lists, coefficient, Same, plus, times}
+use Rattle.frame_check.proofs.Names.{raised, all_ones, Leaves, xor}
+use Rattle.std.proofs.Common.{max}
 use Rattle.frame_check.proofs.Polynomials.{xor_false, coefficient-plus, coefficient-past, coefficient-chosen}
 
 -- the lowest coefficient of a quotient, and the rest of it

@@ -1,12 +1,6 @@
 -- A spelling is an address, a control octet and a tail: octets that begin one.
-use Rattle.std.proofs.Common.{◌≡◌, ℕ, Bool, true, false, List, ◌∷◌, ◌++◌, arith, refl, sym}
-use Rattle.shared_terms.specs.declared.role.Role.{Role}
-use Rattle.shared_terms.specs.declared.role.Role.TheVariants.{Originator, Answerer}
-use Rattle.lapm_frames.specs.declared.frame.Frame.{Frame}
-use Rattle.lapm_frames.specs.Parts.{parts_of}
-use Rattle.lapm_frames.specs.Frame.{address_of, control_octet, tail_octets, FrameSpelling}
-use Rattle.lapm_frames.specs.Fault.{Begins}
-use Rattle.lapm_frames.specs.Controls.{Has}
+use Rattle.lapm_frames.proofs.Names.{◌≡◌, ℕ, Bool, true, false, List, ◌∷◌, ◌++◌, arith, refl, sym, Has, Begins, address_of, control_octet}
+use Rattle.lapm_frames.proofs.Names.{tail_octets, FrameSpelling, parts_of, Frame, Role, Originator, Answerer}
 
 -- an address tells commands from responses
 pub address-one : (a b : Bool) (sender : Role) (dlci : ℕ) → address_of a sender dlci ≡ address_of b sender dlci → a ≡ b

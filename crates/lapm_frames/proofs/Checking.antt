@@ -1,21 +1,16 @@
 -- Frames with their check: the octets tell by which check they are judged, and are one frame or have one fault.
-use Rattle.std.proofs.Common.{Bool, true, false, ◌≡◌, ℕ, ◌-◌, ◌*◌, ◌%◌, ◌≤◌, nat_eq, false, if◌then◌else◌, is_some, List, length, take}
-use Rattle.std.proofs.Common.{Result, Ok, Err, refl, sym, ◌∙◌, ap, subst, arith}
-use Rattle.std.specs.Prelude.{slice_index_or, IfOk, IfErr, ◌↔◌}
+use Rattle.lapm_frames.proofs.Names.{Bool, true, false, ◌≡◌, ℕ, ◌-◌, ◌*◌, ◌%◌, ◌≤◌, nat_eq, if◌then◌else◌, is_some, List, length, take}
+use Rattle.lapm_frames.proofs.Names.{Result, Ok, Err, refl, sym, ◌∙◌, ap, subst, arith, IfOk, IfErr, ◌↔◌, Sixteen, check_for, SpellsFrame}
+use Rattle.lapm_frames.proofs.Names.{FirstFault, FrameSpelling, IsFrame, control_octet, spelled, parts_of, Refused, Frame, Role}
+use Rattle.std.specs.Prelude.{slice_index_or}
 use Rattle.std.proofs.lemmas.Bool.{ne_eqb}
 use Rattle.frame_check.specs.declared.check.Check.{Check}
-use Rattle.frame_check.specs.declared.check.Check.TheVariants.{Sixteen}
 use Rattle.frame_check.specs.FrameCheck.{IsChecked, Passes}
 use Rattle.frame_check.specs.Division.{with_check, count_of}
 use Rattle.frame_check.proofs.Checks.{front-checked, fronts-one, length-checked, with_check-is, with_check-one}
-use Rattle.shared_terms.specs.declared.role.Role.{Role}
-use Rattle.lapm_frames.specs.declared.frame.Frame.{Frame}
 use Rattle.lapm_frames.specs.declared.fault.CheckedFault.{CheckedFault}
-use Rattle.lapm_frames.specs.declared.fault.CheckedFault.TheVariants.{BadCheck, Refused}
-use Rattle.lapm_frames.specs.Parts.{parts_of}
-use Rattle.lapm_frames.specs.Frame.{FrameSpelling, IsFrame, control_octet, spelled}
-use Rattle.lapm_frames.specs.Fault.{FirstFault}
-use Rattle.lapm_frames.specs.Checked.{check_for, check_heard, checked, IsCheckedFault, SpellsFrame}
+use Rattle.lapm_frames.specs.declared.fault.CheckedFault.TheVariants.{BadCheck}
+use Rattle.lapm_frames.specs.Checked.{check_heard, checked, IsCheckedFault}
 use Rattle.lapm_frames.proofs.Forms.{by_form}
 use Rattle.lapm_frames.proofs.Controls.{three}
 use Rattle.lapm_frames.proofs.Exact.{faults-one, never-both}

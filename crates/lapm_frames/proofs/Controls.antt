@@ -1,11 +1,7 @@
 -- Which frames a control octet can belong to, and how long their tails are.
-use Rattle.std.proofs.Common.{◌≡◌, ℕ, ◌+◌, ◌/◌, ◌%◌, ◌<◌, ◌≤◌, Bool, true, false, if◌then◌else◌, List, length, [], Option, Some, None}
-use Rattle.std.proofs.Common.{is_some, arith, refl, sym}
-use Rattle.std.specs.Prelude.{IfSome, unwrap_or}
-use Rattle.frame_check.specs.declared.sizes.TheConstants.{INFO}
-use Rattle.lapm_frames.specs.declared.frame.Frame.{Frame}
-use Rattle.lapm_frames.specs.Parts.{FrameParts, parts_of}
-use Rattle.lapm_frames.specs.Frame.{marked, control_octet, tail_octets, IsFrame}
+use Rattle.lapm_frames.proofs.Names.{◌≡◌, ℕ, ◌+◌, ◌/◌, ◌%◌, ◌<◌, ◌≤◌, Bool, true, false, if◌then◌else◌, List, length, [], Option, Some}
+use Rattle.lapm_frames.proofs.Names.{None, is_some, arith, refl, sym, IfSome, unwrap_or, INFO, marked, control_octet, tail_octets, IsFrame}
+use Rattle.lapm_frames.proofs.Names.{FrameParts, parts_of, Frame}
 use Rattle.lapm_frames.proofs.Forms.{is_supervisory, allows, is_informed, by_form}
 
 -- P/F leaves the low bits of an octet alone

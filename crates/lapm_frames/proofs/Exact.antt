@@ -1,12 +1,8 @@
 -- Octets are one frame or have one fault, and never both.
-use Rattle.std.proofs.Common.{◌≡◌, ℕ, List, [], ◌∷◌, ◌++◌, take, Ok, Err, Result, append_assoc, refl, sym, ◌∙◌, ap, subst}
-use Rattle.std.specs.Prelude.{IfOk, IfErr, ◌↔◌}
-use Rattle.shared_terms.specs.declared.role.Role.{Role}
-use Rattle.lapm_frames.specs.declared.frame.Frame.{Frame}
-use Rattle.lapm_frames.specs.declared.fault.FrameFault.{FrameFault}
-use Rattle.lapm_frames.specs.declared.fault.FrameFault.TheVariants.{Address, Control, Short, Long}
-use Rattle.lapm_frames.specs.Frame.{FrameSpelling}
-use Rattle.lapm_frames.specs.Fault.{Begins, IsAddressFault, IsControlFault, FirstFault}
+use Rattle.lapm_frames.proofs.Names.{◌≡◌, ℕ, List, [], ◌∷◌, ◌++◌, take, Ok, Err, Result, refl, sym, ◌∙◌, ap, subst, IfOk, IfErr, ◌↔◌}
+use Rattle.lapm_frames.proofs.Names.{Begins, IsAddressFault, IsControlFault, FirstFault, FrameSpelling, FrameFault, Address, Control, Short}
+use Rattle.lapm_frames.proofs.Names.{Long, Frame, Role}
+use Rattle.std.proofs.Common.{append_assoc}
 use Rattle.lapm_frames.proofs.Spellings.{frames-one}
 
 -- the front of a beginning is one

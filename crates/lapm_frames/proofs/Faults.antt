@@ -1,17 +1,10 @@
 -- The first fault of octets with an address and a control octet, by the frames that have these.
-use Rattle.std.proofs.Common.{◌≡◌, ℕ, ◌+◌, ◌/◌, ◌%◌, ◌<◌, ◌≤◌, Bool, true, false, List, [], ◌∷◌, length, arith, length-append, refl, sym}
-use Rattle.std.proofs.Common.{◌∙◌, ap, subst, lit<}
-use Rattle.std.proofs.lemmas.Bool.{false≢true}
-use Rattle.frame_check.specs.declared.sizes.TheConstants.{INFO}
-use Rattle.shared_terms.specs.declared.role.Role.{Role}
-use Rattle.lapm_frames.specs.declared.frame.Frame.{Frame}
-use Rattle.lapm_frames.specs.declared.frame.Frame.TheVariants.{I, Rr}
-use Rattle.lapm_frames.specs.declared.fault.FrameFault.{FrameFault}
-use Rattle.lapm_frames.specs.declared.fault.FrameFault.TheVariants.{Address, Control, Short, Long}
-use Rattle.lapm_frames.specs.Parts.{parts_of}
-use Rattle.lapm_frames.specs.Frame.{address_of, control_octet, marked, numbered, spelled, tail_octets}
-use Rattle.lapm_frames.specs.Fault.{Begins, IsAddressFault, IsControlFault, IsShort, IsLong, FirstFault, IsNumbersFault}
-use Rattle.lapm_frames.specs.Controls.{Has}
+use Rattle.lapm_frames.proofs.Names.{◌≡◌, ℕ, ◌+◌, ◌/◌, ◌%◌, ◌<◌, ◌≤◌, Bool, true, false, List, [], ◌∷◌, length, arith, refl, sym, ◌∙◌, ap}
+use Rattle.lapm_frames.proofs.Names.{subst, lit<, false≢true, INFO, Has, Begins, IsAddressFault, IsControlFault, IsShort, IsLong}
+use Rattle.lapm_frames.proofs.Names.{FirstFault, address_of, control_octet, marked, numbered, spelled, tail_octets, parts_of, FrameFault}
+use Rattle.lapm_frames.proofs.Names.{Address, Control, Short, Long, Frame, I, Rr, Role}
+use Rattle.std.proofs.Common.{length-append}
+use Rattle.lapm_frames.specs.Fault.{IsNumbersFault}
 use Rattle.lapm_frames.proofs.Beginnings.{begins-goes, goes-begins, spelling-has}
 use Rattle.lapm_frames.proofs.Forms.{is_supervisory, allows}
 use Rattle.lapm_frames.proofs.Controls.{marked-one, information-at, supervisory-at, longest_of, IsUnnumbered, unnumbered-at}

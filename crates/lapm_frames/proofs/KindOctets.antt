@@ -1,17 +1,14 @@
 -- The kinds by their octets: what is found in the table, as the readers of both families use it.
-use Rattle.std.proofs.Common.{◌≡◌, ℕ, ◌%◌, ◌≤◌, Bool, true, false, not, if◌then◌else◌, cond, nat_eq, List, [], ◌∷◌, length}
-use Rattle.std.proofs.Common.{Option, Some, None, codes, is_some, arith, refl, sym, ap, subst, ◌∙◌, lit<}
+use Rattle.lapm_frames.proofs.Names.{◌≡◌, ℕ, ◌%◌, ◌≤◌, Bool, true, false, not, if◌then◌else◌, nat_eq, List, [], ◌∷◌, length, Option, Some}
+use Rattle.lapm_frames.proofs.Names.{None, codes, is_some, arith, refl, sym, ap, subst, ◌∙◌, lit<, IfSome, unwrap_or, INFO, Has, address_of}
+use Rattle.lapm_frames.proofs.Names.{control_octet, IsFrame, marked, spelled, tail_octets, unnumbered, parts_of, Role}
+use Rattle.std.proofs.Common.{cond}
 use Rattle.std.specs.Bool.{beq}
-use Rattle.std.specs.Prelude.{IfSome, unwrap_or}
 use Rattle.std.specs.Option.{option_map}
 use Rattle.std.proofs.lemmas.Bool.{eqb-true}
-use Rattle.frame_check.specs.declared.sizes.TheConstants.{INFO}
-use Rattle.shared_terms.specs.declared.role.Role.{Role}
 use Rattle.lapm_frames.specs.declared.kind.FrameKind.{FrameKind}
 use Rattle.lapm_frames.specs.declared.kind.FrameKind.TheVariants as kind
-use Rattle.lapm_frames.specs.Parts.{unnumbered, parts_of, frame_of, kinds, parts_of_kind, first_with, kind_with}
-use Rattle.lapm_frames.specs.Frame.{address_of, control_octet, IsFrame, marked, spelled, tail_octets}
-use Rattle.lapm_frames.specs.Controls.{Has}
+use Rattle.lapm_frames.specs.Parts.{frame_of, kinds, parts_of_kind, first_with, kind_with}
 use Rattle.lapm_frames.proofs.Forms.{is_supervisory, allows, is_informed}
 use Rattle.lapm_frames.proofs.Controls.{AreParts, longest_of}
 

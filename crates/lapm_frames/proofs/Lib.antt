@@ -1,3 +1,4 @@
+mod Names
 pub mod Forms
 mod Controls
 pub mod Beginnings

@@ -1,14 +1,10 @@
 -- How many octets a spelling has, and that they are octets.
-use Rattle.std.proofs.Common.{ℕ, ◌+◌, ◌<◌, ◌≤◌, Bool, true, false, List, [], ◌∷◌, length, Option, Some, None, arith}
-use Rattle.std.specs.Prelude.{IfSome, unwrap_or}
+use Rattle.lapm_frames.proofs.Names.{ℕ, ◌+◌, ◌<◌, ◌≤◌, Bool, true, false, List, [], ◌∷◌, length, Option, Some, None, arith, IfSome}
+use Rattle.lapm_frames.proofs.Names.{unwrap_or, INFO, IsFrame, address_of, control_octet, marked, numbered, spelled, tail_octets}
+use Rattle.lapm_frames.proofs.Names.{FrameParts, parts_of, Frame, Role, Originator, Answerer}
 use Rattle.std.proofs.lemmas.List.Elements.{All-nil, All-cons}
 use Rattle.frame_check.specs.Octets.{AreOctets}
-use Rattle.frame_check.specs.declared.sizes.TheConstants.{INFO}
-use Rattle.shared_terms.specs.declared.role.Role.{Role}
-use Rattle.shared_terms.specs.declared.role.Role.TheVariants.{Originator, Answerer}
-use Rattle.lapm_frames.specs.declared.frame.Frame.{Frame}
-use Rattle.lapm_frames.specs.Parts.{FrameParts, parts_of}
-use Rattle.lapm_frames.specs.Frame.{IsFrame, address_of, control_octet, information_of, marked, numbered, spelled, tail_octets}
+use Rattle.lapm_frames.specs.Frame.{information_of}
 use Rattle.lapm_frames.proofs.Forms.{by_form}
 use Rattle.lapm_frames.proofs.Controls.{AreParts}
 

@@ -1,15 +1,11 @@
 -- The faults by the octets themselves.
-use Rattle.std.proofs.Common.{◌≡◌, ℕ, ◌+◌, ◌-◌, ◌/◌, ◌%◌, ◌<◌, ◌≤◌, ◌⊎◌, inl, inr, Bool, true, false, if◌then◌else◌, is_some, List, [], ◌∷◌}
-use Rattle.std.proofs.Common.{length, take, arith, refl, ◌∙◌, ap, subst}
-use Rattle.std.proofs.lemmas.Bool.{cases_lt, false≢true}
-use Rattle.frame_check.specs.declared.sizes.TheConstants.{INFO}
-use Rattle.shared_terms.specs.declared.role.Role.{Role}
-use Rattle.shared_terms.specs.declared.role.Role.TheVariants.{Originator, Answerer}
-use Rattle.lapm_frames.specs.declared.frame.Frame.{Frame}
-use Rattle.lapm_frames.specs.Parts.{FrameParts, parts_of}
-use Rattle.lapm_frames.specs.Frame.{address_of, control_octet, has_number, IsFrame, marked, most_octets, spelled, tail_octets}
-use Rattle.lapm_frames.specs.Fault.{IsAddressFault, IsControlFault, IsShort, IsLong}
-use Rattle.lapm_frames.specs.Controls.{Has}
+use Rattle.lapm_frames.proofs.Names.{◌≡◌, ℕ, ◌+◌, ◌-◌, ◌/◌, ◌%◌, ◌<◌, ◌≤◌, Bool, true, false, if◌then◌else◌, is_some, List, [], ◌∷◌, length}
+use Rattle.lapm_frames.proofs.Names.{take, arith, refl, ◌∙◌, ap, subst, false≢true, INFO, Has, IsAddressFault, IsControlFault, IsShort}
+use Rattle.lapm_frames.proofs.Names.{IsLong, address_of, control_octet, IsFrame, marked, spelled, tail_octets, FrameParts, parts_of, Frame}
+use Rattle.lapm_frames.proofs.Names.{Role, Originator, Answerer}
+use Rattle.std.proofs.Common.{◌⊎◌, inl, inr}
+use Rattle.std.proofs.lemmas.Bool.{cases_lt}
+use Rattle.lapm_frames.specs.Frame.{has_number, most_octets}
 use Rattle.lapm_frames.proofs.Forms.{by_form}
 use Rattle.lapm_frames.proofs.Controls.{information-at, supervisory-at, longest_of, unnumbered-at, three}
 use Rattle.lapm_frames.proofs.Faults.{address-short, address-fault, control_fault, short_fault, long_fault, same_kind}

@@ -1,9 +1,5 @@
 -- A spelling is that of one frame: its octets give the frame back.
-use Rattle.std.proofs.Common.{◌≡◌, ℕ, List, sym, ◌∙◌, ap}
-use Rattle.shared_terms.specs.declared.role.Role.{Role}
-use Rattle.lapm_frames.specs.declared.frame.Frame.{Frame}
-use Rattle.lapm_frames.specs.Parts.{parts_of}
-use Rattle.lapm_frames.specs.Frame.{control_octet, tail_octets, FrameSpelling}
+use Rattle.lapm_frames.proofs.Names.{◌≡◌, ℕ, List, sym, ◌∙◌, ap, control_octet, tail_octets, FrameSpelling, parts_of, Frame, Role}
 use Rattle.lapm_frames.proofs.Forms.{frame_at, frame_at-parts}
 use Rattle.lapm_frames.proofs.Beginnings.{spelling-has}
 

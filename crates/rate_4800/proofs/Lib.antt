@@ -1,3 +1,4 @@
+mod Names
 pub mod Twos
 pub mod Reading
 pub mod Standing

@@ -1,13 +1,10 @@
 -- The nearest of the four points, by its product with the sample.
-use Rattle.std.proofs.Common.{◌≡◌, ◌∙◌, ℕ, ◌+◌, ◌-◌, ◌*◌, ◌%◌, ◌<◌, arith, ap, sym, subst}
-use Rattle.symbol_map.specs.declared.sample.Sample.{Sample}
-use Rattle.symbol_map.specs.Distance.{distance_of}
-use Rattle.exact_decoder.specs.Lines.{above, below, coordinate, sample_at, least_four}
-use Rattle.exact_decoder.proofs.Vectors.{each_of_four}
+use Rattle.rate_4800.proofs.Names.{◌≡◌, ◌∙◌, ℕ, ◌+◌, ◌*◌, ◌%◌, ◌<◌, arith, ap, sym, subst, each_of_four, sample_at, least_four, point_of}
+use Rattle.rate_4800.proofs.Names.{key_of, IsNearestLabel, distance_of, Sample}
+use Rattle.std.proofs.Common.{◌-◌}
+use Rattle.exact_decoder.specs.Lines.{above, below, coordinate}
 use Rattle.exact_decoder.proofs.Axes.{below-1, below-3, above-1, above-3}
 use Rattle.exact_decoder.proofs.MapKeys.{IsKey, four_keys, in_order, least_of_four, on}
-use Rattle.rate_4800.specs.Code.{point_of}
-use Rattle.rate_4800.specs.Nearest.{key_of, IsNearestLabel}
 
 -- keys by the lines that the points are on, and by products
 abbrev lines : ℕ → ℕ → ℕ → ℕ

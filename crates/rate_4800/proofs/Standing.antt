@@ -1,19 +1,16 @@
 -- What a modulator and a demodulator of either mode have made.
-use Rattle.std.proofs.Common.{◌∙◌, ℕ, Bool, List, ap, map}
+use Rattle.rate_4800.proofs.Names.{◌∙◌, ℕ, Bool, List, ap, map, DescramblesAs, point_of, Demodulates, Scrambles, Descrambles, Sample}
 use Rattle.scramblers.specs.declared.mode.Mode.{Mode}
 use Rattle.scramblers.specs.declared.mode.Mode.TheVariants.{Call, Answer}
 use Rattle.scramblers.specs.Mode.{tap_of}
-use Rattle.scramblers.specs.Scrambles.{Scrambles, Descrambles}
-use Rattle.symbol_map.specs.declared.sample.Sample.{Sample}
 use Rattle.line_coding.specs.declared.scrambling.ModeScrambler.{ModeScrambler}
 use Rattle.line_coding.specs.declared.scrambling.ModeScrambler.TheVariants as scramblers
 use Rattle.line_coding.specs.declared.scrambling.ModeDescrambler.{ModeDescrambler}
 use Rattle.line_coding.specs.declared.scrambling.ModeDescrambler.TheVariants as descramblers
-use Rattle.line_coding.specs.Modes.{ScramblesAs, DescramblesAs}
+use Rattle.line_coding.specs.Modes.{ScramblesAs}
 use Rattle.rate_4800.specs.declared.modulator.Modulator.{Modulator}
 use Rattle.rate_4800.specs.declared.demodulator.Demodulator.{Demodulator}
-use Rattle.rate_4800.specs.Code.{point_of}
-use Rattle.rate_4800.specs.Demodulates.{Demodulates, DemodulatorStands}
+use Rattle.rate_4800.specs.Demodulates.{DemodulatorStands}
 use Rattle.rate_4800.specs.Modulates.{Modulates, ModulatorStands}
 
 scrambled-as : (mode : Mode) (s : ModeScrambler) (input line : List Bool) → ScramblesAs mode s input line

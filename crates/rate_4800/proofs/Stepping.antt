@@ -1,16 +1,12 @@
 -- The step of the one state.
-use Rattle.std.proofs.Common.{◌≡◌, ◌∙◌, ℕ, zero, suc, ◌+◌, ◌*◌, ◌%◌, ◌<◌, ◌≤◌, ◌^◌, List, [], ◌∷◌, length, slice_index, refl, arith, ap}
-use Rattle.std.proofs.Common.{sym, subst}
-use Rattle.symbol_map.specs.declared.sample.Sample.{Sample}
-use Rattle.symbol_map.specs.Distance.{distance_of}
+use Rattle.rate_4800.proofs.Names.{◌≡◌, ◌∙◌, ℕ, zero, suc, ◌+◌, ◌*◌, ◌%◌, ◌<◌, ◌≤◌, List, [], ◌∷◌, length, slice_index, refl, arith, ap}
+use Rattle.rate_4800.proofs.Names.{sym, subst, each_of_four, choice_at, choice_by, point_of, key_of, IsNearestLabel, distance_of, Sample}
+use Rattle.std.proofs.Common.{◌^◌}
 use Rattle.exact_decoder.specs.Keys.{IsNearest, IsLeastWay}
-use Rattle.exact_decoder.specs.Settled.{far_key, leveled, choice_in, chosen, choice_at}
-use Rattle.exact_decoder.specs.Traced.{choice_by}
+use Rattle.exact_decoder.specs.Settled.{far_key, leveled, choice_in, chosen}
 use Rattle.exact_decoder.specs.Advances.{Advances}
 use Rattle.exact_decoder.proofs.Keeping.{leveled-near, settled-near}
-use Rattle.exact_decoder.proofs.Vectors.{each_of_four}
-use Rattle.rate_4800.specs.Code.{point_of, way_before, way_subset}
-use Rattle.rate_4800.specs.Nearest.{key_of, IsNearestLabel}
+use Rattle.rate_4800.specs.Code.{way_before, way_subset}
 
 -- what holds of the one state
 pub of_one : (P : ℕ → Type 0) → P 0 → (s : ℕ) → s < 1 → P s

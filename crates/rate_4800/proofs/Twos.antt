@@ -1,14 +1,12 @@
 -- Bits that are put behind a list in twos, and what is read of them.
-use Rattle.std.proofs.Common.{◌≡◌, ◌∙◌, ℕ, ◌+◌, ◌*◌, ◌/◌, ◌%◌, ◌<◌, Bool, List, [], ◌∷◌, ◌++◌, refl, sym, ap, subst, append-nil}
-use Rattle.std.proofs.Common.{append_assoc, All, arith}
-use Rattle.std.specs.List.{flat_map}
+use Rattle.rate_4800.proofs.Names.{◌≡◌, ◌∙◌, ℕ, ◌+◌, ◌*◌, ◌%◌, ◌<◌, Bool, List, [], ◌∷◌, ◌++◌, refl, sym, ap, subst, append-nil}
+use Rattle.rate_4800.proofs.Names.{append_assoc, arith, flat_map, low_bits, Demodulates, Scrambles, Descrambles}
+use Rattle.std.proofs.Common.{◌/◌}
+use Rattle.std.proofs.Common.{All}
 use Rattle.std.proofs.lemmas.Grind.{flat_map-append}
-use Rattle.frame_check.specs.Bits.{low_bits}
-use Rattle.scramblers.specs.Scrambles.{Scrambles, Descrambles}
 use Rattle.scramblers.proofs.Readings.{Descrambles_from_Scrambles}
 use Rattle.trellis_tables.specs.Differential.Turned.{turned}
 use Rattle.trellis_tables.proofs.Turning.Inverses.{unturned-turned}
-use Rattle.rate_4800.specs.Demodulates.{Demodulates}
 
 pub twos-more : (line : List Bool) (turns : List ℕ) (turn : ℕ) → line ≡ flat_map (low_bits 2) turns
     → line ++ low_bits 2 turn ≡ flat_map (low_bits 2) (turns ++ turn ∷ [])

@@ -1,3 +1,4 @@
+mod Names
 pub mod Streams
 pub mod Registers
 pub mod Turning

@@ -1,17 +1,11 @@
 -- Bits that stand above a register go on a line and are descrambled, the lowest first.
-use Rattle.std.proofs.Common.{◌≡◌, ◌∙◌, ℕ, zero, suc, ◌+◌, ◌-◌, ◌*◌, ◌/◌, ◌^◌, ◌<◌, ◌≤◌, ◌⊎◌, inl, inr, Bool, true, false, List, []}
-use Rattle.std.proofs.Common.{◌∷◌, ◌++◌}
-use Rattle.std.proofs.Common.{length, append_assoc, append-nil, arith, refl, sym, ap, subst, nat_eq, bit_xor}
-use Rattle.std.proofs.lemmas.Bool.{cases_lt}
-use Rattle.std.proofs.lemmas.Nat.Bits.{bit_at_cat_low, bit_at_cat_high, bit_at_lowest, bit_at-suc, bit_at-lt}
+use Rattle.scramblers.proofs.Names.{◌≡◌, ◌∙◌, ℕ, zero, suc, ◌+◌, ◌-◌, ◌*◌, ◌/◌, ◌^◌, ◌<◌, ◌≤◌, ◌⊎◌, inl, inr, Bool, true, false, List, []}
+use Rattle.scramblers.proofs.Names.{◌∷◌, ◌++◌, length, arith, refl, sym, ap, subst, nat_eq, bit_xor, cases_lt, bit_at_cat_low}
+use Rattle.scramblers.proofs.Names.{bit_at_cat_high, bit_at_lowest, bit_at-suc, bit_at-lt, bit_at, low_bits, xor, number, Holds}
+use Rattle.scramblers.proofs.Names.{Descrambles, earlier}
+use Rattle.std.proofs.Common.{append_assoc, append-nil}
 use Rattle.std.proofs.lemmas.Nat.{shr-shr}
 use native.Mathlib.Nat.{div-one}
-use Rattle.std.specs.Int.{bit_at}
-use Rattle.frame_check.specs.Bits.{low_bits}
-use Rattle.frame_check.specs.Xor.{xor}
-use Rattle.scramblers.specs.Stream.{earlier}
-use Rattle.scramblers.specs.Register.{number, Holds}
-use Rattle.scramblers.specs.Scrambles.{Descrambles}
 use Rattle.scramblers.proofs.Registers.{has_bit, bit-number}
 use Rattle.scramblers.proofs.Streams.{earlier-last, earlier-more, turned_at, Descrambles-more}
 use Rattle.scramblers.proofs.Turning.{turned}

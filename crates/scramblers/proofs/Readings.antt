@@ -1,13 +1,9 @@
 -- Scrambling and descrambling read each other backwards.
-use Rattle.std.proofs.Common.{◌≡◌, ℕ, zero, suc, ◌-◌, ◌<◌, ◌≤◌, inl, inr, Bool, true, false, List, length, take, arith, refl, sym, ◌∙◌}
+use Rattle.scramblers.proofs.Names.{◌≡◌, ℕ, zero, suc, ◌-◌, ◌<◌, ◌≤◌, inl, inr, Bool, true, false, List, length, arith, refl, sym, ◌∙◌}
+use Rattle.scramblers.proofs.Names.{cases_lt, nat_tests, common_steps, xor, Scrambles, Descrambles, bit_at_place, earlier}
+use Rattle.std.proofs.Common.{take}
 use Rattle.std.proofs.Common.{length-take}
-use Rattle.std.proofs.lemmas.Grind.{common_steps}
-use Rattle.std.proofs.lemmas.Bool.Decides.{nat_tests}
-use Rattle.std.proofs.lemmas.Bool.{cases_lt}
 use Rattle.std.proofs.lemmas.List.{ext_get_or}
-use Rattle.scramblers.specs.Stream.{bit_at_place, earlier}
-use Rattle.frame_check.specs.Xor.{xor}
-use Rattle.scramblers.specs.Scrambles.{Scrambles, Descrambles}
 use Rattle.scramblers.specs.Laws.{SameBefore}
 
 -- what turns a bit turns it back

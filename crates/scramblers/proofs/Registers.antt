@@ -1,13 +1,9 @@
 -- A register of the latest bits takes more of them.
-use Rattle.std.proofs.Common.{◌≡◌, ℕ, zero, suc, ◌+◌, ◌-◌, ◌*◌, ◌/◌, ◌%◌, ◌^◌, ◌<◌, ◌≤◌, ◌⊎◌, inl, inr, Bool, true, false, List, [], ◌∷◌}
-use Rattle.std.proofs.Common.{◌++◌, length, arith, refl, sym, ◌∙◌, ap, subst, nat_eq, mod-lt, pow_pos}
-use Rattle.std.proofs.lemmas.Nat.Bits.{bit_at_cat_low, bit_at_cat_high, bit_at_lowest, bit_at-suc}
-use Rattle.std.specs.Int.{bit_at}
-use Rattle.std.proofs.lemmas.Bool.{cases_lt}
+use Rattle.scramblers.proofs.Names.{◌≡◌, ℕ, zero, suc, ◌+◌, ◌-◌, ◌*◌, ◌/◌, ◌%◌, ◌^◌, ◌<◌, ◌≤◌, ◌⊎◌, inl, inr, Bool, true, false, List, []}
+use Rattle.scramblers.proofs.Names.{◌∷◌, ◌++◌, length, arith, refl, sym, ◌∙◌, ap, subst, nat_eq, cases_lt, bit_at_cat_low, bit_at_cat_high}
+use Rattle.scramblers.proofs.Names.{bit_at_lowest, bit_at-suc, bit_at, low_bits, number, Holds, earlier}
+use Rattle.std.proofs.Common.{mod-lt, pow_pos}
 use Rattle.std.proofs.lemmas.Nat.{shr_split}
-use Rattle.frame_check.specs.Bits.{low_bits}
-use Rattle.scramblers.specs.Stream.{earlier}
-use Rattle.scramblers.specs.Register.{number, Holds}
 use Rattle.scramblers.proofs.Streams.{earlier-last, earlier-more, four-behind}
 
 -- the low bits of a number are those of its remainder

@@ -1,12 +1,7 @@
 -- What one more bit changes in the equations of scrambling.
-use Rattle.std.proofs.Common.{◌≡◌, ◌∙◌, ℕ, ◌+◌, ◌-◌, ◌<◌, ◌≤◌, ◌⊎◌, inl, inr, Bool, List, [], ◌∷◌, ◌++◌, length, arith, refl, sym, ap}
-use Rattle.std.proofs.Common.{subst, length-append}
-use Rattle.std.proofs.lemmas.Grind.{common_steps}
-use Rattle.std.proofs.lemmas.Bool.Decides.{nat_tests}
-use Rattle.std.proofs.lemmas.Bool.{cases_lt}
-use Rattle.scramblers.specs.Stream.{bit_at_place, earlier}
-use Rattle.frame_check.specs.Xor.{xor}
-use Rattle.scramblers.specs.Scrambles.{Scrambles, Descrambles}
+use Rattle.scramblers.proofs.Names.{◌≡◌, ◌∙◌, ℕ, ◌+◌, ◌-◌, ◌<◌, ◌≤◌, ◌⊎◌, inl, inr, Bool, List, [], ◌∷◌, ◌++◌, length, arith, refl, sym, ap}
+use Rattle.scramblers.proofs.Names.{subst, cases_lt, nat_tests, common_steps, xor, Scrambles, Descrambles, bit_at_place, earlier}
+use Rattle.std.proofs.Common.{length-append}
 
 -- what stands before the place behind the last bit
 pub earlier-last : (line : List Bool) (bit : Bool) → earlier (line ++ bit ∷ []) (length (line ++ bit ∷ [])) 1 ≡ bit

@@ -1,11 +1,7 @@
 -- Four bits that are turned at once, as numbers.
-use Rattle.std.proofs.Common.{◌≡◌, ◌∙◌, ℕ, zero, suc, ◌+◌, ◌-◌, ◌%◌, ◌<◌, ◌≤◌, Bool, true, false, List, length, arith, refl, ap, nat_eq}
-use Rattle.std.proofs.Common.{bit_xor}
-use Rattle.std.proofs.lemmas.Nat.Bits.{bit_at_xor, bit_at-lt}
-use Rattle.std.specs.Int.{bit_at}
-use Rattle.frame_check.specs.Xor.{xor}
-use Rattle.scramblers.specs.Stream.{earlier}
-use Rattle.scramblers.specs.Register.{number}
+use Rattle.scramblers.proofs.Names.{◌≡◌, ◌∙◌, ℕ, zero, suc, ◌+◌, ◌-◌, ◌%◌, ◌<◌, ◌≤◌, Bool, true, false, List, length, arith, refl, ap}
+use Rattle.scramblers.proofs.Names.{nat_eq, bit_xor, bit_at-lt, bit_at, xor, number, earlier}
+use Rattle.std.proofs.lemmas.Nat.Bits.{bit_at_xor}
 use Rattle.scramblers.proofs.Registers.{has_bit}
 use Rattle.scramblers.proofs.Streams.{AreTurned}
 

@@ -1,5 +1,4 @@
-use Rattle.std.proofs.Common.{◌≡◌, rules}
-use Rattle.frame_check.specs.Bits.{number}
+use Rattle.bit_stuffing.proofs.Names.{◌≡◌, rules, number}
 use Rattle.bit_stuffing.proofs.BitLists.{bits-more, more-lt, added}
 use Rattle.bit_stuffing.proofs.bits.with_bit.Goals as goal
 

@@ -1,6 +1,4 @@
-use Rattle.std.proofs.Common.{subst}
-use Rattle.std.proofs.lemmas.Bool.{eqb-true, eq-eqb}
-use Rattle.bit_stuffing.specs.Deframer.{HoldsLatest}
+use Rattle.bit_stuffing.proofs.Names.{subst, eqb-true, eq-eqb, HoldsLatest}
 use Rattle.bit_stuffing.proofs.Latest.{latest-flag, flag-latest}
 use Rattle.bit_stuffing.proofs.finder.ends_flag.Goals as goal
 

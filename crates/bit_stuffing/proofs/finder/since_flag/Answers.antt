@@ -1,5 +1,4 @@
-use Rattle.std.proofs.Common.{◌+◌, if◌then◌else◌, Some, None, sym, ◌∙◌, ap}
-use Rattle.std.proofs.lemmas.Bool.{lt-ltb}
+use Rattle.bit_stuffing.proofs.Names.{◌+◌, if◌then◌else◌, Some, None, sym, ◌∙◌, ap, lt-ltb}
 use Rattle.bit_stuffing.specs.Fours.{since_flag}
 use Rattle.bit_stuffing.proofs.finder.since_flag.Goals as goal
 

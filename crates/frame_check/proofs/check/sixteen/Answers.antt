@@ -1,6 +1,4 @@
-use Rattle.std.proofs.Common.{arith, ◌++◌}
-use Rattle.frame_check.specs.declared.check.Check.TheVariants.{Sixteen}
-use Rattle.frame_check.specs.FrameCheck.{generator_of, all_ones}
+use Rattle.frame_check.proofs.Names.{arith, ◌++◌, generator_of, all_ones, Sixteen}
 use Rattle.frame_check.specs.Division.{remainder_of}
 use Rattle.frame_check.proofs.Checks.{sixteen_is}
 use Rattle.frame_check.proofs.Generators.{divides16, starts16}

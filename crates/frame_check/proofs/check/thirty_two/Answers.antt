@@ -1,6 +1,4 @@
-use Rattle.std.proofs.Common.{◌++◌}
-use Rattle.frame_check.specs.declared.check.Check.TheVariants.{ThirtyTwo}
-use Rattle.frame_check.specs.FrameCheck.{generator_of, all_ones}
+use Rattle.frame_check.proofs.Names.{◌++◌, generator_of, all_ones, ThirtyTwo}
 use Rattle.frame_check.specs.Division.{remainder_of}
 use Rattle.frame_check.proofs.Checks.{thirty_two_is}
 use Rattle.frame_check.proofs.Generators.{divides32, starts32}

@@ -1,7 +1,4 @@
-use Rattle.std.proofs.Common.{ap, sym, subst, ◌∙◌}
-use Rattle.frame_check.specs.Bits.{bits_of}
-use Rattle.frame_check.specs.Division.{remainder_from}
-use Rattle.frame_check.specs.Register.{Holds}
+use Rattle.frame_check.proofs.Names.{ap, sym, subst, ◌∙◌, bits_of, remainder_from, Holds}
 use Rattle.frame_check.proofs.BitLists.{bits_of-append}
 use Rattle.frame_check.proofs.Remainders.{remainder_from-append}
 use Rattle.frame_check.proofs.register.after_both.Goals as goal

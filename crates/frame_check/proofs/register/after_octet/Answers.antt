@@ -1,7 +1,5 @@
-use Rattle.std.proofs.Common.{◌≡◌, arith, ◌∙◌, ap, sym, subst, bit_xor}
-use Rattle.frame_check.specs.Bits.{octet_bits}
-use Rattle.frame_check.specs.Division.{remainder_from}
-use Rattle.frame_check.specs.Register.{Holds, after_zeros}
+use Rattle.frame_check.proofs.Names.{◌≡◌, arith, ◌∙◌, ap, sym, subst, bit_xor, octet_bits, remainder_from, Holds}
+use Rattle.frame_check.specs.Register.{after_zeros}
 use Rattle.frame_check.proofs.Registers.{Holds-bits, after_zeros-more}
 use Rattle.frame_check.proofs.register.after_octet.Goals as goal
 

@@ -1,7 +1,4 @@
-use Rattle.std.proofs.Common.{◌<◌, length, subst, sym, take, arith}
-use Rattle.frame_check.specs.Bits.{bits_of}
-use Rattle.frame_check.specs.Division.{remainder_from}
-use Rattle.frame_check.specs.Register.{Holds}
+use Rattle.frame_check.proofs.Names.{◌<◌, length, subst, sym, take, arith, bits_of, remainder_from, Holds}
 use Rattle.frame_check.proofs.Registers.{remainder_from-next_octet}
 use Rattle.frame_check.proofs.register.after_octets.Goals as goal
 

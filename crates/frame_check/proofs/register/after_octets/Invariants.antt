@@ -1,7 +1,4 @@
-use Rattle.std.proofs.Common.{ℕ, Bool, List, take}
-use Rattle.frame_check.specs.Bits.{bits_of}
-use Rattle.frame_check.specs.Division.{remainder_from}
-use Rattle.frame_check.specs.Register.{Divides, Holds}
+use Rattle.frame_check.proofs.Names.{ℕ, Bool, List, take, bits_of, remainder_from, Divides, Holds}
 use Rattle.frame_check.proofs.register.after_octets.Given as goal
 
 abbrev pub invariant-loop-octet : goal.invariant-loop-octet

@@ -1,6 +1,5 @@
-use Rattle.std.proofs.Common.{if◌then◌else◌, ◌∙◌, ap}
+use Rattle.lapm_frames.proofs.Names.{if◌then◌else◌, ◌∙◌, ap, Sixteen}
 use Rattle.std.specs.Option.{is_some}
-use Rattle.frame_check.specs.declared.check.Check.TheVariants.{Sixteen}
 use Rattle.lapm_frames.proofs.checked.check_for.Goals as goal
 
 pub returns-else-is_some : goal.returns-else-is_some

@@ -1,7 +1,6 @@
-use Rattle.std.proofs.Common.{◌%◌, nat_eq, if◌then◌else◌, length, sym, ◌∙◌, ap}
+use Rattle.lapm_frames.proofs.Names.{◌%◌, nat_eq, if◌then◌else◌, length, sym, ◌∙◌, ap, Sixteen}
 use Rattle.std.proofs.lemmas.Bool.{ltb-true}
 use Rattle.std.proofs.lemmas.Grind.{get_or_default_zero}
-use Rattle.frame_check.specs.declared.check.Check.TheVariants.{Sixteen}
 use Rattle.lapm_frames.proofs.checked.check_heard.Goals as goal
 
 pub returns-in-Some : goal.returns-in-Some

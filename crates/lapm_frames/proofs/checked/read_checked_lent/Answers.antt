@@ -1,6 +1,5 @@
-use Rattle.std.proofs.Common.{Ok, Err, arith, refl}
-use Rattle.lapm_frames.specs.declared.fault.CheckedFault.TheVariants.{Refused}
-use Rattle.lapm_frames.specs.Checked.{SpellsFault, SpellsFrame}
+use Rattle.lapm_frames.proofs.Names.{Ok, Err, arith, refl, SpellsFrame, Refused}
+use Rattle.lapm_frames.specs.Checked.{SpellsFault}
 use Rattle.lapm_frames.proofs.Checking.{all-checked, all-checked-faults, front-is, long-enough}
 use Rattle.lapm_frames.proofs.checked.read_checked_lent.Goals as goal
 use Rattle.lapm_frames.proofs.checked.read_checked_lent.Goals.{In-Ok, In-Err}

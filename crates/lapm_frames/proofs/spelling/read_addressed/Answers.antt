@@ -1,7 +1,4 @@
-use Rattle.std.proofs.Common.{ℕ, ◌∷◌, sym, subst}
-use Rattle.std.specs.Prelude.{IfOk}
-use Rattle.shared_terms.specs.declared.role.Role.{Role}
-use Rattle.lapm_frames.specs.Frame.{address_of, FrameSpelling}
+use Rattle.lapm_frames.proofs.Names.{ℕ, ◌∷◌, sym, subst, IfOk, address_of, FrameSpelling, Role}
 use Rattle.lapm_frames.proofs.Faults.{address-short}
 use Rattle.lapm_frames.proofs.spelling.read_addressed.Goals as goal
 

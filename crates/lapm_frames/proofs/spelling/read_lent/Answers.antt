@@ -1,9 +1,5 @@
-use Rattle.std.proofs.Common.{◌≡◌, ◌∷◌, Err, sym, ◌∙◌, ap, subst}
-use Rattle.std.specs.Prelude.{IfOk, IfErr}
+use Rattle.lapm_frames.proofs.Names.{◌≡◌, ◌∷◌, Err, sym, ◌∙◌, ap, subst, IfOk, IfErr, FirstFault, address_of, FrameSpelling, Address, Short}
 use Rattle.std.proofs.lemmas.Result.{IfOk-weaker, IfErr-weaker}
-use Rattle.lapm_frames.specs.declared.fault.FrameFault.TheVariants.{Address, Short}
-use Rattle.lapm_frames.specs.Frame.{address_of, FrameSpelling}
-use Rattle.lapm_frames.specs.Fault.{FirstFault}
 use Rattle.lapm_frames.proofs.Faults.{nothing-short, address-fault}
 use Rattle.lapm_frames.proofs.Exact.{all-frames, all-faults}
 use Rattle.lapm_frames.proofs.spelling.read_lent.Goals as goal

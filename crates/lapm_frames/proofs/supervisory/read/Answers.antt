@@ -1,5 +1,4 @@
-use Rattle.std.proofs.Common.{◌∙◌, sym}
-use Rattle.std.proofs.lemmas.Result.{err_from_is_err_and}
+use Rattle.lapm_frames.proofs.Names.{◌∙◌, sym, err_from_is_err_and}
 use Rattle.lapm_frames.proofs.Faults.{supervisory-control, supervisory-numbers}
 use Rattle.lapm_frames.proofs.KindOctets.{none-supervisory, has-supervisory}
 use Rattle.lapm_frames.proofs.supervisory.read.Goals as goal

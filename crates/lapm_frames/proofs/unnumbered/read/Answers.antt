@@ -1,8 +1,5 @@
-use Rattle.std.proofs.Common.{◌∙◌, ◌∷◌, ◌<◌, ◌≤◌, if◌then◌else◌, is_some, length, refl, sym, ap, subst}
-use Rattle.std.proofs.lemmas.Result.{err_from_is_err_and}
-use Rattle.frame_check.specs.declared.sizes.TheConstants.{INFO}
-use Rattle.lapm_frames.specs.declared.frame.Frame.{Frame}
-use Rattle.lapm_frames.specs.Frame.{address_of, FrameSpelling}
+use Rattle.lapm_frames.proofs.Names.{◌∙◌, ◌∷◌, ◌<◌, ◌≤◌, if◌then◌else◌, is_some, length, refl, sym, ap, subst, err_from_is_err_and, INFO}
+use Rattle.lapm_frames.proofs.Names.{address_of, FrameSpelling, Frame}
 use Rattle.lapm_frames.proofs.KindOctets.{none-unnumbered, unnumbered-by, differ, alike, some-map}
 use Rattle.lapm_frames.proofs.Faults.{unnumbered-control, unnumbered-long}
 use Rattle.lapm_frames.proofs.unnumbered.read.Goals as goal

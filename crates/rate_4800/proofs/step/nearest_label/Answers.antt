@@ -1,8 +1,6 @@
-use Rattle.std.proofs.Common.{◌≡◌, ◌∙◌, ◌%◌, arith, ap, sym, subst}
+use Rattle.rate_4800.proofs.Names.{◌≡◌, ◌∙◌, ◌%◌, arith, ap, sym, subst, sample_at, least_four, IsNearestLabel}
 use Rattle.std.specs.Int.{w16, cast_signed, cast_unsigned}
 use Rattle.std.proofs.lemmas.Int.{ints}
-use Rattle.exact_decoder.specs.Lines.{sample_at, least_four}
-use Rattle.rate_4800.specs.Nearest.{IsNearestLabel}
 use Rattle.rate_4800.proofs.Nearest.{sample-at, nearest-of, least_product, products}
 use Rattle.rate_4800.proofs.step.nearest_label.Goals as goal
 

@@ -1,5 +1,4 @@
-use Rattle.std.proofs.Common.{◌≡◌, ◌∙◌, ℕ, ◌+◌, ◌-◌, ◌/◌, ◌^◌, ap, arith}
-use Rattle.std.specs.Int.{bit_at}
+use Rattle.scramblers.proofs.Names.{◌≡◌, ◌∙◌, ℕ, ◌+◌, ◌-◌, ◌/◌, ◌^◌, ap, arith, bit_at}
 use Rattle.scramblers.proofs.Registers.{bit_at-rem, bit_at-quotient}
 use Rattle.scramblers.proofs.register.four_before.Goals as goal
 

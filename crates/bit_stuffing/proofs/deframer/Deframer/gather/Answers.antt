@@ -1,5 +1,4 @@
-use Rattle.std.proofs.Common.{sym, subst}
-use Rattle.bit_stuffing.specs.Deframer.{DeframerStands}
+use Rattle.bit_stuffing.proofs.Names.{sym, subst, DeframerStands}
 use Rattle.bit_stuffing.proofs.Contents.{gathers-within, gathers-outside}
 use Rattle.bit_stuffing.proofs.deframer.Deframer.gather.Goals as goal
 

@@ -1,6 +1,4 @@
-use Rattle.std.proofs.Common.{◌++◌, [], List, Bool, arith, sym, subst}
-use Rattle.bit_stuffing.specs.Pieces.{content}
-use Rattle.bit_stuffing.specs.Deframer.{Gathers, LeavesFour, DeframerStands}
+use Rattle.bit_stuffing.proofs.Names.{◌++◌, [], List, Bool, arith, sym, subst, Gathers, LeavesFour, DeframerStands, content}
 use Rattle.bit_stuffing.proofs.Halves.{low-four}
 use Rattle.bit_stuffing.proofs.Passing.{gathered-four}
 use Rattle.bit_stuffing.proofs.deframer.Deframer.gather_four.Goals as goal

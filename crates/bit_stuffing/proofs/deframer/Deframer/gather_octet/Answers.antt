@@ -1,6 +1,4 @@
-use Rattle.std.proofs.Common.{arith, sym, subst}
-use Rattle.bit_stuffing.specs.Pieces.{content}
-use Rattle.bit_stuffing.specs.Deframer.{Gathers, DeframerStands}
+use Rattle.bit_stuffing.proofs.Names.{arith, sym, subst, Gathers, DeframerStands, content}
 use Rattle.bit_stuffing.proofs.Passing.{gathered-all}
 use Rattle.bit_stuffing.proofs.deframer.Deframer.gather_octet.Goals as goal
 

@@ -1,7 +1,5 @@
-use Rattle.std.proofs.Common.{ℕ, ◌≡◌, ◌+◌, ◌≤◌, ◌∙◌, length, drop, refl, sym, ap, subst}
-use Rattle.frame_check.specs.Bits.{octet_bits}
-use Rattle.bit_stuffing.specs.Flags.{OpenedAt}
-use Rattle.bit_stuffing.specs.Deframer.{Finds, Gathers, DeframerStands}
+use Rattle.bit_stuffing.proofs.Names.{ℕ, ◌≡◌, ◌+◌, ◌≤◌, ◌∙◌, length, drop, refl, sym, ap, subst, Finds, Gathers, DeframerStands, OpenedAt}
+use Rattle.bit_stuffing.proofs.Names.{octet_bits}
 use Rattle.bit_stuffing.proofs.Quiet.{quiet-rests}
 use Rattle.bit_stuffing.proofs.Passing.{quiet-stands}
 use Rattle.bit_stuffing.proofs.deframer.Deframer.pass.Goals as goal

@@ -1,6 +1,4 @@
-use Rattle.std.proofs.Common.{refl, sym, subst}
-use Rattle.frame_check.specs.Bits.{octet_bits}
-use Rattle.bit_stuffing.specs.Deframer.{DeframerStands}
+use Rattle.bit_stuffing.proofs.Names.{refl, sym, subst, DeframerStands, octet_bits}
 use Rattle.bit_stuffing.proofs.Passing.{flags-stands}
 use Rattle.bit_stuffing.proofs.deframer.Deframer.pass_flags.Goals as goal
 

@@ -1,5 +1,4 @@
-use Rattle.std.proofs.Common.{◌≡◌, ◌≤◌, ◌-◌, IfSome, length, take, drop, sym, ap, subst, ◌∙◌}
-use Rattle.bit_stuffing.specs.Deframer.{Finds, Gathers, DeframerStands}
+use Rattle.bit_stuffing.proofs.Names.{◌≡◌, ◌≤◌, ◌-◌, IfSome, length, take, drop, sym, ap, subst, ◌∙◌, Finds, Gathers, DeframerStands}
 use Rattle.bit_stuffing.proofs.Passing.{four-stands}
 use Rattle.bit_stuffing.proofs.deframer.Deframer.pass_four.Goals as goal
 

@@ -1,7 +1,5 @@
-use Rattle.std.proofs.Common.{sym, subst, ap, ◌∙◌, Some, None}
-use Rattle.bit_stuffing.specs.declared.piece.Piece.TheVariants.{Aborted}
+use Rattle.bit_stuffing.proofs.Names.{sym, subst, ap, ◌∙◌, Some, None, Finds, Aborted}
 use Rattle.bit_stuffing.specs.Events.{IsEvent}
-use Rattle.bit_stuffing.specs.Deframer.{Finds}
 use Rattle.bit_stuffing.proofs.Contents.{GathersNow, gathers-next, piece-answer, piece-lent, none-lent, no_closing, closes-fits}
 use Rattle.bit_stuffing.proofs.Contents.{closes-gathers}
 use Rattle.bit_stuffing.proofs.Found.{is_answer}

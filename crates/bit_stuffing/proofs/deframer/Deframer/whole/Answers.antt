@@ -1,5 +1,4 @@
-use Rattle.std.proofs.Common.{sym, subst, ◌∙◌, inl, inr, refl, []}
-use Rattle.bit_stuffing.specs.Deframer.{DeframerStands, Lends}
+use Rattle.bit_stuffing.proofs.Names.{sym, subst, ◌∙◌, inl, inr, refl, [], DeframerStands, Lends}
 use Rattle.bit_stuffing.proofs.Found.{lent-is, lent-once}
 use Rattle.bit_stuffing.proofs.deframer.Deframer.whole.Goals as goal
 

@@ -1,6 +1,4 @@
-use Rattle.std.proofs.Common.{sym, subst}
-use Rattle.std.proofs.lemmas.Bool.{eqb-true}
-use Rattle.bit_stuffing.specs.Deframer.{Finds}
+use Rattle.bit_stuffing.proofs.Names.{sym, subst, eqb-true, Finds}
 use Rattle.bit_stuffing.proofs.Openings.{is_far, is_near}
 use Rattle.bit_stuffing.proofs.finder.FlagFinder.is_far.Goals as goal
 

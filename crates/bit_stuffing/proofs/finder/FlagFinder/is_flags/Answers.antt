@@ -1,9 +1,4 @@
-use Rattle.std.proofs.Common.{◌∙◌, sym, subst, ap}
-use Rattle.std.proofs.lemmas.Bool.{eqb-true}
-use Rattle.std.specs.Int.{rotate_right}
-use Rattle.std.specs.Int.Width.{w8}
-use Rattle.frame_check.specs.Bits.{octet_bits}
-use Rattle.bit_stuffing.specs.Deframer.{Finds, PassesBits}
+use Rattle.bit_stuffing.proofs.Names.{◌∙◌, sym, subst, ap, eqb-true, rotate_right, w8, Finds, PassesBits, octet_bits}
 use Rattle.bit_stuffing.proofs.Fours.{passes-flags}
 use Rattle.bit_stuffing.proofs.finder.FlagFinder.is_flags.Goals as goal
 

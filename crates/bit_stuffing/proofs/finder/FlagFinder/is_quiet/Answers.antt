@@ -1,6 +1,4 @@
-use Rattle.std.proofs.Common.{ℕ, ◌≡◌, ◌+◌, ◌<◌, sym, subst}
-use Rattle.std.specs.Int.{bit_at}
-use Rattle.bit_stuffing.specs.Deframer.{Finds}
+use Rattle.bit_stuffing.proofs.Names.{ℕ, ◌≡◌, ◌+◌, ◌<◌, sym, subst, bit_at, Finds}
 use Rattle.bit_stuffing.proofs.Quiet.{quiet-octet, none-of}
 use Rattle.bit_stuffing.proofs.finder.FlagFinder.is_quiet.Goals as goal
 

@@ -1,6 +1,4 @@
-use Rattle.std.proofs.Common.{sym, subst, ◌∙◌}
-use Rattle.std.proofs.lemmas.Bool.{false≢true}
-use Rattle.bit_stuffing.specs.Deframer.{Finds}
+use Rattle.bit_stuffing.proofs.Names.{sym, subst, ◌∙◌, false≢true, Finds}
 use Rattle.bit_stuffing.proofs.Latest.{latest-oldest}
 use Rattle.bit_stuffing.proofs.finder.FlagFinder.leaving.Goals as goal
 

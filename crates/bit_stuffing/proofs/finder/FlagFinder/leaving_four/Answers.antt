@@ -1,5 +1,4 @@
-use Rattle.std.proofs.Common.{◌≡◌, ◌∙◌, ℕ, ◌-◌, ◌/◌, ◌^◌, Option, Some, None, arith, sym, subst}
-use Rattle.bit_stuffing.specs.Deframer.{Finds, Finding, LeavesFour}
+use Rattle.bit_stuffing.proofs.Names.{◌≡◌, ◌∙◌, ℕ, ◌-◌, ◌/◌, ◌^◌, Option, Some, None, arith, sym, subst, Finds, Finding, LeavesFour}
 use Rattle.bit_stuffing.proofs.Passing.{leaves-four, leaves-none}
 use Rattle.bit_stuffing.proofs.finder.FlagFinder.leaving_four.Goals as goal
 

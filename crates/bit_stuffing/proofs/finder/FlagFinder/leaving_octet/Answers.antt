@@ -1,6 +1,4 @@
-use Rattle.std.proofs.Common.{◌∙◌, arith, sym, subst}
-use Rattle.std.proofs.lemmas.Bool.{false≢true}
-use Rattle.bit_stuffing.specs.Deframer.{Finds}
+use Rattle.bit_stuffing.proofs.Names.{◌∙◌, arith, sym, subst, false≢true, Finds}
 use Rattle.bit_stuffing.proofs.Quiet.{latest-bits}
 use Rattle.bit_stuffing.proofs.finder.FlagFinder.leaving_octet.Goals as goal
 

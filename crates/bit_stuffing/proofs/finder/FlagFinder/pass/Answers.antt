@@ -1,5 +1,4 @@
-use Rattle.std.proofs.Common.{◌≡◌, ◌⊎◌, Some, None, sym, subst}
-use Rattle.bit_stuffing.specs.Deframer.{Finds}
+use Rattle.bit_stuffing.proofs.Names.{◌≡◌, ◌⊎◌, Some, None, sym, subst, Finds}
 use Rattle.bit_stuffing.proofs.Quiet.{quiet-finds}
 use Rattle.bit_stuffing.proofs.finder.FlagFinder.pass.Goals as goal
 

@@ -1,7 +1,4 @@
-use Rattle.std.proofs.Common.{◌≡◌, ◌/◌, Some, sym, subst}
-use Rattle.frame_check.specs.Bits.{low_bits}
-use Rattle.bit_stuffing.specs.Deframer.{Finding, Finds, PassesBits}
-use Rattle.bit_stuffing.specs.Fours.{since_four}
+use Rattle.bit_stuffing.proofs.Names.{◌≡◌, ◌/◌, Some, sym, subst, Finding, Finds, PassesBits, since_four, low_bits}
 use Rattle.bit_stuffing.proofs.Fours.{passes-four}
 use Rattle.bit_stuffing.proofs.finder.FlagFinder.pass_four.Goals as goal
 

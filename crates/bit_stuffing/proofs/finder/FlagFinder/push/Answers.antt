@@ -1,6 +1,4 @@
-use Rattle.std.proofs.Common.{sym, subst, ◌∙◌}
-use Rattle.std.proofs.lemmas.Bool.{false≢true}
-use Rattle.bit_stuffing.specs.Deframer.{Finds}
+use Rattle.bit_stuffing.proofs.Names.{sym, subst, ◌∙◌, false≢true, Finds}
 use Rattle.bit_stuffing.proofs.Openings.{at_end, from_end, seven_at_end, seven_from_end, room-open, flag-opens, flag-closes, flag-near}
 use Rattle.bit_stuffing.proofs.Openings.{seven-aborts, seven-shuts, quiet, counts-more, shut-quiet, shut-stays}
 use Rattle.bit_stuffing.proofs.finder.FlagFinder.push.Goals as goal

@@ -1,8 +1,5 @@
-use Rattle.std.proofs.Common.{◌+◌, ◌*◌, ◌≤◌, take, drop, get_or, length, ◌++◌, arith, ◌∙◌, ap, sym, subst}
-use Rattle.frame_check.specs.declared.sizes.TheConstants.{SLOT}
-use Rattle.frame_check.specs.Bits.{octet_bits, bits_of}
-use Rattle.bit_stuffing.specs.Pen.{written}
-use Rattle.bit_stuffing.specs.Stuffing.{stuffed, room_behind}
+use Rattle.bit_stuffing.proofs.Names.{◌+◌, ◌*◌, ◌≤◌, take, drop, get_or, length, ◌++◌, arith, ◌∙◌, ap, sym, subst, written, stuffed}
+use Rattle.bit_stuffing.proofs.Names.{room_behind, octet_bits, bits_of, SLOT}
 use Rattle.bit_stuffing.proofs.Written.{next-written, next-left, next-fits, left-in, octets-part, octets-split, room_behind-in}
 use Rattle.bit_stuffing.proofs.pen.Pen.content.Goals as goal
 

@@ -1,7 +1,4 @@
-use Rattle.std.proofs.Common.{◌≡◌, ◌++◌, take}
-use Rattle.frame_check.specs.Bits.{bits_of}
-use Rattle.bit_stuffing.specs.Pen.{written}
-use Rattle.bit_stuffing.specs.Stuffing.{stuffed, room_behind}
+use Rattle.bit_stuffing.proofs.Names.{◌≡◌, ◌++◌, take, written, stuffed, room_behind, bits_of}
 use Rattle.bit_stuffing.proofs.pen.Pen.content.Given as goal
 
 abbrev pub invariant-loop-octet : goal.invariant-loop-octet

@@ -1,6 +1,4 @@
-use Rattle.std.proofs.Common.{false, [], ◌∷◌, ◌++◌, append_assoc, sym, ◌∙◌, ap}
-use Rattle.bit_stuffing.specs.Pen.{written}
-use Rattle.bit_stuffing.specs.Stuffing.{stuffed}
+use Rattle.bit_stuffing.proofs.Names.{false, [], ◌∷◌, ◌++◌, append_assoc, sym, ◌∙◌, ap, written, stuffed}
 use Rattle.bit_stuffing.proofs.pen.Pen.content_bit.Goals as goal
 
 pub returns-then-room-eq1-clause-written : goal.returns-then-room-eq1-clause-written

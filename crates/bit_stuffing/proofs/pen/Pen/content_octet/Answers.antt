@@ -1,9 +1,5 @@
-use Rattle.std.proofs.Common.{Bool, ◌≡◌, ◌+◌, ◌/◌, ◌^◌, ◌∷◌, [], nat_eq, bit_and, take, drop, length, ◌++◌, arith, ◌∙◌, ap, sym, subst, ◌≤◌}
-use Rattle.std.proofs.Common.{◌*◌}
-use Rattle.frame_check.specs.declared.sizes.TheConstants.{SLOT}
-use Rattle.frame_check.specs.Bits.{octet_bits}
-use Rattle.bit_stuffing.specs.Pen.{written}
-use Rattle.bit_stuffing.specs.Stuffing.{stuffed, room_behind}
+use Rattle.bit_stuffing.proofs.Names.{Bool, ◌≡◌, ◌+◌, ◌/◌, ◌^◌, ◌∷◌, [], nat_eq, bit_and, take, drop, length, ◌++◌, arith, ◌∙◌, ap, sym}
+use Rattle.bit_stuffing.proofs.Names.{subst, ◌≤◌, ◌*◌, written, stuffed, room_behind, octet_bits, SLOT}
 use Rattle.bit_stuffing.proofs.Written.{next-written, next-left, next-fits, left-in, octet-bit, octet-part, octet-split}
 use Rattle.bit_stuffing.proofs.Octets.{plain-written}
 use Rattle.bit_stuffing.proofs.pen.Pen.content_octet.Goals as goal

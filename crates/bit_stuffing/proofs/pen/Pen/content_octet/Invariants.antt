@@ -1,7 +1,4 @@
-use Rattle.std.proofs.Common.{◌≡◌, ◌++◌, take}
-use Rattle.frame_check.specs.Bits.{octet_bits}
-use Rattle.bit_stuffing.specs.Pen.{written}
-use Rattle.bit_stuffing.specs.Stuffing.{stuffed, room_behind}
+use Rattle.bit_stuffing.proofs.Names.{◌≡◌, ◌++◌, take, written, stuffed, room_behind, octet_bits}
 use Rattle.bit_stuffing.proofs.pen.Pen.content_octet.Given as goal
 
 abbrev pub invariant-loop-place : goal.invariant-loop-place

@@ -1,7 +1,5 @@
-use Rattle.std.proofs.Common.{Bool, List, ◌≡◌, ◌+◌, ◌-◌, ◌*◌, ◌/◌, ◌%◌, ◌++◌, length, take, arith, ◌∙◌, ap, append_assoc, length-append}
-use Rattle.bit_stuffing.specs.Pen.{written}
-use Rattle.bit_stuffing.specs.Flags.{flag}
-use Rattle.bit_stuffing.specs.Slots.{fill, flags}
+use Rattle.bit_stuffing.proofs.Names.{Bool, List, ◌≡◌, ◌+◌, ◌-◌, ◌*◌, ◌/◌, ◌%◌, ◌++◌, length, take, arith, ◌∙◌, ap, append_assoc}
+use Rattle.bit_stuffing.proofs.Names.{length-append, flag, written, fill, flags}
 use Rattle.bit_stuffing.proofs.Written.{length-written}
 use Rattle.bit_stuffing.proofs.Fill.{length-flags}
 use Rattle.bit_stuffing.proofs.pen.Pen.fill.Goals as goal

@@ -1,6 +1,4 @@
-use Rattle.std.proofs.Common.{◌-◌, [], ◌∷◌, ◌++◌, take, drop, arith, ◌∙◌, ap, sym, append_assoc}
-use Rattle.bit_stuffing.specs.Pen.{written}
-use Rattle.bit_stuffing.specs.Flags.{flag}
+use Rattle.bit_stuffing.proofs.Names.{◌-◌, [], ◌∷◌, ◌++◌, take, drop, arith, ◌∙◌, ap, sym, append_assoc, flag, written}
 use Rattle.bit_stuffing.proofs.Written.{flag-part}
 use Rattle.bit_stuffing.proofs.pen.Pen.flag.Goals as goal
 

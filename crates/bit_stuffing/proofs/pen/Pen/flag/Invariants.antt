@@ -1,6 +1,4 @@
-use Rattle.std.proofs.Common.{◌≡◌, ◌-◌, ◌++◌, take, drop}
-use Rattle.bit_stuffing.specs.Pen.{written}
-use Rattle.bit_stuffing.specs.Flags.{flag}
+use Rattle.bit_stuffing.proofs.Names.{◌≡◌, ◌-◌, ◌++◌, take, drop, flag, written}
 use Rattle.bit_stuffing.proofs.pen.Pen.flag.Given as goal
 
 abbrev pub invariant-loop-place : goal.invariant-loop-place

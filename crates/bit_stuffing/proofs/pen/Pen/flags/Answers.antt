@@ -1,7 +1,5 @@
-use Rattle.std.proofs.Common.{Bool, List, ◌≡◌, ◌++◌, suc, ◌+◌, length, arith, ◌∙◌, ap, append_assoc, length-append}
-use Rattle.bit_stuffing.specs.Pen.{written}
-use Rattle.bit_stuffing.specs.Flags.{flag}
-use Rattle.bit_stuffing.specs.Slots.{flags}
+use Rattle.bit_stuffing.proofs.Names.{Bool, List, ◌≡◌, ◌++◌, suc, ◌+◌, length, arith, ◌∙◌, ap, append_assoc, length-append, flag, written}
+use Rattle.bit_stuffing.proofs.Names.{flags}
 use Rattle.bit_stuffing.proofs.Fill.{length-flags, flags-snoc}
 use Rattle.bit_stuffing.proofs.pen.Pen.flags.Goals as goal
 

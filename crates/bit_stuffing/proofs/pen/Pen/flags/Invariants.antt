@@ -1,6 +1,4 @@
-use Rattle.std.proofs.Common.{◌≡◌, ◌++◌}
-use Rattle.bit_stuffing.specs.Pen.{written}
-use Rattle.bit_stuffing.specs.Slots.{flags}
+use Rattle.bit_stuffing.proofs.Names.{◌≡◌, ◌++◌, written, flags}
 use Rattle.bit_stuffing.proofs.pen.Pen.flags.Given as goal
 
 abbrev pub invariant-loop : goal.invariant-loop

@@ -1,10 +1,5 @@
-use Rattle.std.proofs.Common.{Bool, ℕ, List, ◌≡◌, ◌+◌, ◌≤◌, ◌++◌, length, arith, ◌∙◌, ap, append_assoc, length-append, refl, sym, Some}
-use Rattle.frame_check.specs.Bits.{bits_of}
-use Rattle.frame_check.proofs.BitLists.{bits_of-append}
-use Rattle.bit_stuffing.specs.Pen.{written}
-use Rattle.bit_stuffing.specs.Flags.{flag}
-use Rattle.bit_stuffing.specs.Slots.{framed}
-use Rattle.bit_stuffing.specs.Stuffing.{stuffed, room_behind}
+use Rattle.bit_stuffing.proofs.Names.{Bool, ℕ, List, ◌≡◌, ◌+◌, ◌≤◌, ◌++◌, length, arith, ◌∙◌, ap, append_assoc, length-append, refl, sym}
+use Rattle.bit_stuffing.proofs.Names.{Some, flag, written, framed, stuffed, room_behind, bits_of-append, bits_of}
 use Rattle.bit_stuffing.proofs.Written.{next-fits, next-left, next-written, room_behind-in, stuffed-front}
 use Rattle.bit_stuffing.proofs.pen.Pen.frame.Goals as goal
 

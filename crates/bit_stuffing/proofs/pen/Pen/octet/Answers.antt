@@ -1,6 +1,4 @@
-use Rattle.std.proofs.Common.{◌%◌, ◌/◌, [], ◌∷◌, ◌++◌, length, length-append, arith, ap, ◌∙◌}
-use Rattle.frame_check.specs.Bits.{low_bits}
-use Rattle.bit_stuffing.specs.BitSlot.{line_bits}
+use Rattle.bit_stuffing.proofs.Names.{◌%◌, ◌/◌, [], ◌∷◌, ◌++◌, length, length-append, arith, ap, ◌∙◌, line_bits, low_bits}
 use Rattle.bit_stuffing.proofs.Written.{length-written, octet-written}
 use Rattle.bit_stuffing.proofs.pen.Pen.octet.Goals as goal
 

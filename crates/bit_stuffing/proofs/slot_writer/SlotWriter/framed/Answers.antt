@@ -1,9 +1,6 @@
-use Rattle.std.proofs.Common.{Bool, ℕ, List, Option, ◌≡◌, ◌-◌, ◌*◌, ◌≤◌, ◌++◌, length, arith, ◌∙◌, refl, sym, ap, subst, Some}
+use Rattle.bit_stuffing.proofs.Names.{Bool, ℕ, List, Option, ◌≡◌, ◌-◌, ◌*◌, ◌≤◌, ◌++◌, length, arith, ◌∙◌, refl, sym, ap, subst, Some}
+use Rattle.bit_stuffing.proofs.Names.{line_bits, Writer, WriterStands, framed, flags, opening, rest_of_flag, slot_bits, Flags}
 use Rattle.bit_stuffing.specs.declared.slot_writer.TheConstants.{TAIL}
-use Rattle.bit_stuffing.specs.BitSlot.{line_bits}
-use Rattle.bit_stuffing.specs.Slots.{framed, flags, opening, rest_of_flag, slot_bits}
-use Rattle.bit_stuffing.specs.Slots.Slot.{Flags}
-use Rattle.bit_stuffing.specs.SlotWriter.{Writer, WriterStands}
 use Rattle.bit_stuffing.proofs.Fill.{slot-written, writer-behind}
 use Rattle.bit_stuffing.proofs.slot_writer.SlotWriter.framed.Goals as goal
 

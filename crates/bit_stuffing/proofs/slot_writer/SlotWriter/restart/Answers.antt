@@ -1,5 +1,4 @@
-use Rattle.std.proofs.Common.{◌*◌, arith, sym}
-use Rattle.bit_stuffing.specs.Slots.Slot.{Plain}
+use Rattle.bit_stuffing.proofs.Names.{◌*◌, arith, sym, Plain}
 use Rattle.bit_stuffing.proofs.Fill.{phase-append}
 use Rattle.bit_stuffing.proofs.slot_writer.SlotWriter.restart.Goals as goal
 

@@ -1,6 +1,4 @@
-use Rattle.std.proofs.Common.{sym, subst, arith}
-use Rattle.bit_stuffing.specs.Deframer.{Gathers}
-use Rattle.bit_stuffing.specs.Pieces.{IsWhole}
+use Rattle.bit_stuffing.proofs.Names.{sym, subst, arith, Gathers, IsWhole}
 use Rattle.bit_stuffing.proofs.Gather.{judge-held, judge-ones, judge-short, judge-whole}
 use Rattle.bit_stuffing.proofs.unstuffer.Unstuffer.judge.Goals as goal
 use Rattle.bit_stuffing.proofs.unstuffer.Unstuffer.judge.Goals.{then-self-ne0-via-then-self-ne0}

@@ -1,5 +1,4 @@
-use Rattle.std.proofs.Common.{sym, subst, arith}
-use Rattle.bit_stuffing.specs.Deframer.{KeepsBits}
+use Rattle.bit_stuffing.proofs.Names.{sym, subst, arith, KeepsBits}
 use Rattle.bit_stuffing.proofs.Gather.{keeps-over}
 use Rattle.bit_stuffing.proofs.unstuffer.Unstuffer.keep.Goals as goal
 

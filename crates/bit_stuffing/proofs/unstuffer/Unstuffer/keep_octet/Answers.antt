@@ -1,5 +1,4 @@
-use Rattle.std.proofs.Common.{◌≡◌, sym, subst, false, true}
-use Rattle.bit_stuffing.specs.Deframer.{Gathers, is_plain}
+use Rattle.bit_stuffing.proofs.Names.{◌≡◌, sym, subst, false, true, Gathers, is_plain}
 use Rattle.bit_stuffing.proofs.Octets.{gathers-octet}
 use Rattle.bit_stuffing.proofs.unstuffer.Unstuffer.keep_octet.Goals as goal
 

@@ -1,6 +1,4 @@
-use Rattle.std.proofs.Common.{sym, subst, refl, ◌∙◌}
-use Rattle.bit_stuffing.specs.Deframer.{Gathers}
-use Rattle.bit_stuffing.specs.Stuffing.{removed}
+use Rattle.bit_stuffing.proofs.Names.{sym, subst, refl, ◌∙◌, Gathers, removed}
 use Rattle.bit_stuffing.proofs.Gather.{gathers-skip, gathers-take}
 use Rattle.bit_stuffing.proofs.unstuffer.Unstuffer.push.Goals as goal
 use Rattle.bit_stuffing.proofs.unstuffer.Unstuffer.push.Goals.{then-bit, else-bit}

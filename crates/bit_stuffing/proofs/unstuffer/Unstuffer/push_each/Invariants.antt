@@ -1,5 +1,4 @@
-use Rattle.std.proofs.Common.{Bool, List}
-use Rattle.bit_stuffing.specs.Deframer.{Gathers}
+use Rattle.bit_stuffing.proofs.Names.{Bool, List, Gathers}
 use Rattle.bit_stuffing.proofs.Octets.{HasPushed}
 use Rattle.bit_stuffing.proofs.unstuffer.Unstuffer.push_each.Given as goal
 

@@ -1,6 +1,4 @@
-use Rattle.std.proofs.Common.{◌%◌, ◌++◌, subst}
-use Rattle.frame_check.specs.Bits.{low_bits}
-use Rattle.bit_stuffing.specs.Deframer.{Gathers}
+use Rattle.bit_stuffing.proofs.Names.{◌%◌, ◌++◌, subst, Gathers, low_bits}
 use Rattle.bit_stuffing.proofs.Halves.{octet-fours}
 use Rattle.bit_stuffing.proofs.unstuffer.Unstuffer.push_fours.Goals as goal
 

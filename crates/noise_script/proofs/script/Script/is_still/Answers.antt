@@ -1,11 +1,5 @@
-use Rattle.std.proofs.Common.{arith, ◌≡◌, ◌∙◌, Bool, true, false, not, List, refl, sym, ap, ◌&&◌}
-use Rattle.std.specs.List.{list_any}
-use Rattle.std.proofs.lemmas.Bool.{false≢true}
-use Rattle.shared_terms.specs.Role.{same_role}
-use Rattle.noise_script.specs.declared.entry.Hit.{Hit}
-use Rattle.noise_script.specs.declared.entry.Noise.{Noise}
-use Rattle.noise_script.specs.Offsets.{meets}
-use Rattle.noise_script.specs.Script.{ScriptValue}
+use Rattle.noise_script.proofs.Names.{arith, ◌≡◌, ◌∙◌, Bool, true, false, not, List, refl, sym, ap, ◌&&◌, false≢true, list_any, meets}
+use Rattle.noise_script.proofs.Names.{ScriptValue, Hit, Noise, same_role}
 use Rattle.noise_script.proofs.Still.{still}
 use Rattle.noise_script.proofs.script.Script.is_still.Goals as goal
 

@@ -1,5 +1,4 @@
-use Rattle.std.proofs.Common.{sym, ap, arith, ◌≡◌}
-use Rattle.rate_4800.specs.Code.{point_of}
+use Rattle.rate_4800.proofs.Names.{sym, ap, arith, ◌≡◌, point_of}
 use Rattle.rate_4800.proofs.code.Rate4800TrellisCode14.point.Goals as goal
 
 pub returns-in-0 : goal.returns-in-0

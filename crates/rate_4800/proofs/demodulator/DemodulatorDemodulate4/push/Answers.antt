@@ -1,11 +1,5 @@
-use Rattle.std.proofs.Common.{ℕ, Bool, List, [], ◌∷◌, ◌++◌, subst, refl}
-use Rattle.trellis_tables.specs.Differential.Turned.{unturned}
-use Rattle.trellis_tables.specs.Differential.Machines.{UnturnerStands}
-use Rattle.frame_check.specs.Bits.{low_bits}
-use Rattle.std.specs.List.{flat_map}
-use Rattle.std.proofs.Common.{◌∙◌, ap}
-use Rattle.line_coding.specs.Modes.{DescramblesAs}
-use Rattle.rate_4800.specs.Demodulates.{line_of}
+use Rattle.rate_4800.proofs.Names.{ℕ, Bool, List, [], ◌∷◌, ◌++◌, subst, refl, ◌∙◌, ap, flat_map, low_bits, DescramblesAs, line_of}
+use Rattle.rate_4800.proofs.Names.{UnturnerStands, unturned}
 use Rattle.rate_4800.proofs.Twos.{twos-more}
 use Rattle.rate_4800.proofs.demodulator.DemodulatorDemodulate4.push.Goals as goal
 

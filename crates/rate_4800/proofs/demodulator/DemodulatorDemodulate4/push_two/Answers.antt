@@ -1,10 +1,5 @@
-use Rattle.std.proofs.Common.{◌≡◌, ◌∙◌, ℕ, Bool, List, [], ◌∷◌, ◌++◌, refl, ap, subst, append_assoc}
-use Rattle.std.specs.List.{flat_map}
-use Rattle.trellis_tables.specs.Differential.Turned.{unturned}
-use Rattle.trellis_tables.specs.Differential.Machines.{UnturnerStands}
-use Rattle.frame_check.specs.Bits.{low_bits}
-use Rattle.line_coding.specs.Modes.{DescramblesAs}
-use Rattle.rate_4800.specs.Demodulates.{line_of}
+use Rattle.rate_4800.proofs.Names.{◌≡◌, ◌∙◌, ℕ, Bool, List, [], ◌∷◌, ◌++◌, refl, ap, subst, append_assoc, flat_map, low_bits, DescramblesAs}
+use Rattle.rate_4800.proofs.Names.{line_of, UnturnerStands, unturned}
 use Rattle.rate_4800.proofs.Twos.{fours-more}
 use Rattle.rate_4800.proofs.demodulator.DemodulatorDemodulate4.push_two.Goals as goal
 

@@ -1,8 +1,6 @@
-use Rattle.std.proofs.Common.{◌∙◌, ℕ, ◌<◌, [], ◌∷◌, ◌++◌, sym, ap, map}
+use Rattle.rate_4800.proofs.Names.{◌∙◌, ℕ, ◌<◌, [], ◌∷◌, ◌++◌, sym, ap, map, low_bits, point_of}
 use Rattle.std.proofs.lemmas.List.Elements.{All-push}
 use Rattle.std.proofs.lemmas.List.{map-append}
-use Rattle.frame_check.specs.Bits.{low_bits}
-use Rattle.rate_4800.specs.Code.{point_of}
 use Rattle.rate_4800.proofs.Twos.{twos-more}
 use Rattle.rate_4800.proofs.modulator.Modulator.push.Goals as goal
 

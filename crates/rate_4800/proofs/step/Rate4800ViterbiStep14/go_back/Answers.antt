@@ -1,7 +1,6 @@
-use Rattle.std.proofs.Common.{◌≡◌, slice_index, arith, ap, ◌∙◌}
+use Rattle.rate_4800.proofs.Names.{◌≡◌, slice_index, arith, ap, ◌∙◌, choice_at, choice_by}
 use Rattle.std.proofs.lemmas.Simd.{get_or-zip2}
-use Rattle.exact_decoder.specs.Settled.{choice_at}
-use Rattle.exact_decoder.specs.Traced.{choice_by, choices_of}
+use Rattle.exact_decoder.specs.Traced.{choices_of}
 use Rattle.rate_4800.proofs.step.Rate4800ViterbiStep14.go_back.Goals as goal
 
 pub returns-clause-label : goal.returns-clause-label

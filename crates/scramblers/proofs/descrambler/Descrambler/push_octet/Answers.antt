@@ -1,7 +1,5 @@
-use Rattle.std.proofs.Common.{◌∙◌, ℕ, ◌+◌, ◌-◌, ◌/◌, ◌^◌, ◌<◌, ◌++◌, sym, ap, subst, rules}
-use Rattle.std.specs.Int.{bit_at}
+use Rattle.scramblers.proofs.Names.{◌∙◌, ℕ, ◌+◌, ◌-◌, ◌/◌, ◌^◌, ◌<◌, ◌++◌, sym, ap, subst, rules, bit_at, Holds}
 use Rattle.frame_check.specs.Bits.{octet_bits}
-use Rattle.scramblers.specs.Register.{Holds}
 use Rattle.scramblers.proofs.Octets.{octet-follows}
 use Rattle.scramblers.proofs.descrambler.Descrambler.push_octet.Goals as goal
 

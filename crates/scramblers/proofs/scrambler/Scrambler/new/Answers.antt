@@ -1,6 +1,5 @@
-use Rattle.std.proofs.Common.{◌≡◌, ◌<◌, nat_lt, true, refl, arith}
-use Rattle.std.proofs.lemmas.Bool.Decides.{nat_tests}
-use Rattle.std.specs.Int.{bit_at}
+use Rattle.scramblers.proofs.Names.{◌≡◌, ◌<◌, true, refl, arith, nat_tests, bit_at}
+use Rattle.std.proofs.Common.{nat_lt}
 use Rattle.scramblers.proofs.scrambler.Scrambler.new.Goals as goal
 
 no-bit : (i : _) → bit_at 0 i ≡ 0

@@ -1,6 +1,4 @@
-use Rattle.std.proofs.Common.{ℕ, Bool, List, ◌++◌, sym, subst, bit_xor}
-use Rattle.std.proofs.lemmas.Nat.{xor_lt}
-use Rattle.scramblers.specs.Scrambles.{Scrambles}
+use Rattle.scramblers.proofs.Names.{ℕ, Bool, List, ◌++◌, sym, subst, bit_xor, xor_lt, Scrambles}
 use Rattle.scramblers.proofs.Registers.{low_four}
 use Rattle.scramblers.proofs.Streams.{Scrambles-four}
 use Rattle.scramblers.proofs.Turning.{are-turned}
