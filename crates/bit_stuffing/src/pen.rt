@@ -165,13 +165,7 @@ impl Pen {
     }
 
     /// Writes a frame's octets, which stand in three places, and its closing flag.
-    pub(crate) fn frame(
-        &mut self,
-        head: &[u8],
-        information: &[u8],
-        check: &[u8],
-        out: &mut BitSlot,
-    )
+    pub(crate) fn frame(&mut self, head: &[u8], information: &[u8], check: &[u8], out: &mut BitSlot)
         requires { length (written self.old out.old) + length (framed (Some (head.now ++ information.now ++ check.now)))
             ≤ 4 * SLOT }
         ensures { written self.new out.new
