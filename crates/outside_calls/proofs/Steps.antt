@@ -1,6 +1,6 @@
 -- What follows from several calls of a folder in a row.
 use Rattle.std.specs.Prelude.{◌≡◌, ℕ, ◌≤◌, IsTrue, List, [], ◌++◌, Some, unwrap_or, refl}
-use Rattle.std.proofs.Common.{sym, ◌∙◌, ap, subst, arith, append-nil, inl, inr}
+use Rattle.std.proofs.Common.{sym, ◌∙◌, ap, subst, arith, inl, inr}
 use Rattle.outside_calls.specs.Folder.{FolderState, held_at, octets_at, GoesOn, KeepsName, OnlyReads, Adds, Appended, PartlyAppended}
 use Rattle.outside_calls.specs.Folder.{FaultsStand, CountsStand, Rose}
 
@@ -53,11 +53,6 @@ Adds-kept a b c n xs g p k = elim p [
 pub PartlyAppended-none : (a b : FolderState) (n xs : List ℕ) → KeepsName a b n → PartlyAppended a b n xs
 PartlyAppended-none a b n xs k told = inl (k told)
 
--- what was added whole is a part of itself
-pub PartlyAppended-all : (a b : FolderState) (n xs : List ℕ) → Adds a b n xs → PartlyAppended a b n xs
-PartlyAppended-all a b n xs p told = elim p [
-  | inl none ↦ inl (none.1 told)
-  | inr put ↦ inr (xs, ([], append-nil xs), put told)
 ]
 
 -- what is appended in part behind a name that was kept is appended in part to what it held before

@@ -10,7 +10,7 @@ use Rattle.std.specs.Cmp.Lexicographic.{slice_cmp, nat_list_cmp_total}
 use Rattle.std.specs.declared.cmp.Ordering.{Ordering}
 use Rattle.std.specs.declared.cmp.Ordering.TheVariants.{Less, Equal, Greater}
 use Rattle.std.proofs.lemmas.Slice.Eq.{bytes_eq-Decides}
-use Rattle.outside_calls.specs.Folder.{Files, FolderState, held_at, octets_at, Rose, CountsStand, KeepsName, OnlyReads, OnlyWrites}
+use Rattle.outside_calls.specs.Folder.{Files, FolderState, held_at, octets_at, KeepsName, OnlyReads, OnlyWrites}
 use Rattle.frame_check.specs.Octets.{AreOctets}
 use Rattle.outside_calls.specs.Folder.{ReadsFront, TellsOctets, Appended, Created}
 use Rattle.outside_calls.specs.declared.folder.FolderFault.{FolderFault}
@@ -131,16 +131,6 @@ module _ (n : Swallowed) where
   }
 
   -- ---- counts
-
-  rose-inner : (a b r : ℕ) → Rose a b → Rose (sum_of a r) (sum_of b r)
-  rose-inner a b r h = omega (arith, h)
-
-  pub reads-stand : (i j : FolderState) (text : List ℕ) (r : ℕ) → CountsStand i j
-      → CountsStand (audit_state i n text r) (audit_state j n text r)
-  reads-stand i j text r h = record {
-    faults = record { reads = h.faults.reads; writes = λ name. refl; says = refl };
-    refusals = ap (λ a. sum_of a r) h.refusals;
-  }
 
   -- ---- writes
 

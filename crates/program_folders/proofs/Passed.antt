@@ -1,26 +1,11 @@
 -- What the folder of an audit tells of the folder handed in.
 use Rattle.std.specs.Prelude.{◌≡◌, ◌≢◌, ℕ, IsTrue, List, [], Some, unwrap_or}
-use Rattle.std.proofs.Common.{arith, Bool, true, false, refl, ap}
+use Rattle.std.proofs.Common.{Bool, true, false, refl, ap}
 use Rattle.std.specs.Str.{bytes_eq}
 use Rattle.std.proofs.lemmas.Slice.Eq.{bytes_eq-Decides}
-use Rattle.outside_calls.specs.Folder.{FolderState, held_at, octets_at, FaultsStand, CountsStand}
+use Rattle.outside_calls.specs.Folder.{FolderState, held_at, octets_at}
 use Rattle.program_folders.specs.Audited.{Swallowed, audit_tells, audit_state}
-use Rattle.program_folders.specs.Passed.{OnlyPassed}
 use Rattle.program_folders.proofs.Auditing.{at-name, at-other, told}
-
--- where nothing was counted, nothing was counted by the folder handed in,
-pub stands-inside : (a b : FolderState) (n m : Swallowed) (text more : List ℕ) (r s : ℕ) → OnlyPassed a b r s
-    → CountsStand (audit_state a n text r) (audit_state b m more s) → CountsStand a b
-stands-inside a b n m text more r s p h = record {
-  faults = record { reads = h.faults.reads; writes = p.reads.write_faults; says = p.reads.say_faults };
-  refusals = omega (arith, h.refusals, p.refused, p.reads.goes_on.refused);
-}
-
--- where no fault was, none of its faults,
-pub faults-stand-inside : (a b : FolderState) (n m : Swallowed) (text more : List ℕ) (r s : ℕ) → OnlyPassed a b r s
-    → FaultsStand (audit_state a n text r) (audit_state b m more s) → FaultsStand a b
-faults-stand-inside a b n m text more r s p h =
-    record { reads = h.reads; writes = p.reads.write_faults; says = p.reads.say_faults }
 
 -- ---- what it holds
 

@@ -13,7 +13,7 @@ use Rattle.command_base.specs.declared.status.Status.TheVariants.{LinkLost, NotD
 use Rattle.command_base.specs.declared.stop.Stop.{Stop}
 use Rattle.command_base.specs.declared.stop.Stop.TheVariants as stops
 use Rattle.command_base.specs.Job.{SaysLast}
-use Rattle.command_base.specs.Stops.{IsOwn, fault_status, end_status}
+use Rattle.command_base.specs.Stops.{fault_status, end_status}
 use Rattle.command_base.proofs.Jobs.{last-plain}
 use Rattle.run_inputs.specs.Answers.{answer_of, stop_by}
 
@@ -25,14 +25,6 @@ stopped-by P (NotDetected turn) h = (runs.NotDetected turn, refl, h)
 stopped-by P (LineLost role symbol) h = (runs.LineLost role symbol, refl, h)
 stopped-by P (ChanceMatch role turn) h = (runs.ChanceMatch role turn, refl, h)
 stopped-by P answer h = absurd h
-
--- and such an answer is a command's own
-pub stopped-own : (P : RunEnd → Type 0) (answer : Status) → MatchOption (stop_by answer) ⊥ P → IsOwn answer
-stopped-own P (LinkLost role segment turn) h = tt
-stopped-own P (NotDetected turn) h = tt
-stopped-own P (LineLost role symbol) h = tt
-stopped-own P (ChanceMatch role turn) h = tt
-stopped-own P answer h = absurd h
 
 -- in such a run an end gave the link up, or the line ended it
 pub stopped-how : {C : Type 0} (P : RunEnd → Type 0) (answer : Status) → MatchOption (stop_by answer) ⊥ P

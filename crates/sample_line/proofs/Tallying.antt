@@ -169,24 +169,4 @@ is-adp : (p : Seen) → carries sent.Adp p ≡ true → p ≡ seen.Adp
 is-adp seen.Adp e = refl
 is-adp seen.Odp e = absurd (false≢true e)
 
-first-pattern : (sender : Role) (dlci : ℕ) (s : Sent) (octets : List (List ℕ)) (patterns : List Seen) (p : Seen) → carries s p ≡ true
-    → IsSilent octets patterns
-    → IsWhatWasSent sender dlci s octets (patterns ++ p ∷ [])
-first-pattern sender dlci sent.Mark octets patterns p e h = absurd (false≢true e)
-first-pattern sender dlci sent.Flags octets patterns p e h = absurd (false≢true e)
-first-pattern sender dlci (sent.Frame frame) octets patterns p e h = absurd (false≢true e)
-first-pattern sender dlci sent.Odp octets patterns p e h = own-more seen.Odp octets patterns p (is-odp p e) h.0
-    (none-all seen.Odp patterns h.1)
-first-pattern sender dlci sent.Adp octets patterns p e h = own-more seen.Adp octets patterns p (is-adp p e) h.0
-    (none-all seen.Adp patterns h.1)
-
-next-pattern : (sender : Role) (dlci : ℕ) (s : Sent) (octets : List (List ℕ)) (patterns : List Seen) (p : Seen) → carries s p ≡ true
-    → IsWhatWasSent sender dlci s octets patterns
-    → IsWhatWasSent sender dlci s octets (patterns ++ p ∷ [])
-next-pattern sender dlci sent.Mark octets patterns p e h = absurd (false≢true e)
-next-pattern sender dlci sent.Flags octets patterns p e h = absurd (false≢true e)
-next-pattern sender dlci (sent.Frame frame) octets patterns p e h = absurd (false≢true e)
-next-pattern sender dlci sent.Odp octets patterns p e h = own-more seen.Odp octets patterns p (is-odp p e) h.0 h.2
-next-pattern sender dlci sent.Adp octets patterns p e h = own-more seen.Adp octets patterns p (is-adp p e) h.0 h.2
-
 -- outcomes

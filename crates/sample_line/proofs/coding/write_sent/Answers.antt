@@ -7,7 +7,6 @@ use Rattle.detection.specs.Slots.Signal.{FlagSlot}
 use Rattle.lapm_frames.specs.declared.sent.Sent.{Sent}
 use Rattle.sample_line.specs.Signals.{signal_of, IsCodable}
 use Rattle.sample_line.proofs.coding.write_sent.Goals as goal
-use Rattle.sample_line.proofs.coding.write_sent.Goals.{After-as_slice}
 
 -- the octets that the slot writer takes are those of the frame with its check
 octets-are : (head information check whole first third : List ℕ) → first ≡ head → third ≡ check
