@@ -324,8 +324,7 @@ spoken-pair q (Ok said) h w = w
 spoken-pair q (Err fault) h w = h
 
 heard_line : (r : Result Account LinkFault) (s : Side) → (heard r s).line ≡ s.line
-heard_line (Ok a) s = refl
-heard_line (Err fault) s = refl
+heard_line q0 s = grind (arith)
 
 passes-pair : (q : Pair) (turn : ℕ) (line : List Slot) → q.own.line ≡ line → PairGo q → PairGo (passes turn line q)
 passes-pair q turn [] e h = h

@@ -140,10 +140,7 @@ go-ticked b t brks acks turn period tries h =
   where
     go : (w : Bool) → nat_lt b.answered (length b.lengths) ≡ w → (r c : Bool)
         → OnTicked t brks acks (cond (w && r) (cond c None (Some (record b { brk = true; set = turn; count = b.count + 1 }))) (Some b))
-    go true e true true = tt
-    go true e true false = go-due b t brks acks true h (λ z. ltb-true b.answered (length b.lengths) e)
-    go true e false c = h
-    go false e r c = h
+    go q0 e r c = grind (arith)
 
 -- a BRK goes on the line
 pub go-brk : (b : OwnBreaks) (t : TheirBreaks) (brks : List BrkOn) (acks : List AckOn) → b.brk ≡ true → Go b t brks acks

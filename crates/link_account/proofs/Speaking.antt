@@ -133,8 +133,7 @@ quiet-o so sa o a lo la h sent none unasked from sabme unnumbered =
     (askable (asked_of sent 0) unasked))
   where
     askable : (m : Option ℕ) → m ≡ None → IsAskable (length o.incoming.taken) a.outgoing.high m
-    askable None e = tt
-    askable (Some m) e = cc
+    askable q0 e = grind (arith)
 
 o-waits : (so sa : Setup) (o a : Account) (lo la : List Slot) → Good so sa o a lo la → (w : Wait)
     → Good so sa (record o { wait = w }) a lo la
@@ -280,8 +279,7 @@ quiet-a so sa o a lo la h sent none unasked from =
     (record { sent = sent; number = 0; told = next_expected a.incoming }) none h.flow_ao)
   where
     askable : (m : Option ℕ) → m ≡ None → IsAskable (length a.incoming.taken) o.outgoing.high m
-    askable None e = tt
-    askable (Some m) e = cc
+    askable q0 e = grind (arith)
 
 -- nothing is due any more
 a-answered : (so sa : Setup) (o a : Account) (lo la : List Slot) → Good so sa o a lo la
@@ -377,9 +375,7 @@ a-ways so sa o a lo la g turn release = record {
     never r = let wrong : Answerer ≡ Originator = sym (ap (λ s. s.role) g.setup_a ∙ g.deal.role_a) ∙ r in cc
 
     originator : (r : Role) (b : Bool) → (b && is_originator r) ≡ true → r ≡ Originator
-    originator Originator b e = refl
-    originator Answerer true e = cc
-    originator Answerer false e = cc
+    originator q0 b e = grind (arith)
 
 pub a-speaks : (so sa : Setup) (o a : Account) (lo la : List Slot) → Good so sa o a lo la → (turn : ℕ) (release : Bool)
     → OnSaid (SaidA so sa (next_expected a.incoming) o lo la) (speak turn release a)
