@@ -23,12 +23,10 @@ listed n None = []
 listed n (Some ns) = n ∷ []
 
 framed : (n : ℕ) (frame : Frame) → number_in n (slots.Frame frame) ≡ listed n (sequence_number frame)
-framed n (I ns nr pf info) = refl
-framed n frame = refl
+framed n frame = grind (arith)
 
 numbers-are : (n : ℕ) (sent : Sent) → number_in n sent ≡ listed n (sequence_in sent)
-numbers-are n (slots.Frame frame) = framed n frame
-numbers-are n sent = refl
+numbers-are n sent = grind (arith)
 
 -- serving sends nothing
 piece-alike : (p : List ℕ) (o : Outgoing) → (IsInRange o → IsInRange (with_piece p o)) × ((with_piece p o).high ≡ o.high)
@@ -60,8 +58,7 @@ served-alike u turn released a =
 
 -- hearing sends nothing
 heard-high : (a b : Account) → SendsInOrder a → GoesOn a b → b.outgoing.high ≡ a.outgoing.high
-heard-high a b s (inl g) = g.high
-heard-high a b s (inr g) = ap (λ o. o.high) g.outgoing_is ∙ sym (s.unsent (not-begun a.phase g.was))
+heard-high a b s q3 = grind (arith)
 
 -- both ends of a play
 both-in-order : SendsInRange → (link : Link) → MayPlay link.orig.setup link.answ.setup → (ends : Accounts)
@@ -181,8 +178,7 @@ pub sent_below_high : ReadsAllowed → KeepsTaken → SendsInRange → SentBelow
 sent_below_high reads keeps sends link delay [] ends v r n = none r ∙ ap (λ (e : Accounts). nat_lt n (of r e).outgoing.high) (sym v.run)
   where
     none : (r : Role) → false ≡ nat_lt n (of r (start link)).outgoing.high
-    none Originator = grind (arith, nat_tests)
-    none Answerer = grind (arith, nat_tests)
+    none q0 = grind (arith)
 sent_below_high reads keeps sends link delay (t ∷ ts) ends v r n =
     let before : RunsOver link delay ts v.run.0 =
     record { may_play = v.may_play; delays = v.delays; carried = v.carried.1; run = v.run.1 } in

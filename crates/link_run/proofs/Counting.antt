@@ -19,8 +19,7 @@ same-not : (m n : ℕ) → m ≢ n → nat_eq m n ≡ false
 same-not m n h = go (nat_eq m n) refl
   where
     go : (b : Bool) → nat_eq m n ≡ b → b ≡ false
-    go true e = absurd (h (eqb-true m n e))
-    go false e = refl
+    go q0 e = grind (arith)
 
 same-is : (m n : ℕ) → m ≡ n → nat_eq m n ≡ true
 same-is m n e = grind (arith, nat_tests)
@@ -49,8 +48,7 @@ run-held r k (x ∷ hs) low high = go (nat_eq x.number r) refl (run-held (r + 1)
 
     go : (b : Bool) → nat_eq x.number r ≡ b → (r + 1 ≤ k → k < r + 1 + length (run_from (r + 1) hs) → is_held k hs ≡ true)
         → k < r + length (cond b (x.info ∷ run_from (r + 1) hs) []) → (nat_eq x.number k || is_held k hs) ≡ true
-    go true e ih h = inner (eqb-true x.number r e) (omega (arith, h)) ih (nat_eq x.number k) refl
-    go false e ih h = absurd (omega (arith, low, h))
+    go q0 e ih h = grind (arith)
 
 run-stops : (r : ℕ) (hs : List Held) → Rises r hs → is_held (r + length (run_from r hs)) hs ≡ false
 run-stops r [] h = refl
@@ -111,12 +109,10 @@ with-held s k (x ∷ hs) = go (nat_lt s.number x.number) (with-held s k hs)
 
     go : (b : Bool) → is_held k (with_held s hs) ≡ (nat_eq s.number k || is_held k hs)
         → is_held k (cond b (s ∷ x ∷ hs) (x ∷ with_held s hs)) ≡ (nat_eq s.number k || (nat_eq x.number k || is_held k hs))
-    go true ih = refl
-    go false ih = ap (λ b. nat_eq x.number k || b) ih ∙ swap (nat_eq x.number k) (nat_eq s.number k) (is_held k hs)
+    go q0 ih = grind (arith)
 
 or-false : (b c : Bool) → (b || c) ≡ false → (b ≡ false) × (c ≡ false)
-or-false true c e = absurd (false≢true (sym e))
-or-false false c e = (refl, e)
+or-false q0 c e = grind (arith)
 
 with-rises : (low : ℕ) (s : Held) (hs : List Held) → Rises low hs → low ≤ s.number → is_held s.number hs ≡ false
     → Rises low (with_held s hs)
@@ -140,28 +136,24 @@ among-more : (n : ℕ) (ss : List Segment) (s : Segment) → is_among n (ss ++ s
 among-more n [] s = or-last (nat_eq s.number n)
   where
     or-last : (b : Bool) → (b || false) ≡ b
-    or-last true = refl
-    or-last false = refl
+    or-last q0 = grind (arith)
 among-more n (x ∷ ss) s =
     ap (λ b. nat_eq x.number n || b) (among-more n ss s) ∙ sym (assoc (nat_eq x.number n) (is_among n ss) (nat_eq s.number n))
   where
     assoc : (a b c : Bool) → ((a || b) || c) ≡ (a || (b || c))
-    assoc true b c = refl
-    assoc false b c = refl
+    assoc q0 b c = grind (arith)
 
 pub or-true-left : (b c : Bool) → b ≡ true → (b || c) ≡ true
 or-true-left b c e = ap (λ z. z || c) e
 
 pub or-true-right : (b c : Bool) → c ≡ true → (b || c) ≡ true
-or-true-right true c e = refl
-or-true-right false c e = e
+or-true-right q0 c e = grind (arith)
 
 or-both-false : (b c : Bool) → b ≡ false → c ≡ false → (b || c) ≡ false
 or-both-false b c e f = ap (λ z. z || c) e ∙ f
 
 or-right-false : (b c : Bool) → c ≡ false → (b || c) ≡ b
-or-right-false true c e = refl
-or-right-false false c e = e
+or-right-false q0 c e = grind (arith)
 
 among-beyond : (n : ℕ) (ss : List Segment) → is_among n ss ≡ true → n < beyond ss
 among-beyond n [] e = absurd (false≢true e)
@@ -185,8 +177,7 @@ missing-at (suc fuel) n r ss low all stop high =
     go false e ih = at-end (nat_lt n r) refl
       where
         at-end : (c : Bool) → nat_lt n r ≡ c → n ≡ r
-        at-end true z = absurd (false≢true (sym e ∙ all n (omega arith) (grind (arith, nat_tests))))
-        at-end false z = let h : r ≤ n = grind (arith, nat_tests) in omega (arith, low, h)
+        at-end q0 z = grind (arith)
 
 -- what is kept of what passed, and what a receiver's part has: how many it took, what it holds, and whether it asks by SREJ
 pub record TracksIn (ss : List Segment) (r : ℕ) (held : List Held) (srej : Bool) : Type 0 where
@@ -235,9 +226,7 @@ pub record SameTaken (i j : Incoming) : Type 0 where
 
 idle-kind : (kind : Took) (o : ℕ) (info : List ℕ) (i : Incoming) → (kind ≡ InOrder → ⊥) → (kind ≡ Kept → ⊥)
     → SameTaken i (after_kind kind o info i)
-idle-kind InOrder o info i h k = absurd (h refl)
-idle-kind Kept o info i h k = absurd (k refl)
-idle-kind p o info i h k = record { taken = refl; held = refl; srej = refl }
+idle-kind p o info i h k = grind (arith)
 
 pub same-tracks : (ss : List Segment) (i j : Incoming) → SameTaken i j → Tracks ss i → Tracks ss j
 same-tracks ss i j e t = as-tracks ss (length i.taken) (length j.taken) i.held j.held i.srej j.srej (ap length e.taken) e.held e.srej t
@@ -284,10 +273,7 @@ kept-later ss r held s srej on t h not = record {
 }
   where
     or-swap : (a b : Bool) → (a || b) ≡ (b || a)
-    or-swap true true = refl
-    or-swap true false = refl
-    or-swap false true = refl
-    or-swap false false = refl
+    or-swap q0 q1 = grind (arith)
 
 -- what a segment is to a receiver's part, by how far its number is ahead
 not-kept : (i : Incoming) (o : ℕ) → i.srej ≡ false → kind_at i o ≡ Kept → ⊥
@@ -300,10 +286,7 @@ not-kept i o e k = go (nat_eq o 0) (nat_lt o i.window) i.srej (is_held (next_exp
     number Gap = 3
 
     go : (a b c d : Bool) → c ≡ false → cond a InOrder (cond b (cond c (cond d Repeat Kept) Gap) Repeat) ≡ Kept → ⊥
-    go true b c d z k = omega (arith, ap number k)
-    go false true true d z k = false≢true (sym z)
-    go false true false d z k = omega (arith, ap number k)
-    go false false c d z k = omega (arith, ap number k)
+    go q0 b c d z k = grind (arith)
 
 kind-ahead : (i : Incoming) (o : ℕ) → 1 ≤ o → o < i.window → i.srej ≡ true
     → kind_at i o ≡ cond (is_held (next_expected i + o) i.held) Repeat Kept
@@ -316,10 +299,7 @@ kind-ahead i o some near on =
     go : (a b c : Bool) → a ≡ false → b ≡ true → c ≡ true
         → cond a InOrder (cond b (cond c (cond (is_held (next_expected i + o) i.held) Repeat Kept) Gap) Repeat) ≡ cond
         (is_held (next_expected i + o) i.held) Repeat Kept
-    go false true true x y z = refl
-    go true b c x y z = absurd (false≢true (sym x))
-    go false false c x y z = absurd (false≢true y)
-    go false true false x y z = absurd (false≢true z)
+    go q0 b c x y z = grind (arith)
 
 ahead : (i : Incoming) (n : ℕ) → next_expected i ≤ n → n < next_expected i + 128 → offset i (n % 128) ≡ n - next_expected i
 ahead i n low high = omega (arith, low, high)

@@ -68,16 +68,13 @@ pub as-cut : (file : List ℕ) (s s' : ℕ) (ps ps' : List (List ℕ)) (e e' : B
 as-cut file s s' ps ps' e e' p q r h = rw (p, q, r) h
 
 size-of : (r : Role) (t : Terms) → AreTerms t → 1 ≤ size_for r t
-size-of Originator t h = h.0
-size-of Answerer t h = h.1
+size-of q0 t h = grind (arith)
 
 pub linked-stage : (p : Phase) → is_connected p ≡ true → stage p ≡ 1
-linked-stage Connected e = refl
-linked-stage p e = absurd (false≢true e)
+linked-stage p e = grind (arith)
 
 stage-linked : (p : Phase) → stage p ≡ 1 → is_connected p ≡ true
-stage-linked Connected e = refl
-stage-linked p e = absurd (omega (arith, e))
+stage-linked p e = grind (arith)
 
 pub heard-cuts : (file : List ℕ) (a b : Account) → IsOffered file a → GoesOn a b → IsOffered file b
 heard-cuts file a b h (inl s) = record {
@@ -114,8 +111,7 @@ wanted-is o n e = go (not o.ended && nat_lt (length o.pieces) (o.front + o.windo
     none z = false≢true (ap is_some z)
 
     go : (b : Bool) → cond b (Some (length o.pieces)) None ≡ Some n → n ≡ length o.pieces
-    go true z = some z
-    go false z = absurd (none z)
+    go q0 z = grind (arith)
 
 pub record Wants (a : Account) (n : ℕ) : Type 0 where
   pub linked : is_connected a.phase ≡ true
@@ -128,15 +124,13 @@ wants-are a n e = go (is_connected a.phase) refl e
     none z = false≢true (ap is_some z)
 
     go : (b : Bool) → is_connected a.phase ≡ b → cond b (wanted a.outgoing) None ≡ Some n → Wants a n
-    go true k z = record { linked = k; number = wanted-is a.outgoing n z }
-    go false k z = absurd (none z)
+    go q0 k z = grind (arith)
 
 pub piece-size-is : (a : Account) → is_connected a.phase ≡ true → piece_size a ≡ a.outgoing.size
 piece-size-is a e = ap (λ b. cond b a.outgoing.size 0) e
 
 pub piece-sizes : (p : List ℕ) (o : Outgoing) → (with_piece p o).size ≡ o.size
-piece-sizes [] o = refl
-piece-sizes (x ∷ xs) o = refl
+piece-sizes q0 o = grind (arith)
 
 pub offered-cuts-at : (file : List ℕ) (a : Account) (w : Option ℕ) → wants a ≡ w → IsOffered file a → IsOffered file (offered_at file a w)
 offered-cuts-at file a None e h = h

@@ -1,5 +1,5 @@
 -- What an end says by U frames, and in which phase: its own offer, its commands with P = 1, and the answers that it owes.
-use Rattle.std.proofs.Common.{◌≡◌, ◌⊎◌, inl, inr, ℕ, Bool, true, false, refl, Option, Some, None, Ok}
+use Rattle.std.proofs.Common.{arith, ◌≡◌, ◌⊎◌, inl, inr, ℕ, Bool, true, false, refl, Option, Some, None, Ok}
 use Rattle.link_account.proofs.Names.{Originator, Frame, Sabme, Disc, Ua, Xid, written, Sent, Account, Said, speak, frame_for, ready_frame}
 use Rattle.link_account.proofs.Names.{trying}
 use Rattle.link_run.proofs.Names.{Setup, Phase, Negotiating, Establishing, Releasing, Answer}
@@ -33,10 +33,7 @@ module _ (a : Account) where
   P = Declares a.phase a
 
   own-answer : (d : Answer) (p : Phase) (b : Account) → b.setup.offer ≡ a.setup.offer → OwnSent a.setup (Some d) p (frame_for d b)
-  own-answer answers.Adp p b e = tt
-  own-answer answers.Xid p b e = (rw e refl, refl)
-  own-answer (answers.Ua pf) p b e = refl
-  own-answer (answers.Dm pf) p b e = tt
+  own-answer q0 p b e = grind (arith)
 
   answer : (d : Answer) (b : Account) (left : Option Answer) → b.setup.offer ≡ a.setup.offer → a.owes.answer ≡ Some d
       → OwnSent a.setup a.owes.answer a.phase (frame_for d b)

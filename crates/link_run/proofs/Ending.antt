@@ -1,5 +1,5 @@
 -- What holds once the originator was told to release, and in the end.
-use Rattle.std.proofs.Common.{◌≡◌, inl, inr, ℕ, ◌≤◌, Bool, true, false, cond, List, [], ◌∷◌, length, refl, sym, ◌∙◌, ap, subst, Option}
+use Rattle.std.proofs.Common.{arith, ◌≡◌, inl, inr, ℕ, ◌≤◌, Bool, true, false, cond, List, [], ◌∷◌, length, refl, sym, ◌∙◌, ap, subst, Option}
 use Rattle.link_account.proofs.Names.{Role, Originator, Answerer, of, IsPrefixOf, IsAllowed, ReadsAllowed, KeepsTaken, Account, fresh}
 use Rattle.link_account.proofs.Names.{is_connected, Play, MayPlay}
 use Rattle.link_run.proofs.Names.{delivered, served, is_released, Link, Accounts, Turn, arrival, Hears, RunOf, served_at}
@@ -50,12 +50,10 @@ abbrev pub HasSetup : Link → Role → Account → Type 0
 HasSetup link r a = a.setup ≡ (of r link).setup
 
 heard-setup : (a b : Account) → GoesOn a b → b.setup ≡ a.setup
-heard-setup a b (inl s) = ap (λ (k : Books). k.setup) s.books_are
-heard-setup a b (inr e) = e.setup
+heard-setup a b q2 = grind (arith)
 
 spoken-setup : (release : Bool) (a b : Account) → Speaks release a b → b.setup ≡ a.setup
-spoken-setup release a b (Keeps_on e) = ap (λ (l : Ledger). l.books.setup) e
-spoken-setup release a b (Releases on role linked e k) = ap (λ (l : Ledger). l.books.setup) e
+spoken-setup release a b q3 = grind (arith)
 
 delivered-setup : (a : Account) → (delivered a).setup ≡ a.setup
 delivered-setup a = go (is_connected a.phase)

@@ -1,5 +1,5 @@
 -- No end breaks as it hears, and as it speaks it breaks for want of answers alone.
-use Rattle.std.proofs.Common.{◌≡◌, ℕ, ◌-◌, true, false, List, [], ◌∷◌, ◌++◌, length, map, refl, sym, ap, subst, Option, Some, None, Result}
+use Rattle.std.proofs.Common.{arith, ◌≡◌, ℕ, ◌-◌, true, false, List, [], ◌∷◌, ◌++◌, length, map, refl, sym, ap, subst, Option, Some, None, Result}
 use Rattle.std.proofs.Common.{Ok, Err, slice_get}
 use Rattle.link_account.proofs.Names.{false≢true, Role, Originator, Answerer, ReadsAllowed, KeepsTaken, LinkFault, Account, hear, Slot}
 use Rattle.link_account.proofs.Names.{Play, arrives, MayPlay, Heard, Nothing, Passed, Lost, Chance, of}
@@ -24,8 +24,7 @@ broken role x lx y ly fault = sides role (side x lx) (record (side y ly) { fault
 passes-breaks : (role : Role) (turn : ℕ) (x y : Account) (slot : Slot) (rest ly : List Slot) (fault : LinkFault)
     → hear turn (arrives slot.sent) y ≡ Err fault
     → happens (Passes role turn) (at role x (slot ∷ rest) y ly) ≡ broken role x rest y ly fault
-passes-breaks Originator turn x y slot rest ly fault e = ap (λ r. sides Originator (side x rest) (heard r (side y ly))) e
-passes-breaks Answerer turn x y slot rest ly fault e = ap (λ r. sides Answerer (side x rest) (heard r (side y ly))) e
+passes-breaks q0 turn x y slot rest ly fault e = grind (arith)
 
 wants-of : (role : Role) (x y : Account) (lx ly : List Slot) (fault : LinkFault)
     → WantsAnswers (broken role x lx y ly fault).originator.fault × WantsAnswers (broken role x lx y ly fault).answerer.fault

@@ -25,13 +25,10 @@ use Rattle.link_run.proofs.Ending.{allowed-both}
 use Rattle.link_run.specs.Run as run
 
 both-true : (b c : Bool) → (b && c) ≡ true → (b ≡ true) × (c ≡ true)
-both-true true c e = (refl, e)
-both-true false c e = absurd (false≢true e)
+both-true q0 c e = grind (arith)
 
 neither : (b c : Bool) → not (b || c) ≡ true → (b ≡ false) × (c ≡ false)
-neither true c e = absurd (false≢true e)
-neither false true e = absurd (false≢true e)
-neither false false e = (refl, refl)
+neither q0 c e = grind (arith)
 
 -- an end that has finished
 pub record Finished (a : Account) : Type 0 where
@@ -110,9 +107,7 @@ ended-wants a e = go (is_connected a.phase) a.outgoing.ended e
     go : (b c : Bool) → c ≡ true
         → cond b (cond (not c && nat_lt (length a.outgoing.pieces) (a.outgoing.front + a.outgoing.window))
         (Some (length a.outgoing.pieces)) None) None ≡ None
-    go true true e = refl
-    go true false e = absurd (false≢true e)
-    go false c e = refl
+    go q0 c e = grind (arith)
 
 -- serving an end whose file has ended, once the originator was told to release
 pub record Idles (a b : Account) : Type 0 where
@@ -192,9 +187,7 @@ served-reaches link turn mid line p w =
 
 -- where the originator is released
 released-at : (p : Phase) → is_closed p ≡ false → 2 ≤ stage p → is_released p ≡ true
-released-at Releasing e h = refl
-released-at Closed e h = refl
-released-at p e h = absurd (omega (arith, h))
+released-at p e h = grind (arith)
 
 over-going : (link : Link) (turn : ℕ) (mid : Accounts) (o a : Said) → is_closed mid.orig.phase ≡ false
     → (2 ≤ stage mid.orig.phase → Over mid.orig mid.answ)
@@ -267,12 +260,10 @@ over-run reads keeps laws link delay m some (t ∷ ts) ends c h two =
     (subst (λ (x : Account). 2 ≤ stage x.phase) ko.after_is two))
   where
     not-closed : (p : Phase) → is_closed p ≡ false → stage p ≤ 2
-    not-closed Closed e = absurd (false≢true (sym e))
-    not-closed p e = omega arith
+    not-closed p e = grind (arith)
 
     was-released : {x y : Account} → GoesOn x y → stage y.phase ≤ 2 → 2 ≤ stage y.phase → 2 ≤ stage x.phase
-    was-released (inl w) low high = omega (arith, w.unreleased (omega (arith, low, high)))
-    was-released (inr w) low high = absurd (omega (arith, ap stage w.is, high))
+    was-released q0 low high = grind (arith)
 
     same-ends : (e : Accounts) (x y : Account) → e.orig ≡ x → e.answ ≡ y → e ≡ record { orig = x; answ = y }
     same-ends e x y p q = ap (λ z. record { orig = z; answ = e.answ }) p ∙ ap (λ z. record { orig = x; answ = z }) q
@@ -298,8 +289,7 @@ whole link mid h f c Answerer = record {
 }
 
 closed-stage : (p : Phase) → is_closed p ≡ true → stage p ≡ 3
-closed-stage Closed e = refl
-closed-stage p e = absurd (false≢true e)
+closed-stage p e = grind (arith)
 
 pub done_is_whole : ReadsAllowed → KeepsTaken → PlayLaws → DoneIsWhole
 done_is_whole reads keeps laws link delay ts ends t mid v n k =
@@ -318,5 +308,4 @@ done_is_whole reads keeps laws link delay ts ends t mid v n k =
     (kept-heard reads keeps (HasCut link) link kept turn ends t mid (kept-run reads keeps (HasCut link) link kept ts ends v.run) k.hearing)
   where
     hung-up : {x y : Account} → GoesOn x y → stage y.phase ≡ 3 → x.setup.role ≡ Originator → 2 ≤ stage x.phase
-    hung-up (inl w) e r = w.hangs_up e r
-    hung-up (inr w) e r = absurd (omega (arith, ap stage w.is, e))
+    hung-up q0 e r = grind (arith)

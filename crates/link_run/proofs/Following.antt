@@ -104,49 +104,26 @@ spoke release a said (Releases on role linked e k) d =
     }
 
 due_o-spoke : (x y : Option Answer) → (y ≡ x) ⊎ (y ≡ None) → DueO x → DueO y
-due_o-spoke x y (inl e) h = subst DueO (sym e) h
-due_o-spoke x y (inr e) h = subst DueO (sym e) tt
+due_o-spoke x y q2 h = grind (arith)
 
 due_a-spoke : (r m : ℕ) (x y : Option Answer) → (y ≡ x) ⊎ (y ≡ None) → DueA r m x → DueA r m y
-due_a-spoke r m x y (inl e) h = subst (DueA r m) (sym e) h
-due_a-spoke r m x y (inr e) h = subst (DueA r m) (sym e) tt
+due_a-spoke r m x y q4 h = grind (arith)
 
 stage-rank : (p : Phase) → 2 ≤ stage p → 4 ≤ rank p
-stage-rank Releasing h = omega arith
-stage-rank Closed h = omega arith
-stage-rank p h = absurd (omega (arith, h))
+stage-rank p h = grind (arith)
 
 pub linked-rank : (p : Phase) → stage p ≡ 1 → rank p ≡ 3
-linked-rank Connected h = refl
-linked-rank p h = absurd (omega (arith, h))
+linked-rank p h = grind (arith)
 
 -- what an originator says
 said-o : (so : Setup) (p : Phase) (answer : Option Answer) (s : ℕ) (frame : Frame) → OwnFrame so answer p frame → DueO answer → rank p ≤ s
     → (is_disc frame ≡ true → 4 ≤ s) → (is_counted frame ≡ true → stage p ≡ 1) → SentO so s frame
-said-o so p answer s (Xid true pf info) own d l disc c = (refl, own.0, omega (arith, l, ap rank own.1))
-said-o so p answer s (Xid false pf info) own d l disc c = absurd (subst DueO own.1 d)
-said-o so p answer s (Sabme pf) own d l disc c = (own.0, omega (arith, l, ap rank own.1))
-said-o so p answer s (Disc pf) own d l disc c = (own, disc refl)
-said-o so p answer s (I ns nr pf info) own d l disc c = omega (arith, l, linked-rank p (c refl))
-said-o so p answer s (Rr command nr pf) own d l disc c = omega (arith, l, linked-rank p (c refl))
-said-o so p answer s (Rnr command nr pf) own d l disc c = omega (arith, l, linked-rank p (c refl))
-said-o so p answer s (Rej command nr pf) own d l disc c = omega (arith, l, linked-rank p (c refl))
-said-o so p answer s (Srej command nr pf) own d l disc c = omega (arith, l, linked-rank p (c refl))
-said-o so p answer s frame own d l disc c = tt
+said-o so p answer s frame own d l disc c = grind (arith)
 
 -- what an answerer says
 said-a : (sa : Setup) (p : Phase) (answer : Option Answer) (r s : ℕ) (frame : Frame) → sa.role ≡ Answerer → OwnFrame sa answer p frame
     → DueA r (rank p) answer → r ≤ s → (is_counted frame ≡ true → stage p ≡ 1) → (3 ≤ rank p → 2 ≤ r) → SentA sa s (rank p) frame
-said-a sa p answer r s (Xid true pf info) role own d l c k = absurd (false≢true (ap is_originator (sym role ∙ own.2)))
-said-a sa p answer r s (Xid false pf info) role own d l c k = let due = subst (DueA r (rank p)) own.1 d in
-    (refl, own.0, omega (arith, l, due.0), due.1)
-said-a sa p answer r s (Ua pf) role own d l c k = let due = subst (DueA r (rank p)) own d in (due.0, omega (arith, l, due.1))
-said-a sa p answer r s (I ns nr pf info) role own d l c k = omega (arith, l, k (omega (arith, linked-rank p (c refl))))
-said-a sa p answer r s (Rr command nr pf) role own d l c k = omega (arith, l, k (omega (arith, linked-rank p (c refl))))
-said-a sa p answer r s (Rnr command nr pf) role own d l c k = omega (arith, l, k (omega (arith, linked-rank p (c refl))))
-said-a sa p answer r s (Rej command nr pf) role own d l c k = omega (arith, l, k (omega (arith, linked-rank p (c refl))))
-said-a sa p answer r s (Srej command nr pf) role own d l c k = omega (arith, l, k (omega (arith, linked-rank p (c refl))))
-said-a sa p answer r s frame role own d l c k = tt
+said-a sa p answer r s frame role own d l c k = grind (arith)
 
 if-said : (P : Frame → Type 0) (o : Option Spoken) (said : Said) → o ≡ Some (spoken said) → OnSent P said.sent → IfSent P o
 if-said P o said e h = subst (IfSent P) (sym e) h
@@ -205,8 +182,7 @@ known-spoken so sa ts t o a release p b h eo ea role go ga wo wa dco dca so-sent
     }
   where
     same-phase : (x y : Account) → Speaks false x y → y.phase ≡ x.phase
-    same-phase x y (Keeps_on e) = ap (λ (l : Ledger). l.phase) e
-    same-phase x y (Releases on r linked e k) = absurd (false≢true on)
+    same-phase x y q2 = grind (arith)
 
     le-two : (m n : ℕ) → nat_le 2 m ≡ nat_le 2 n → 2 ≤ m → 2 ≤ n
     le-two m n e l = at-least n (sym e ∙ reaches m l)

@@ -26,8 +26,7 @@ any_sent is role [] = false
 any_sent is role (t ∷ ts) = sent_is is (of role t).sent || any_sent is role ts
 
 or-either : (b c : Bool) → (b || c) ≡ true → (b ≡ true) ⊎ (c ≡ true)
-or-either true c e = inl refl
-or-either false c e = inr e
+or-either q0 c e = grind (arith)
 
 ago-any : (is : Frame → Bool) (role : Role) (k : ℕ) (ts : List Turn) → sent_is is (sent_in role (slice_get ts k)) ≡ true
     → any_sent is role ts ≡ true
@@ -36,11 +35,7 @@ ago-any is role zero (t ∷ ts) e = or-true-left (sent_is is (of role t).sent) (
 ago-any is role (suc k) (t ∷ ts) e = or-true-right (sent_is is (of role t).sent) (any_sent is role ts) (ago-any is role k ts e)
 
 brought : (is : Frame → Bool) (o : Option Spoken) (h : Heard) → Crosses o h → brings is (arrival h) ≡ true → sent_is is o ≡ true
-brought is o Nothing c e = absurd (false≢true e)
-brought is o (Lost s) c e = absurd (false≢true e)
-brought is o Chance c e = absurd (false≢true e)
-brought is None (Passed s) c e = absurd c
-brought is (Some slot) (Passed s) c e = ap (carries is) (sym c.0) ∙ (sym (brings-carried is s) ∙ e)
+brought is o q2 c e = grind (arith)
 
 pub came : (is : Frame → Bool) (delay : Role → ℕ) (role : Role) (ts : List Turn) (h : Heard) → Crosses (sent_ago (delay role) role ts) h
     → brings is (arrival h) ≡ true → any_sent is role ts ≡ true
@@ -89,8 +84,7 @@ met-heard ts o a p b delay ho ha m role go ga to ta co ca =
     up-by (suc n) e z = omega (arith, later a b ga, m.up (omega (arith, e)))
 
     due-by : (owes_ua a.owes.answer ≡ true) ⊎ (1 ≤ stage b.phase) → 1 ≤ stage b.phase
-    due-by (inl z) = omega (arith, m.due z, later a b ga)
-    due-by (inr z) = z
+    due-by q0 = grind (arith)
 
     counted-by : (a.numbered ≡ true) ⊎ (brings is_counted (arrival ha) ≡ true) → 1 ≤ stage p.phase
     counted-by (inl z) = omega (arith, m.counted z, later o p go)
@@ -133,16 +127,13 @@ serving u turn released a =
     subst (Leaves a) (sym (served-alone u turn released a)) (record { phase = d.phase; answer = due; part_is = d.part_is; setup = d.setup })
 
 later-spoken : (release : Bool) (a b : Account) → Speaks release a b → stage a.phase ≤ stage b.phase
-later-spoken release a b (Keeps_on e) = omega (arith, ap (λ (l : Ledger). stage l.phase) e)
-later-spoken release a b (Releases on role linked e k) = omega (arith, ap stage linked, ap (λ (l : Ledger). stage l.phase) e)
+later-spoken release a b q3 = grind (arith)
 
 same-spoken : (a b : Account) → Speaks false a b → stage b.phase ≡ stage a.phase
-same-spoken a b (Keeps_on e) = ap (λ (l : Ledger). stage l.phase) e
-same-spoken a b (Releases on role linked e k) = absurd (false≢true on)
+same-spoken a b q2 = grind (arith)
 
 pub linked-spoken : (release : Bool) (a b : Account) → Speaks release a b → 1 ≤ stage b.phase → 1 ≤ stage a.phase
-linked-spoken release a b (Keeps_on e) z = omega (arith, z, ap (λ (l : Ledger). stage l.phase) e)
-linked-spoken release a b (Releases on role linked e k) z = omega (arith, ap stage linked)
+linked-spoken release a b q3 z = grind (arith)
 
 met-spoken : (ts : List Turn) (t : Turn) (o a : Account) (release : Bool) (p b : Said) → Met ts o a → a.setup.role ≡ Answerer
     → Speaks release o p.account → Speaks false a b.account → Says o.phase o p → Says a.phase a b
@@ -163,23 +154,19 @@ met-spoken ts t o a release p b m role go ga to ta so sa =
     }
   where
     uas-by : (sent_is is_ua t.answ.sent ≡ true) ⊎ (any_sent is_ua Answerer ts ≡ true) → 1 ≤ stage a.phase
-    uas-by (inl z) = m.due (ta.ua (sym (ap (sent_is is_ua) sa) ∙ z))
-    uas-by (inr z) = m.uas z
+    uas-by q0 = grind (arith)
 
     froms-by : (sent_is is_counted t.orig.sent ≡ true) ⊎ (any_sent is_counted Originator ts ≡ true) → 1 ≤ stage p.account.phase
-    froms-by (inl z) = omega (arith, later-spoken release o p.account go, to.counted (sym (ap (sent_is is_counted) so) ∙ z))
-    froms-by (inr z) = omega (arith, later-spoken release o p.account go, m.froms z)
+    froms-by q0 = grind (arith)
 
     numbered-by : (is_originator a.setup.role || a.numbered) ≡ true → a.numbered ≡ true
     numbered-by z = sym (ap (λ r. is_originator r || a.numbered) role) ∙ z
 
     segments-by : (sent_is is_segment t.answ.sent ≡ true) ⊎ (any_sent is_segment Answerer ts ≡ true) → 1 ≤ stage o.phase
-    segments-by (inl z) = m.counted (numbered-by (ta.segment (sym (ap (sent_is is_segment) sa) ∙ z)))
-    segments-by (inr z) = m.segments z
+    segments-by q0 = grind (arith)
 
     discs-by : (sent_is is_disc t.orig.sent ≡ true) ⊎ (any_sent is_disc Originator ts ≡ true) → 2 ≤ stage p.account.phase
-    discs-by (inl z) = to.disc (sym (ap (sent_is is_disc) so) ∙ z)
-    discs-by (inr z) = omega (arith, later-spoken release o p.account go, m.discs z)
+    discs-by q0 = grind (arith)
 
 met-left : (ts : List Turn) (o a p b : Account) → Leaves o p → Leaves a b → Met ts o a → Met ts p b
 met-left ts o a p b l k m = record {
@@ -243,5 +230,4 @@ met-run reads keeps link delay p (t ∷ ts) ends c h =
     (subst (λ (x : Account). Met (t ∷ ts) ko.said.account x) (sym ka.after_is) m)
   where
     role-of : (e : Accounts) (x y : Account) → e.answ ≡ x → Speaks false y x → e.answ.setup.role ≡ Answerer → y.setup.role ≡ Answerer
-    role-of e x y q (Keeps_on z) w = sym (ap (λ (l : Ledger). l.books.setup.role) z) ∙ sym (ap (λ (v : Account). v.setup.role) q) ∙ w
-    role-of e x y q (Releases on r linked z n) w = absurd (false≢true on)
+    role-of e x y q q4 w = grind (arith)

@@ -45,22 +45,16 @@ stage Closed = 3
 stage p = 0
 
 pub stage-high : (p : Phase) → stage p ≤ 3
-stage-high Detecting = omega arith
-stage-high p = omega arith
+stage-high p = grind (arith)
 
 pub linked-phase : (p : Phase) → stage p ≡ 1 → p ≡ Connected
-linked-phase Connected e = refl
-linked-phase p e = absurd (omega (arith, e))
+linked-phase p e = grind (arith)
 
 pub not-begun : (p : Phase) → stage p ≡ 0 → has_begun p ≡ false
-not-begun Connected e = absurd (omega (arith, e))
-not-begun Releasing e = absurd (omega (arith, e))
-not-begun Closed e = absurd (omega (arith, e))
-not-begun p e = refl
+not-begun p e = grind (arith)
 
 pub unlinked-stage : (p : Phase) → is_connected p ≡ false → stage p ≢ 1
-unlinked-stage Connected e = absurd (false≢true (sym e))
-unlinked-stage p e = λ z. omega (arith, z)
+unlinked-stage p e = grind (arith)
 
 abbrev pub AreTerms : Terms → Type 0
 AreTerms t = (1 ≤ t.len_o) × (1 ≤ t.len_a)
@@ -201,8 +195,7 @@ numbered a new timer reply urgent k = same a (numbered_with a new a.incoming tim
     (out-books a new.pieces new.ended k.pieces k.ended) (k.size, k.high) refl refl refl (λ o t. t)
 
 kind-given : (kind : Took) (o : ℕ) (info : List ℕ) (i : Incoming) → (after_kind kind o info i).given ≡ i.given
-kind-given InOrder o info i = refl
-kind-given p o info i = refl
+kind-given p o info i = grind (arith)
 
 take-books : (a : Account) (ps : List (List ℕ)) (e : Bool) (g : ℕ) → ps ≡ a.outgoing.pieces → e ≡ a.outgoing.ended → g ≡ a.incoming.given
     → record { setup = a.setup; pieces = ps; ended = e; given = g; told = a.breaks_told; lengths = a.own_breaks.lengths } ≡ books a

@@ -96,14 +96,7 @@ pub came-all : (P : Frame → Type 0) (delay : Role → ℕ) (role : Role) (ts :
 came-all P delay role ts h k c = brought-all P (sent_ago (delay role) role ts) h c (ago-all P role (delay role - 1) ts k)
 
 pub passed-brings : (is : Frame → Bool) (h : Heard) → passes_in is h ≡ brings is (arrival h)
-passed-brings is Nothing = refl
-passed-brings is (Lost s) = refl
-passed-brings is Chance = refl
-passed-brings is (Passed slots.Mark) = refl
-passed-brings is (Passed slots.Odp) = refl
-passed-brings is (Passed slots.Adp) = refl
-passed-brings is (Passed slots.Flags) = refl
-passed-brings is (Passed (slots.Frame frame)) = refl
+passed-brings is q1 = grind (arith)
 
 -- what the originator sends, once it is as far as r
 abbrev pub SentO : Setup → ℕ → Frame → Type 0
@@ -129,25 +122,10 @@ SentA sa r m (Srej command nr pf) = 2 ≤ r
 SentA sa r m frame = Unit {0}
 
 pub sent_o-later : (so : Setup) (r s : ℕ) → r ≤ s → (frame : Frame) → SentO so r frame → SentO so s frame
-sent_o-later so r s l (Xid command pf info) h = (h.0, h.1, omega (arith, l, h.2))
-sent_o-later so r s l (Sabme pf) h = (h.0, omega (arith, l, h.1))
-sent_o-later so r s l (Disc pf) h = (h.0, omega (arith, l, h.1))
-sent_o-later so r s l (I ns nr pf info) h = omega (arith, l, h)
-sent_o-later so r s l (Rr command nr pf) h = omega (arith, l, h)
-sent_o-later so r s l (Rnr command nr pf) h = omega (arith, l, h)
-sent_o-later so r s l (Rej command nr pf) h = omega (arith, l, h)
-sent_o-later so r s l (Srej command nr pf) h = omega (arith, l, h)
-sent_o-later so r s l frame h = tt
+sent_o-later so r s l frame h = grind (arith)
 
 pub sent_a-later : (sa : Setup) (r m s n : ℕ) → r ≤ s → m ≤ n → (frame : Frame) → SentA sa r m frame → SentA sa s n frame
-sent_a-later sa r m s n l k (Xid command pf info) h = (h.0, h.1, omega (arith, l, h.2), omega (arith, k, h.3))
-sent_a-later sa r m s n l k (Ua pf) h = (h.0, omega (arith, l, h.1))
-sent_a-later sa r m s n l k (I ns nr pf info) h = omega (arith, l, h)
-sent_a-later sa r m s n l k (Rr command nr pf) h = omega (arith, l, h)
-sent_a-later sa r m s n l k (Rnr command nr pf) h = omega (arith, l, h)
-sent_a-later sa r m s n l k (Rej command nr pf) h = omega (arith, l, h)
-sent_a-later sa r m s n l k (Srej command nr pf) h = omega (arith, l, h)
-sent_a-later sa r m s n l k frame h = tt
+sent_a-later sa r m s n l k frame h = grind (arith)
 
 -- the answers that may be due
 abbrev pub DueO : Option Answer → Type 0
@@ -165,11 +143,7 @@ DueA r m (Some (answers.Ua pf)) = (pf ≡ true) × (2 ≤ r)
 DueA r m (Some (answers.Dm pf)) = Unit {0}
 
 pub due_a-later : (r m s n : ℕ) → r ≤ s → m ≤ n → (o : Option Answer) → DueA r m o → DueA s n o
-due_a-later r m s n l k None h = tt
-due_a-later r m s n l k (Some answers.Adp) h = tt
-due_a-later r m s n l k (Some answers.Xid) h = (omega (arith, l, h.0), omega (arith, k, h.1))
-due_a-later r m s n l k (Some (answers.Ua pf)) h = (h.0, omega (arith, l, h.1))
-due_a-later r m s n l k (Some (answers.Dm pf)) h = tt
+due_a-later r m s n l k q6 h = grind (arith)
 
 due_o-without : (o : Option Answer) → DueO o → DueO (without_adp o)
 due_o-without None h = tt
@@ -194,8 +168,7 @@ pub record Reads (so sa : Setup) : Type 0 where
   pub answ : offer_in (written sa.offer) ≡ Some sa.offer
 
 or-late : (b n : Bool) → n ≡ true → n ≡ (b || n)
-or-late true n e = e
-or-late false n e = refl
+or-late q0 n e = grind (arith)
 
 abbrev rank_of : ℕ → Result Account LinkFault → ℕ
 rank_of n (Ok b) = rank b.phase

@@ -37,8 +37,7 @@ module _ (n : ℕ) (l : 23 ≤ n) where
   ready false command pf nr = omega arith
 
   word : (w : BreakWord) → length (spelled w) ≤ n
-  word (Brk number length_octet) = omega (arith, l)
-  word (Ack number length_octet) = omega (arith, l)
+  word q0 = grind (arith)
 
   steps : (turn : ℕ) (special : Bool) (a : Account) → AllShort n a.outgoing.pieces → Steps IsShort turn special a
   steps turn special a h = record {

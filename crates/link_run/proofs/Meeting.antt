@@ -47,11 +47,7 @@ brings is (arrivals.Pattern seen) = false
 brings is (arrivals.Frame frame) = is frame
 
 pub brings-carried : (is : Frame → Bool) (s : Sent) → brings is (arrives s) ≡ carries is s
-brings-carried is slots.Mark = refl
-brings-carried is slots.Odp = refl
-brings-carried is slots.Adp = refl
-brings-carried is slots.Flags = refl
-brings-carried is (slots.Frame frame) = refl
+brings-carried is q1 = grind (arith)
 
 -- a UA is due
 abbrev pub owes_ua : Option Answer → Bool
@@ -103,21 +99,13 @@ not-originator : {r : Role} → r ≡ Answerer → r ≡ Originator → ⊥
 not-originator a o = false≢true (ap is_originator (sym a ∙ o))
 
 without-ua : (o : Option Answer) → owes_ua (without_adp o) ≡ true → owes_ua o ≡ true
-without-ua None e = e
-without-ua (Some answers.Adp) e = e
-without-ua (Some answers.Xid) e = e
-without-ua (Some (answers.Ua pf)) e = e
-without-ua (Some (answers.Dm pf)) e = e
+without-ua q0 e = grind (arith)
 
 plain-received : (frame : Frame) (i : Incoming) → Plain frame → received Connected (arrivals.Frame frame) i ≡ i
-plain-received frame i (IsUa pf q) = ap (λ f. received Connected (arrivals.Frame f) i) q
-plain-received frame i (IsXid command pf info q) = ap (λ f. received Connected (arrivals.Frame f) i) q
-plain-received frame i (IsTest command pf info q) = ap (λ f. received Connected (arrivals.Frame f) i) q
-plain-received frame i (IsNoWord command pf info fault w q) = ap (λ f. received Connected (arrivals.Frame f) i) q
+plain-received frame i q2 = grind (arith)
 
 not-received : (p : Phase) (arrived : Arrived) (i : Incoming) → is_connected p ≡ false → received p arrived i ≡ i
-not-received Connected arrived i c = cc
-not-received p arrived i c = refl
+not-received p arrived i c = grind (arith)
 
 -- a Connected end
 module _ (turn : ℕ) (a : Account) (e : a.phase ≡ Connected) where
@@ -164,8 +152,7 @@ module _ (turn : ℕ) (a : Account) (c : is_connected a.phase ≡ false) where
       (i ∙ sym (not-received a.phase arrived a.incoming c))
 
   early-stage : (a.phase ≡ Detecting) ⊎ (a.phase ≡ Negotiating) → 0 ≡ stage a.phase
-  early-stage (inl p) = sym (ap stage p)
-  early-stage (inr p) = sym (ap stage p)
+  early-stage q0 = grind (arith)
 
   early-told : EarlyWays (told_in a.phase a) turn a
   early-told = record {

@@ -1,5 +1,5 @@
 -- Which end breaks with which fault, and that each turn is made.
-use Rattle.std.proofs.Common.{◌≡◌, ℕ, Bool, true, false, List, length, refl, sym, ◌∙◌, ap, subst, Option, Some, None, Result, Ok, Err}
+use Rattle.std.proofs.Common.{arith, ◌≡◌, ℕ, Bool, true, false, List, length, refl, sym, ◌∙◌, ap, subst, Option, Some, None, Result, Ok, Err}
 use Rattle.link_account.proofs.Names.{false≢true, Role, Originator, Answerer, ReadsAllowed, KeepsTaken, LinkFault, NotDetected, Spent}
 use Rattle.link_account.proofs.Names.{Account, check_of, hear, Said, spent, speak, Heard, is_originator, other, of}
 use Rattle.link_run.proofs.Names.{Setup, is_closed, is_released, Link, Accounts, Turn, Spoken, spoken, arrival, served_at, said_at, Hears}
@@ -18,8 +18,7 @@ undetected : (turn : ℕ) (release : Bool) (a : Account) → speak turn release 
 undetected turn release a e = go NotDetected refl (why-broken turn release a NotDetected e)
   where
     go : (fault : LinkFault) → fault ≡ NotDetected → Breaks turn release a fault → a.setup.role ≡ Originator
-    go fault n (Undetected p r l f) = r
-    go fault n (Spends x f) = let wrong : NotDetected ≡ spent turn a = sym n ∙ f in cc
+    go fault n q2 = grind (arith)
 
 pub each_end_is_named : ReadsAllowed → KeepsTaken → BrokenForWant → EachEndIsNamed
 each_end_is_named reads keeps want link ts before t mid role (Spent segment since) m h b = tt
@@ -54,13 +53,11 @@ turn-hears turn before mid heard sent h Answerer = record { hears = h Answerer; 
 
 turn-heard : (before mid : Accounts) (heard : Role → Heard) (sent : Role → Option Spoken) (role : Role)
     → (of role (turn_with before mid heard sent)).heard ≡ heard role
-turn-heard before mid heard sent Originator = refl
-turn-heard before mid heard sent Answerer = refl
+turn-heard before mid heard sent q4 = grind (arith)
 
 turn-sent : (before mid : Accounts) (heard : Role → Heard) (sent : Role → Option Spoken) (role : Role)
     → (of role (turn_with before mid heard sent)).sent ≡ sent role
-turn-sent before mid heard sent Originator = refl
-turn-sent before mid heard sent Answerer = refl
+turn-sent before mid heard sent q4 = grind (arith)
 
 -- a turn in which nothing is sent
 abbrev none : Role → Option Spoken

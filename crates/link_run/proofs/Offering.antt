@@ -12,10 +12,7 @@ full-wants a e = go (is_connected a.phase) (not a.outgoing.ended) (nat_lt (lengt
     (grind (arith, nat_tests))
   where
     go : (b c d : Bool) → d ≡ false → cond b (cond (c && d) (Some (length a.outgoing.pieces)) None) None ≡ None
-    go true true false z = refl
-    go true false d z = refl
-    go true true true z = absurd (false≢true (sym z))
-    go false c d z = refl
+    go q0 c d z = grind (arith)
 
 -- a piece that is offered takes room, or ends the file
 enough-after : (n : ℕ) (file : List ℕ) (a : Account) (piece : List ℕ)

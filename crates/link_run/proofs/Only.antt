@@ -77,8 +77,7 @@ one-going link ts before t u after later g k e =
     }
 
 heard-same : (t u : Turn) → heard_in t ≡ heard_in u → HearSame t u
-heard-same t u e Originator = ap (λ (h : Both Heard). h.orig) e
-heard-same t u e Answerer = ap (λ (h : Both Heard). h.answ) e
+heard-same t u e q3 = grind (arith)
 
 pub one_run : OneRun
 one_run link [] [] ends others h k e = (refl, h ∙ sym k)
@@ -134,10 +133,7 @@ silent-both t u h k r = h r ∙ sym (k r)
 same-role : (link : Link) (turn : ℕ) (mid : Accounts) (r s : Role) (f g : LinkFault) → IsBroken link turn mid r f
     → IsBroken link turn mid s g
     → Broken r f ≡ Broken s g
-same-role link turn mid Originator Originator f g h k = ap (Broken Originator) (one-err h k)
-same-role link turn mid Originator Answerer f g h k = absurd (false≢true (sym (ap is_ok h) ∙ k.0))
-same-role link turn mid Answerer Originator f g h k = absurd (false≢true (sym (ap is_ok k) ∙ h.0))
-same-role link turn mid Answerer Answerer f g h k = ap (Broken Answerer) (one-err h.1 k.1)
+same-role link turn mid q3 q4 f g h k = grind (arith)
 
 not-broken : (link : Link) (turn : ℕ) (t : Turn) (mid : Accounts) (r : Role) (f : LinkFault) → Says link turn t mid
     → IsBroken link turn mid r f

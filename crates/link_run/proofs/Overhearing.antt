@@ -44,8 +44,7 @@ known : (laws : KnowingLaws) (link : Link) (delay : Role → ℕ) (ts : List Tur
 known laws link delay ts ends v = known-run laws.reads laws.keeps laws.written link delay v.may_play ts ends v.carried v.run
 
 begun-rank : (p : Phase) → has_begun p ≡ nat_le 3 (rank p)
-begun-rank Detecting = refl
-begun-rank p = refl
+begun-rank p = grind (arith)
 
 pub opens_by_frames : KnowingLaws → OpensByFrames
 opens_by_frames laws link delay ts ends v role = at-role role
@@ -83,34 +82,10 @@ answ-agreed link sent heard ends k l = let m = k.met l in
 
 -- who sends a frame with numbers is Connected
 numbered-o : (so : Setup) (r : ℕ) (frame : Frame) → has_number frame ≡ true → SentO so r frame → 2 ≤ r
-numbered-o so r (I ns nr pf info) e h = h
-numbered-o so r (Rr command nr pf) e h = h
-numbered-o so r (Rnr command nr pf) e h = h
-numbered-o so r (Rej command nr pf) e h = h
-numbered-o so r (Srej command nr pf) e h = h
-numbered-o so r (Sabme pf) e h = absurd (false≢true e)
-numbered-o so r (Disc pf) e h = absurd (false≢true e)
-numbered-o so r (Ua pf) e h = absurd (false≢true e)
-numbered-o so r (Dm pf) e h = absurd (false≢true e)
-numbered-o so r (Frmr pf info) e h = absurd (false≢true e)
-numbered-o so r (Ui command pf info) e h = absurd (false≢true e)
-numbered-o so r (Xid command pf info) e h = absurd (false≢true e)
-numbered-o so r (Test command pf info) e h = absurd (false≢true e)
+numbered-o so r q2 e h = grind (arith)
 
 numbered-a : (sa : Setup) (r m : ℕ) (frame : Frame) → has_number frame ≡ true → SentA sa r m frame → 2 ≤ r
-numbered-a sa r m (I ns nr pf info) e h = h
-numbered-a sa r m (Rr command nr pf) e h = h
-numbered-a sa r m (Rnr command nr pf) e h = h
-numbered-a sa r m (Rej command nr pf) e h = h
-numbered-a sa r m (Srej command nr pf) e h = h
-numbered-a sa r m (Sabme pf) e h = absurd (false≢true e)
-numbered-a sa r m (Disc pf) e h = absurd (false≢true e)
-numbered-a sa r m (Ua pf) e h = absurd (false≢true e)
-numbered-a sa r m (Dm pf) e h = absurd (false≢true e)
-numbered-a sa r m (Frmr pf info) e h = absurd (false≢true e)
-numbered-a sa r m (Ui command pf info) e h = absurd (false≢true e)
-numbered-a sa r m (Xid command pf info) e h = absurd (false≢true e)
-numbered-a sa r m (Test command pf info) e h = absurd (false≢true e)
+numbered-a sa r m q3 e h = grind (arith)
 
 -- a slot that was sent
 of-slot : (P : Frame → Type 0) (o : Option Spoken) (slot : Spoken) (frame : Frame) → o ≡ Some slot → slot.sent ≡ slots.Frame frame
@@ -279,8 +254,7 @@ old-break from to line tl command pf info f by all number length_octet w =
         differs x y h = grind (arith, nat_tests)
 
     go : (b : Bool) → b ≡ false → cond b (Some length_octet) None ≡ None
-    go false z = refl
-    go true z = absurd (false≢true (sym z))
+    go q0 z = grind (arith)
 
 old-frame : (from to : Account) (line tl : List Slot) (frame : Frame) → First line (slots.Frame frame)
     → NextIsKnown (side_with from line) (side_with to tl) → NextWasOffered (side_with from line) (side_with to tl)
@@ -309,15 +283,10 @@ pub record OldLaws : Type 0 where
   pub breaks : SendsBreaksTaken
 
 pub released-stage : (p : Phase) → is_released p ≡ true → 2 ≤ stage p
-released-stage Releasing e = omega arith
-released-stage Closed e = omega arith
-released-stage p e = absurd (false≢true e)
+released-stage p e = grind (arith)
 
 pub stage-begun : (p : Phase) → 1 ≤ stage p → has_begun p ≡ true
-stage-begun Detecting h = absurd (omega (arith, h))
-stage-begun Negotiating h = absurd (omega (arith, h))
-stage-begun Establishing h = absurd (omega (arith, h))
-stage-begun p h = refl
+stage-begun p h = grind (arith)
 
 pub releases_last : OldLaws → ReleasesLast
 releases_last laws link delay ts ends t mid v c k released role = at-role role
@@ -402,20 +371,15 @@ releases_last laws link delay ts ends t mid v c k released role = at-role role
 -- what is no break's time is ignored
 ignores-detecting : (role : Role) (command pf : Bool) (info : List ℕ) (turn : ℕ) (a : Account)
     → on_detecting role (Ui command pf info) turn a ≡ Ok a
-ignores-detecting Originator command pf info turn a = refl
-ignores-detecting Answerer command pf info turn a = refl
+ignores-detecting q0 command pf info turn a = grind (arith)
 
 ignores-negotiating : (role : Role) (command pf : Bool) (info : List ℕ) (turn : ℕ) (a : Account)
     → on_negotiating role (Ui command pf info) turn a ≡ Ok a
-ignores-negotiating Originator command pf info turn a = refl
-ignores-negotiating Answerer command pf info turn a = refl
+ignores-negotiating q0 command pf info turn a = grind (arith)
 
 ignores : (p : Phase) (command pf : Bool) (info : List ℕ) (turn : ℕ) (a : Account) → has_begun p ≡ false
     → on_frame p (Ui command pf info) turn a ≡ Ok a
-ignores Detecting command pf info turn a e = ignores-detecting a.setup.role command pf info turn a
-ignores Negotiating command pf info turn a e = ignores-negotiating a.setup.role command pf info turn a
-ignores Establishing command pf info turn a e = refl
-ignores p command pf info turn a e = absurd (false≢true (sym e))
+ignores p command pf info turn a e = grind (arith)
 
 same-ok : (r : Result Account LinkFault) (x y : Account) → r ≡ Ok x → r ≡ Ok y → x ≡ y
 same-ok r x y e k = ap ok-of (sym e ∙ k)

@@ -164,9 +164,7 @@ delivered-next x e less = go (is_connected x.phase) (nat_lt x.incoming.given (le
     go : (b c : Bool) → b ≡ true → c ≡ true
         → cond b (record x { incoming = cond c (with_given x (x.incoming.given + 1)).incoming x.incoming }) x ≡ with_given x
         (x.incoming.given + 1)
-    go true true e k = refl
-    go true false e k = absurd (false≢true k)
-    go false c e k = absurd (false≢true e)
+    go q0 c e k = grind (arith)
 
 delivers-all : (n : ℕ) (role : Role) (x y : Account) (lx ly : List Slot) → x.incoming.given + n ≡ length x.incoming.taken
     → is_connected x.phase ≡ true

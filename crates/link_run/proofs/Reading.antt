@@ -26,12 +26,10 @@ pub begins_unoffered : BeginsUnoffered
 begins_unoffered file setup h = fresh-cuts file setup h
 
 heard-lengths : (a b : Account) → GoesOn a b → b.own_breaks.lengths ≡ a.own_breaks.lengths
-heard-lengths a b (inl s) = ap (λ (k : Books). k.lengths) s.books_are
-heard-lengths a b (inr e) = ap (λ o. o.lengths) e.own
+heard-lengths a b q2 = grind (arith)
 
 spoken-lengths : (release : Bool) (a b : Account) → Speaks release a b → b.own_breaks.lengths ≡ a.own_breaks.lengths
-spoken-lengths release a b (Keeps_on e) = ap (λ (l : Ledger). l.books.lengths) e
-spoken-lengths release a b (Releases on role linked e k) = ap (λ (l : Ledger). l.books.lengths) e
+spoken-lengths release a b q3 = grind (arith)
 
 pub hearing_stays_offered : ReadsAllowed → KeepsTaken → HearingStaysOffered
 hearing_stays_offered reads keeps file turn arrived a b h e =
@@ -93,9 +91,7 @@ wants-open a n e = go (is_connected a.phase) a.outgoing.ended (nat_lt (length a.
     none z = false≢true (ap is_some z)
 
     go : (b c d : Bool) → cond b (cond (not c && d) (Some (length a.outgoing.pieces)) None) None ≡ Some n → c ≡ false
-    go true true d z = absurd (none z)
-    go true false d z = refl
-    go false c d z = absurd (none z)
+    go q0 c d z = grind (arith)
 
 pub offers_what_is_read : OffersWhatIsRead
 offers_what_is_read file a n piece h e short =

@@ -48,16 +48,12 @@ other p a said u s d c o e = record {
 -- what an answer is, and RR or RNR
 answer-is : (d : Answer) (b : Account) → (carries is_ua (frame_for d b) ≡ owes_ua (Some d)) × (carries is_counted (frame_for d b) ≡ false)
     × (carries is_segment (frame_for d b) ≡ false) × (carries is_disc (frame_for d b) ≡ false)
-answer-is answers.Adp b = (refl, refl, refl, refl)
-answer-is answers.Xid b = (refl, refl, refl, refl)
-answer-is (answers.Ua pf) b = (refl, refl, refl, refl)
-answer-is (answers.Dm pf) b = (refl, refl, refl, refl)
+answer-is q0 b = grind (arith)
 
 ready-is : (busy command pf : Bool) (nr : ℕ) → (carries is_ua (slots.Frame (ready_frame busy command nr pf)) ≡ false)
     × (carries is_segment (slots.Frame (ready_frame busy command nr pf)) ≡ false)
     × (carries is_disc (slots.Frame (ready_frame busy command nr pf)) ≡ false)
-ready-is true command pf nr = (refl, refl, refl)
-ready-is false command pf nr = (refl, refl, refl)
+ready-is q0 command pf nr = grind (arith)
 
 answered : (p : Phase) (a : Account) (d : Answer) (b : Account) → part b ≡ part a → a.owes.answer ≡ Some d
     → Says p a (says (frame_for d b) (record b { owes = record b.owes { answer = None } }))
@@ -82,8 +78,7 @@ disconnects p a b same o later = record {
 }
 
 allowed : (b : Bool) (o : Option ℕ) (n : ℕ) → cond b o None ≡ Some n → b ≡ true
-allowed true o n e = refl
-allowed false o n e = cc
+allowed q0 o n e = grind (arith)
 
 asked-part : (n : ℕ) (i : Incoming)
     → ((after_asked n i).taken ≡ i.taken) × ((after_asked n i).held ≡ i.held) × ((after_asked n i).srej ≡ i.srej)
@@ -93,8 +88,7 @@ asked-part n i = go i.srej refl
         → ((cond b (record i { asked = i.asked ++ n ∷ [] }) (record i { rej = false })).taken ≡ i.taken)
         × ((cond b (record i { asked = i.asked ++ n ∷ [] }) (record i { rej = false })).held ≡ i.held)
         × ((cond b (record i { asked = i.asked ++ n ∷ [] }) (record i { rej = false })).srej ≡ i.srej)
-    go true e = (refl, refl, refl)
-    go false e = (refl, refl, refl)
+    go q0 e = grind (arith)
 
 same-part : (a : Account) (t : List (List ℕ)) (h : List Held) (s : Bool) → t ≡ a.incoming.taken → h ≡ a.incoming.held → s ≡ a.incoming.srej
     → record { taken = t; held = h; srej = s; numbered = a.numbered } ≡ part a

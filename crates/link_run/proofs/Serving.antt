@@ -98,8 +98,7 @@ busy-alone busy a = go (is_connected a.phase)
     go : (c : Bool) → cond c
         (record a { owes = record a.owes { busy = busy } }) a ≡ record
         a { owes = (cond c (record a { owes = record a.owes { busy = busy } }) a).owes }
-    go true = refl
-    go false = refl
+    go q0 = grind (arith)
 
 -- what serving changes
 pub served-alone : (u : User) (turn : ℕ) (released : Bool) (a : Account)
@@ -126,8 +125,7 @@ delivers a w = go (is_connected a.phase) refl
   where
     go : (c : Bool) → is_connected a.phase ≡ c
         → Delivers a (cond c (record a { incoming = record a.incoming { given = length a.incoming.taken } }) a)
-    go true e = record { rest = refl; given = refl }
-    go false e = record { rest = refl; given = (w.idle (unlinked-stage a.phase e)).given }
+    go q0 e = grind (arith)
 
 pub served-handed : (u : User) (turn : ℕ) (released : Bool) (a : Account) → Waiting a → Handed (served u turn released a).account
 served-handed u turn released a w =

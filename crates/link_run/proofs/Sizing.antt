@@ -38,8 +38,7 @@ size-piece : (a : Account) → piece_size a ≤ a.outgoing.size
 size-piece a = go (is_connected a.phase)
   where
     go : (b : Bool) → cond b a.outgoing.size 0 ≤ a.outgoing.size
-    go true = omega arith
-    go false = omega arith
+    go q0 = grind (arith)
 
 fit-offered-at : (file : List ℕ) (a : Account) (w : Option ℕ) → Fit a → Fit (offered_at file a w)
 fit-offered-at file a None h = h
@@ -94,8 +93,7 @@ pub record Sized (most : ℕ) (a : Account) : Type 0 where
 
 sized-heard : (most : ℕ) (a b : Account) → Sized most a → GoesOn a b → (b.phase ≡ Connected → size_for b.setup.role b.terms ≤ most)
     → Sized most b
-sized-heard most a b h (inl s) f = record { size = omega (arith, h.size, s.size) }
-sized-heard most a b h (inr e) f = record { size = omega (arith, ap (λ (o : Outgoing). o.size) e.outgoing_is, f e.is) }
+sized-heard most a b h q4 f = grind (arith)
 
 served-size : (u : User) (turn : ℕ) (released : Bool) (a : Account) → (served u turn released a).account.outgoing.size ≡ a.outgoing.size
 served-size u turn released a =
@@ -107,12 +105,10 @@ served-size u turn released a =
     ∙ given (is_connected a.phase)
   where
     one : (p : List ℕ) (o : Outgoing) → (with_piece p o).size ≡ o.size
-    one [] o = refl
-    one (x ∷ xs) o = refl
+    one q0 o = grind (arith)
 
     at : (file : List ℕ) (x : Account) (w : Option ℕ) → (offered_at file x w).outgoing.size ≡ x.outgoing.size
-    at file x None = refl
-    at file x (Some n) = one (piece_at (piece_size x) file n) x.outgoing
+    at file x q2 = grind (arith)
 
     sizes : (n : ℕ) (file : List ℕ) (x : Account) → (offered_times n file x).outgoing.size ≡ x.outgoing.size
     sizes zero file x = refl
@@ -120,12 +116,10 @@ served-size u turn released a =
 
     given : (b : Bool) → (after_given
         (cond b (record a { incoming = record a.incoming { given = length a.incoming.taken } }) a)).outgoing.size ≡ a.outgoing.size
-    given true = refl
-    given false = refl
+    given q0 = grind (arith)
 
 spoken-size : (release : Bool) (a b : Account) → Speaks release a b → b.outgoing.size ≡ a.outgoing.size
-spoken-size release a b (Keeps_on e) = ap (λ (l : Ledger). l.size) e
-spoken-size release a b (Releases on role linked e k) = ap (λ (l : Ledger). l.size) e
+spoken-size release a b q3 = grind (arith)
 
 -- what an end offers
 abbrev most_of : Link → Role → ℕ

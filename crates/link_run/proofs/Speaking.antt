@@ -94,10 +94,7 @@ module _ (turn : ℕ) (release : Bool) (a : Account) where
 
   released-now : (role : Role) → a.setup.role ≡ role → (b : Bool) → release ≡ b → (b && is_originator role) ≡ true
       → (release ≡ true) × (a.setup.role ≡ Originator)
-  released-now Originator e true f g = (f, e)
-  released-now Originator e false f g = absurd (false≢true g)
-  released-now Answerer e true f g = absurd (false≢true g)
-  released-now Answerer e false f g = absurd (false≢true g)
+  released-now q0 e q2 f g = grind (arith)
 
   ways : Ways P turn release a
   ways = record {
@@ -133,16 +130,14 @@ pub speaks-phase : (turn : ℕ) (release : Bool) (a : Account) (said : Said) →
 speaks-phase turn release a said e = go (speaks turn release a said e)
   where
     go : Speaks release a said.account → (said.account.phase ≡ a.phase) ⊎ ((a.phase ≡ Connected) × (said.account.phase ≡ Releasing))
-    go (Keeps_on l) = inl (ap (λ (x : Ledger). x.phase) l)
-    go (Releases on r p l s) = inr (p, ap (λ (x : Ledger). x.phase) l)
+    go q0 = grind (arith)
 
 pub speaks-pieces : (turn : ℕ) (release : Bool) (a : Account) (said : Said) → speak turn release a ≡ Ok said
     → (said.account.outgoing.pieces ≡ a.outgoing.pieces) × (said.account.outgoing.size ≡ a.outgoing.size)
 speaks-pieces turn release a said e = go (speaks turn release a said e)
   where
     go : Speaks release a said.account → (said.account.outgoing.pieces ≡ a.outgoing.pieces) × (said.account.outgoing.size ≡ a.outgoing.size)
-    go (Keeps_on l) = (ap (λ (x : Ledger). x.books.pieces) l, ap (λ (x : Ledger). x.size) l)
-    go (Releases on r p l s) = (ap (λ (x : Ledger). x.books.pieces) l, ap (λ (x : Ledger). x.size) l)
+    go q0 = grind (arith)
 
 -- what stands in Releasing and Closed
 pub stands-spoken : (turn : ℕ) (release : Bool) (a : Account) (said : Said) → 2 ≤ stage a.phase → speak turn release a ≡ Ok said
