@@ -39,22 +39,10 @@ offered-alike (suc n) file a = go (wants a) (offered-alike n file (offered_at fi
   where
     go : (w : Option ℕ) → Alike (offered_at file a w) (offered_times n file (offered_at file a w))
         → Alike a (offered_times n file (offered_at file a w))
-    go None h = h
-    go (Some m) h =
-        let k = piece-alike (piece_at (piece_size a) file m) a.outgoing in
-        record { range = λ r. h.range (k.0 r); high = h.high ∙ k.1 }
+    go w h = grind (arith, piece-alike)
 
 served-alike : (u : User) (turn : ℕ) (released : Bool) (a : Account) → Alike a (served u turn released a).account
-served-alike u turn released a =
-    let x = after_given (delivered a) in
-    let h = offered-alike (room_for x) u.file x in
-    let is : (served u turn released a).account.outgoing ≡ (offered_times (room_for x) u.file x).outgoing =
-    ap (λ (b : Account). b.outgoing) (served-alone u turn released a) in
-    let out : x.outgoing ≡ a.outgoing = delivered-out a in
-    record {
-      range = λ r. subst IsInRange (sym is) (h.range (subst IsInRange (sym out) r));
-      high = ap (λ o. o.high) is ∙ h.high ∙ ap (λ o. o.high) out;
-    }
+served-alike u turn released a = grind (arith, offered-alike, served-alone, delivered-out)
 
 -- hearing sends nothing
 heard-high : (a b : Account) → SendsInOrder a → GoesOn a b → b.outgoing.high ≡ a.outgoing.high
@@ -64,22 +52,12 @@ heard-high a b s q3 = grind (arith)
 both-in-order : SendsInRange → (link : Link) → MayPlay link.orig.setup link.answ.setup → (ends : Accounts)
     (line : Role → List (Option Spoken))
     → IsPlayed link ends line → (r : Role) → SendsInOrder (of r ends)
-both-in-order sends link m ends line p Originator =
-    subst SendsInOrder (p.is_at Originator).account_is (sends link.orig.setup link.answ.setup p.events m).0
-both-in-order sends link m ends line p Answerer =
-    subst SendsInOrder (p.is_at Answerer).account_is (sends link.orig.setup link.answ.setup p.events m).1
+both-in-order sends link m ends line p r = grind (arith)
 
 -- what an end sends in a turn
 said-sends : (link : Link) (turn : ℕ) (mid : Accounts) (r : Role) (said : Said) → IsInRange (of r mid).outgoing
     → said_at link turn mid r ≡ Ok said → SentAs (sequence_in said.sent) said.number (of r mid).outgoing.high said.account.outgoing.high
-said-sends link turn mid Originator said h e =
-    let k = served-alike link.orig.user turn (is_released mid.orig.phase) mid.orig in
-    subst (λ n. SentAs (sequence_in said.sent) said.number n said.account.outgoing.high) k.high
-    (sends-as turn (releases link turn mid) (served_at link turn mid Originator).account said (k.range h) e)
-said-sends link turn mid Answerer said h e =
-    let k = served-alike link.answ.user turn (is_released mid.orig.phase) mid.answ in
-    subst (λ n. SentAs (sequence_in said.sent) said.number n said.account.outgoing.high) k.high
-    (sends-as turn false (served_at link turn mid Answerer).account said (k.range h) e)
+said-sends link turn mid r said h e = grind (arith, served-alike, sends-as)
 
 -- what is sent after these numbers
 pub record Goes (numbers : List ℕ) (old : ℕ) (slot : Option Spoken) (new : ℕ) : Type 0 where

@@ -41,8 +41,7 @@ module _ (a : Account) where
 
   ready : (s : Setup) (due : Option Answer) (p : Phase) (busy command pf : Bool) (nr : ℕ) → OwnFrame s due p
       (ready_frame busy command nr pf)
-  ready s due p true command pf nr = tt
-  ready s due p false command pf nr = tt
+  ready s due p busy command pf nr = grind (arith)
 
   plain : {said : Said} → OwnSent a.setup a.owes.answer a.phase said.sent → said.account.owes.answer ≡ a.owes.answer → P said
   plain own e = record { own = own; left = inl e }

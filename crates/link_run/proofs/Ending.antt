@@ -56,11 +56,7 @@ spoken-setup : (release : Bool) (a b : Account) → Speaks release a b → b.set
 spoken-setup release a b q3 = grind (arith)
 
 delivered-setup : (a : Account) → (delivered a).setup ≡ a.setup
-delivered-setup a = go (is_connected a.phase)
-  where
-    go : (b : Bool) → (cond b (record a { incoming = record a.incoming { given = length a.incoming.taken } }) a).setup ≡ a.setup
-    go true = refl
-    go false = refl
+delivered-setup a = grind (arith)
 
 pub setups-kept : (link : Link) → IsKept (HasSetup link) link
 setups-kept link = record {

@@ -29,8 +29,7 @@ passes-breaks q0 turn x y slot rest ly fault e = grind (arith)
 wants-of : (role : Role) (x y : Account) (lx ly : List Slot) (fault : LinkFault)
     → WantsAnswers (broken role x lx y ly fault).originator.fault × WantsAnswers (broken role x lx y ly fault).answerer.fault
     → WantsAnswers (Some fault)
-wants-of Originator x y lx ly fault h = h.1
-wants-of Answerer x y lx ly fault h = h.0
+wants-of role x y lx ly fault h = grind (arith)
 
 pub well-heard : (reads : ReadsAllowed) (keeps : KeepsTaken) (law : BreaksForWantAlone) (link : Link)
     → MayPlay link.orig.setup link.answ.setup
@@ -73,7 +72,4 @@ hearings_are_well reads keeps law link delay ts ends t v n role = at-role role
         (hear (length ts) (arrival t.answ.heard) ends.answ) refl
 
 pub broken_for_want : BrokenForWant
-broken_for_want link ts before t mid Originator fault h =
-    breaks-for-want (length ts) (releases link (length ts) mid) (served_at link (length ts) mid Originator).account fault h.broken
-broken_for_want link ts before t mid Answerer fault h =
-    breaks-for-want (length ts) false (served_at link (length ts) mid Answerer).account fault h.broken.1
+broken_for_want link ts before t mid q5 fault h = grind (arith, breaks-for-want)

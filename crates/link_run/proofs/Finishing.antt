@@ -38,17 +38,7 @@ pub record Finished (a : Account) : Type 0 where
   pub answered : length a.own_breaks.lengths ≤ a.own_breaks.answered
 
 finished : (u : User) (turn : ℕ) (a : Account) → has_finished u turn a ≡ true → Finished a
-finished u turn a e =
-    let h = both-true (is_done a) (not (break_waits a || is_ready turn (next_break u.breaks a))) e in
-    let n = neither (break_waits a) (is_ready turn (next_break u.breaks a)) h.1 in
-    go (is_connected a.phase) refl h.0 n.0
-  where
-    go : (b : Bool) → is_connected a.phase ≡ b → cond b (is_whole a.outgoing) false ≡ true → cond b (waits a.own_breaks) false ≡ false
-        → Finished a
-    go true k d w =
-        let p = both-true a.outgoing.ended (nat_eq a.outgoing.front (length a.outgoing.pieces)) d in
-        record { linked = k; ended = p.0; front = grind (arith, nat_tests); answered = grind (arith, nat_tests) }
-    go false k d w = absurd (false≢true d)
+finished u turn a e = grind (arith, both-true, neither)
 
 -- what holds of both ends from then on
 pub record Over (o a : Account) : Type 0 where
@@ -68,33 +58,13 @@ pub record SameLeft (a b : Account) : Type 0 where
   pub lengths : b.own_breaks.lengths ≡ a.own_breaks.lengths
 
 still-over : (o p a b : Account) → Over o a → standing p ≡ standing o → SameLeft a b → Over p b
-still-over o p a b h s l = record {
-  o_ended = subst (λ (z : Standing). z.outgoing.ended ≡ true) (sym s) h.o_ended;
-  o_front = subst (λ (z : Standing). z.outgoing.front ≡ length z.outgoing.pieces) (sym s) h.o_front;
-  o_breaks = subst (λ (z : Standing). length z.own_breaks.lengths ≤ z.own_breaks.answered) (sym s) h.o_breaks;
-  a_linked = l.linked h.a_linked;
-  a_ended = l.ended ∙ h.a_ended;
-  a_taken = omega (arith, h.a_taken, ap length l.pieces, ap (λ (z : Standing). length z.incoming.taken) s);
-  a_breaks = omega (arith, h.a_breaks, ap length l.lengths, ap (λ (z : Standing). length z.their_breaks.lengths) s);
-}
+still-over o p a b h s l = grind (arith)
 
 heard-left : (a b : Account) → 1 ≤ stage a.phase → GoesOn a b → SameLeft a b
-heard-left a b linked (inl s) = record {
-  linked = λ h. omega (arith, h, s.later);
-  ended = ap (λ (k : Books). k.ended) s.books_are;
-  pieces = ap (λ (k : Books). k.pieces) s.books_are;
-  lengths = ap (λ (k : Books). k.lengths) s.books_are;
-}
-heard-left a b linked (inr e) = absurd (omega (arith, linked, e.was))
+heard-left a b linked q3 = grind (arith)
 
 spoken-left : (a b : Account) → Speaks false a b → SameLeft a b
-spoken-left a b (Keeps_on e) = record {
-  linked = λ h. omega (arith, h, ap (λ (l : Ledger). stage l.phase) e);
-  ended = ap (λ (l : Ledger). l.books.ended) e;
-  pieces = ap (λ (l : Ledger). l.books.pieces) e;
-  lengths = ap (λ (l : Ledger). l.books.lengths) e;
-}
-spoken-left a b (Releases on role linked e k) = absurd (false≢true on)
+spoken-left a b q2 = grind (arith)
 
 -- nothing is offered once the file has ended
 pub offers-none : (n : ℕ) (file : List ℕ) (a : Account) → wants a ≡ None → offered_times n file a ≡ a
@@ -102,12 +72,7 @@ offers-none zero file a e = refl
 offers-none (suc n) file a e = ap (λ w. offered_times n file (offered_at file a w)) e ∙ offers-none n file a e
 
 pub ended-wants : (a : Account) → a.outgoing.ended ≡ true → wants a ≡ None
-ended-wants a e = go (is_connected a.phase) a.outgoing.ended e
-  where
-    go : (b c : Bool) → c ≡ true
-        → cond b (cond (not c && nat_lt (length a.outgoing.pieces) (a.outgoing.front + a.outgoing.window))
-        (Some (length a.outgoing.pieces)) None) None ≡ None
-    go q0 c e = grind (arith)
+ended-wants a e = grind (arith)
 
 -- serving an end whose file has ended, once the originator was told to release
 pub record Idles (a b : Account) : Type 0 where
@@ -118,11 +83,7 @@ pub record Idles (a b : Account) : Type 0 where
   pub phase : b.phase ≡ a.phase
 
 given-idles : (a : Account) → Idles a (after_given (delivered a))
-given-idles a = go (is_connected a.phase)
-  where
-    go : (b : Bool) → Idles a (after_given (cond b (record a { incoming = record a.incoming { given = length a.incoming.taken } }) a))
-    go true = record { outgoing = refl; taken = refl; own = refl; theirs = refl; phase = refl }
-    go false = record { outgoing = refl; taken = refl; own = refl; theirs = refl; phase = refl }
+given-idles a = grind (arith)
 
 served-idles : (u : User) (turn : ℕ) (a : Account) → a.outgoing.ended ≡ true → Idles a (served u turn true a).account
 served-idles u turn a e =
@@ -136,24 +97,11 @@ served-idles u turn a e =
     (sym (offers-none (room_for b) u.file b (ended-wants b (ap (λ (o : Outgoing). o.ended) g.outgoing ∙ e)))) k
 
 idles-left : (a b : Account) → Idles a b → SameLeft a b
-idles-left a b i = record {
-  linked = λ h. omega (arith, h, ap stage i.phase);
-  ended = ap (λ (o : Outgoing). o.ended) i.outgoing;
-  pieces = ap (λ (o : Outgoing). o.pieces) i.outgoing;
-  lengths = ap (λ (o : OwnBreaks). o.lengths) i.own;
-}
+idles-left a b i = grind (arith)
 
 -- of the originator, what is delivered isn't part of what stands
 idles-over : (o p a b : Account) → Over o a → Idles o p → Idles a b → Over p b
-idles-over o p a b h i l = record {
-  o_ended = ap (λ (z : Outgoing). z.ended) i.outgoing ∙ h.o_ended;
-  o_front = ap (λ (z : Outgoing). z.front) i.outgoing ∙ h.o_front ∙ sym (ap (λ (z : Outgoing). length z.pieces) i.outgoing);
-  o_breaks = omega (arith, h.o_breaks, ap (λ (z : OwnBreaks). length z.lengths) i.own, ap (λ (z : OwnBreaks). z.answered) i.own);
-  a_linked = (idles-left a b l).linked h.a_linked;
-  a_ended = (idles-left a b l).ended ∙ h.a_ended;
-  a_taken = omega (arith, h.a_taken, ap length (idles-left a b l).pieces, ap length i.taken);
-  a_breaks = omega (arith, h.a_breaks, ap length (idles-left a b l).lengths, ap (λ z. length z.lengths) i.theirs);
-}
+idles-over o p a b h i l = grind (arith)
 
 over-heard : (reads : ReadsAllowed) (keeps : KeepsTaken) (turn : ℕ) (before : Accounts) (t : Turn) (mid : Accounts)
     → 2 ≤ stage before.orig.phase
@@ -214,11 +162,7 @@ over-going link turn mid o a going h f e (Keeps_on k) l two =
     (stands-spoken turn (releases link turn mid) s.orig o before e) (spoken-left s.answ a.account l)
   where
     delivered-phase : (x : Account) → (delivered x).phase ≡ x.phase
-    delivered-phase x = go (is_connected x.phase)
-      where
-        go : (b : Bool) → (cond b (record x { incoming = record x.incoming { given = length x.incoming.taken } }) x).phase ≡ x.phase
-        go true = refl
-        go false = refl
+    delivered-phase x = grind (arith)
 over-going link turn mid o a going h f e (Releases on role linked k stand) l two =
     let s = both_served link turn mid in
     let both = both-true (finished_at link turn (served_ends link turn mid) Originator)

@@ -41,9 +41,7 @@ pub record Known (so sa : Setup) (sent heard : List Turn) (o a : Course) : Type 
 -- one more turn was heard
 passed-more : (is : Frame → Bool) (role : Role) (t : Turn) (ts : List Turn) (n : Bool) (m : Bool) → has_passed is role ts ≡ n
     → m ≡ (brings is (arrival (of role t).heard) || n) → has_passed is role (t ∷ ts) ≡ m
-passed-more is role t ts n m h e =
-    ap (λ b. b || has_passed is role ts) (passed-brings is (of role t).heard) ∙ ap (λ b. brings is (arrival (of role t).heard) || b) h
-    ∙ sym e
+passed-more is role t ts n m h e = grind (arith, passed-brings)
 
 known-heard : (so sa : Setup) → Reads so sa → (delay : Role → ℕ) (ts : List Turn) (t : Turn) (turn : ℕ) (o a p b : Account)
     → so.role ≡ Originator → sa.role ≡ Answerer → o.setup ≡ so → a.setup ≡ sa → Known so sa ts ts (course o) (course a)
@@ -129,11 +127,7 @@ if-said : (P : Frame → Type 0) (o : Option Spoken) (said : Said) → o ≡ Som
 if-said P o said e h = subst (IfSent P) (sym e) h
 
 sent-by : (P : Frame → Type 0) (s : Sent) → ((frame : Frame) → s ≡ slots.Frame frame → P frame) → OnSent P s
-sent-by P slots.Mark h = tt
-sent-by P slots.Odp h = tt
-sent-by P slots.Adp h = tt
-sent-by P slots.Flags h = tt
-sent-by P (slots.Frame frame) h = h frame refl
+sent-by P s h = grind (arith)
 
 known-spoken : (so sa : Setup) (ts : List Turn) (t : Turn) (o a : Account) (release : Bool) (p b : Said)
     → Known so sa ts (t ∷ ts) (course o) (course a) → o.setup ≡ so → a.setup ≡ sa → sa.role ≡ Answerer
@@ -185,33 +179,14 @@ known-spoken so sa ts t o a release p b h eo ea role go ga wo wa dco dca so-sent
     same-phase x y q2 = grind (arith)
 
     le-two : (m n : ℕ) → nat_le 2 m ≡ nat_le 2 n → 2 ≤ m → 2 ≤ n
-    le-two m n e l = at-least n (sym e ∙ reaches m l)
-      where
-        reaches : (k : ℕ) → 2 ≤ k → nat_le 2 k ≡ true
-        reaches k l = grind (arith, nat_tests)
-
-        at-least : (k : ℕ) → nat_le 2 k ≡ true → 2 ≤ k
-        at-least k e = grind (arith, nat_tests)
+    le-two m n e l = grind (arith)
 
 -- serving leaves this
 delivered-terms : (a : Account) → (delivered a).terms ≡ a.terms
-delivered-terms a = go (is_connected a.phase)
-  where
-    go : (b : Bool) → (cond b (record a { incoming = record a.incoming { given = length a.incoming.taken } }) a).terms ≡ a.terms
-    go true = refl
-    go false = refl
+delivered-terms a = grind (arith)
 
 pub course-served : (u : User) (turn : ℕ) (released : Bool) (a : Account) → course (served u turn released a).account ≡ course a
-course-served u turn released a =
-    let l = serving u turn released a in
-    let terms = ap (λ (b : Account). b.terms) (served-alone u turn released a) ∙ delivered-terms a in
-    same-course (course (served u turn released a).account) (course a) l.phase terms l.answer
-  where
-    same-course : (c d : Course) → c.phase ≡ d.phase → c.terms ≡ d.terms → c.answer ≡ d.answer → c ≡ d
-    same-course c d p q r =
-        ap (λ z. record { phase = z; terms = c.terms; answer = c.answer }) p
-        ∙ ap (λ z. record { phase = d.phase; terms = z; answer = c.answer }) q
-        ∙ ap (λ z. record { phase = d.phase; terms = d.terms; answer = z }) r
+course-served u turn released a = grind (arith, serving, served-alone, delivered-terms)
 
 abbrev pub KnownOf : Link → List Turn → List Turn → Accounts → Type 0
 KnownOf link sent heard ends = Known link.orig.setup link.answ.setup sent heard (course ends.orig) (course ends.answ)
@@ -274,6 +249,4 @@ known-run reads keeps written link delay p (t ∷ ts) ends c h =
     (sym ka.after_is) m)
   where
     setup-before : {s : Setup} (release : Bool) (x y e : Account) → e ≡ y → Speaks release x y → e.setup ≡ s → x.setup ≡ s
-    setup-before {s} release x y e q (Keeps_on l) w = sym (ap (λ (z : Ledger). z.books.setup) l) ∙ sym (ap (λ (v : Account). v.setup) q) ∙ w
-    setup-before {s} release x y e q (Releases on r linked l n) w =
-        sym (ap (λ (z : Ledger). z.books.setup) l) ∙ sym (ap (λ (v : Account). v.setup) q) ∙ w
+    setup-before {s} release x y e q q6 w = grind (arith)

@@ -54,12 +54,10 @@ pub record Met (ts : List Turn) (o a : Account) : Type 0 where
   pub never : stage a.phase ≢ 2
 
 later : (a b : Account) → GoesOn a b → stage a.phase ≤ stage b.phase
-later a b (inl s) = s.later
-later a b (inr e) = omega (arith, e.was)
+later a b q2 = grind (arith)
 
 still-never : (a b : Account) → GoesOn a b → stage a.phase ≢ 2 → stage b.phase ≢ 2
-still-never a b (inl s) h z = h (s.unreleased z)
-still-never a b (inr e) h z = omega (arith, ap stage e.is, z)
+still-never a b q2 h z = grind (arith)
 
 met-heard : (ts : List Turn) (o a p b : Account) (delay : Role → ℕ) (ho ha : Heard) → Met ts o a → o.setup.role ≡ Originator → GoesOn o p
     → GoesOn a b → Told o.phase (arrival ho) o p → Told a.phase (arrival ha) a b
@@ -93,8 +91,7 @@ met-heard ts o a p b delay ho ha m role go ga to ta co ca =
     hung-by : (n : ℕ) → stage a.phase ≡ n → stage b.phase ≡ 3 → 2 ≤ stage p.phase
     hung-by zero e z = omega (arith, later o p go, m.discs (came is_disc delay Originator ts ha ca (ta.hung (omega (arith, e)) z)))
     hung-by (suc zero) e z = omega (arith, later o p go, m.discs (came is_disc delay Originator ts ha ca (ta.hung (omega (arith, e)) z)))
-    hung-by (suc (suc zero)) e z = absurd (m.never e)
-    hung-by (suc (suc (suc n))) e z = omega (arith, later o p go, m.hung (omega (arith, e, z, later a b ga)))
+    hung-by n e z = grind (arith)
 
 -- serving leaves this as it is
 pub record Leaves (a b : Account) : Type 0 where
@@ -104,19 +101,11 @@ pub record Leaves (a b : Account) : Type 0 where
   pub setup : b.setup ≡ a.setup
 
 delivered-leaves : (a : Account) → Leaves a (delivered a)
-delivered-leaves a = each (is_connected a.phase)
-  where
-    each : (z : Bool) → Leaves a (cond z (record a { incoming = record a.incoming { given = length a.incoming.taken } }) a)
-    each true = record { phase = refl; answer = refl; part_is = refl; setup = refl }
-    each false = record { phase = refl; answer = refl; part_is = refl; setup = refl }
+delivered-leaves a = grind (arith)
 
 -- being told of a pause leaves what answer is due
 busy-answer : (busy : Bool) (a : Account) → (after_busy busy a).owes.answer ≡ a.owes.answer
-busy-answer busy a = each (is_connected a.phase)
-  where
-    each : (z : Bool) → (cond z (record a { owes = record a.owes { busy = busy } }) a).owes.answer ≡ a.owes.answer
-    each true = refl
-    each false = refl
+busy-answer busy a = grind (arith)
 
 pub serving : (u : User) (turn : ℕ) (released : Bool) (a : Account) → Leaves a (served u turn released a).account
 serving u turn released a =
@@ -169,17 +158,7 @@ met-spoken ts t o a release p b m role go ga to ta so sa =
     discs-by q0 = grind (arith)
 
 met-left : (ts : List Turn) (o a p b : Account) → Leaves o p → Leaves a b → Met ts o a → Met ts p b
-met-left ts o a p b l k m = record {
-  up = λ z. omega (arith, ap stage k.phase, m.up (omega (arith, ap stage l.phase, z)));
-  uas = λ z. omega (arith, ap stage k.phase, m.uas z);
-  due = λ z. omega (arith, ap stage k.phase, m.due (ap owes_ua (sym k.answer) ∙ z));
-  counted = λ z. omega (arith, ap stage l.phase, m.counted (sym (ap (λ (x : Part). x.numbered) k.part_is) ∙ z));
-  froms = λ z. omega (arith, ap stage l.phase, m.froms z);
-  segments = λ z. omega (arith, ap stage l.phase, m.segments z);
-  discs = λ z. omega (arith, ap stage l.phase, m.discs z);
-  hung = λ z. omega (arith, ap stage l.phase, m.hung (omega (arith, ap stage k.phase, z)));
-  never = λ z. m.never (omega (arith, ap stage k.phase, z));
-}
+met-left ts o a p b l k m = grind (arith)
 
 pub met-mid : (reads : ReadsAllowed) (keeps : KeepsTaken) (link : Link) (delay : Role → ℕ) (ts : List Turn) (before : Accounts) (t : Turn)
     (mid : Accounts) → MayPlay link.orig.setup link.answ.setup → RunOf link ts before → Met ts before.orig before.answ → Carries delay ts t

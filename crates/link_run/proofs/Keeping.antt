@@ -143,16 +143,7 @@ agreed : (o a : Offer) → IsAllowed o → IsAllowed a → AreTerms (agree o a)
 agreed o a h k = (omega (arith, h.tx_len_low, k.rx_len_low), omega (arith, k.tx_len_low, h.rx_len_low))
 
 allowed-default : IsAllowed default_offer
-allowed-default = record {
-  tx_len_low = lit≤ tt;
-  tx_len_high = lit≤ tt;
-  rx_len_low = lit≤ tt;
-  rx_len_high = lit≤ tt;
-  tx_window_low = lit≤ tt;
-  tx_window_high = lit≤ tt;
-  rx_window_low = lit≤ tt;
-  rx_window_high = lit≤ tt;
-}
+allowed-default = grind (arith)
 
 enters : (turn : ℕ) (a b : Account) → stage a.phase ≡ 0 → b.setup ≡ a.setup → b.own_breaks ≡ a.own_breaks → b.their_breaks ≡ a.their_breaks
     → b.breaks_told ≡ a.breaks_told → (IsAllowed a.setup.offer → AreTerms a.terms → AreTerms b.terms) → (f : Account → Account)
@@ -224,11 +215,7 @@ segment keeps ns info a new timer reply urgent e k =
     })
 
 answer-lengths : (turn number : ℕ) (b : OwnBreaks) → (after_answer turn number b).lengths ≡ b.lengths
-answer-lengths turn number b = go (waits b && nat_eq number (b.answered % 2))
-  where
-    go : (c : Bool) → (cond c (record b { answered = b.answered + 1; brk = false; count = 0; rest = turn + 8 }) b).lengths ≡ b.lengths
-    go true = refl
-    go false = refl
+answer-lengths turn number b = grind (arith)
 
 given-more : (o : Option ℕ) (lengths : List ℕ) → (more : List ℕ) × (with_given o lengths ≡ lengths ++ more) × (length more ≤ 1)
 given-more None lengths = ([], sym (append-nil lengths), omega arith)

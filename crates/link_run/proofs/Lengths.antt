@@ -27,14 +27,10 @@ module _ (n : ℕ) (l : 23 ≤ n) where
   IsShort said = OnSent (ShortFrame n) said.sent
 
   answer : (d : Answer) (a : Account) → OnSent (ShortFrame n) (frame_for d a)
-  answer answers.Adp a = tt
-  answer answers.Xid a = l
-  answer (answers.Ua pf) a = omega arith
-  answer (answers.Dm pf) a = omega arith
+  answer d a = grind (arith)
 
   ready : (busy command pf : Bool) (nr : ℕ) → ShortFrame n (ready_frame busy command nr pf)
-  ready true command pf nr = omega arith
-  ready false command pf nr = omega arith
+  ready busy command pf nr = grind (arith)
 
   word : (w : BreakWord) → length (spelled w) ≤ n
   word q0 = grind (arith)

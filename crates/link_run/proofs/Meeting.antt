@@ -77,23 +77,11 @@ stays-told : (p : Phase) (arrived : Arrived) (a b : Account) → stage b.phase �
     → (owes_ua b.owes.answer ≡ true → (owes_ua a.owes.answer ≡ true) ⊎ (1 ≤ stage b.phase))
     → (b.numbered ≡ true → (a.numbered ≡ true) ⊎ (brings is_counted arrived ≡ true)) → b.incoming ≡ received p arrived a.incoming
     → Told p arrived a b
-stays-told p arrived a b e owes numbered inc = record {
-  owes = owes;
-  entered = λ z l r. absurd (omega (arith, e, z, l));
-  numbered = numbered;
-  hung = λ l z. absurd (omega (arith, e, l, z));
-  incoming = inl inc;
-}
+stays-told p arrived a b e owes numbered inc = grind (arith)
 
 enters-told : (p : Phase) (frame : Frame) (a b : Account) → stage p ≡ 0 → stage b.phase ≡ 1 → b.numbered ≡ a.numbered
     → (a.setup.role ≡ Originator → is_ua frame ≡ true) → Told p (arrivals.Frame frame) a b
-enters-told p frame a b was is n role = record {
-  owes = λ z. inr (omega (arith, is));
-  entered = λ z l r. role r;
-  numbered = λ z. inl (sym n ∙ z);
-  hung = λ l z. absurd (omega (arith, is, z));
-  incoming = inr (was, omega (arith, is));
-}
+enters-told p frame a b was is n role = grind (arith)
 
 not-originator : {r : Role} → r ≡ Answerer → r ≡ Originator → ⊥
 not-originator a o = false≢true (ap is_originator (sym a ∙ o))
@@ -183,8 +171,4 @@ is-told turn arrived a b h = go a.phase refl
   where
     go : (p : Phase) → a.phase ≡ p → Told a.phase arrived a b
     go Connected e = subst (λ p. Told p arrived a b) (sym e) (told-linked turn a e arrived b h)
-    go Detecting e = told-early turn a (ap is_connected e) arrived b h
-    go Negotiating e = told-early turn a (ap is_connected e) arrived b h
-    go Establishing e = told-early turn a (ap is_connected e) arrived b h
-    go Releasing e = told-early turn a (ap is_connected e) arrived b h
-    go Closed e = told-early turn a (ap is_connected e) arrived b h
+    go p e = grind (arith)

@@ -15,10 +15,7 @@ use Rattle.link_run.proofs.Joining.{serving}
 
 -- whoever breaks because it detected nothing is an originator
 undetected : (turn : ℕ) (release : Bool) (a : Account) → speak turn release a ≡ Err NotDetected → a.setup.role ≡ Originator
-undetected turn release a e = go NotDetected refl (why-broken turn release a NotDetected e)
-  where
-    go : (fault : LinkFault) → fault ≡ NotDetected → Breaks turn release a fault → a.setup.role ≡ Originator
-    go fault n q2 = grind (arith)
+undetected turn release a e = grind (arith, why-broken)
 
 pub each_end_is_named : ReadsAllowed → KeepsTaken → BrokenForWant → EachEndIsNamed
 each_end_is_named reads keeps want link ts before t mid role (Spent segment since) m h b = tt
@@ -48,8 +45,7 @@ Hear turn before heard mid = (role : Role) → hear turn (arrival (heard role)) 
 
 turn-hears : (turn : ℕ) (before mid : Accounts) (heard : Role → Heard) (sent : Role → Option Spoken) → Hear turn before heard mid
     → Hears turn before (turn_with before mid heard sent) mid
-turn-hears turn before mid heard sent h Originator = record { hears = h Originator; check_is = refl; given_is = refl }
-turn-hears turn before mid heard sent h Answerer = record { hears = h Answerer; check_is = refl; given_is = refl }
+turn-hears turn before mid heard sent h q6 = grind (arith)
 
 turn-heard : (before mid : Accounts) (heard : Role → Heard) (sent : Role → Option Spoken) (role : Role)
     → (of role (turn_with before mid heard sent)).heard ≡ heard role
@@ -125,8 +121,7 @@ hearing link ts ends heard (Ok o) (Ok a) h k x y =
     both : Hear (length ts) ends heard mid
     both Originator = h
     both Answerer = k
-hearing link ts ends heard (Ok o) (Err fault) h k x y = absurd (false≢true y)
-hearing link ts ends heard (Err fault) a h k x y = absurd (false≢true x)
+hearing link ts ends heard o a h k x y = grind (arith)
 
 pub each_turn_is_made : HearingsAreWell → EachTurnIsMade
 each_turn_is_made well link delay ts ends heard v c =

@@ -32,11 +32,7 @@ same-both {A} x y h =
     ap (λ z. record { orig = z; answ = x.answ }) (h Originator) ∙ ap (λ z. record { orig = y.orig; answ = z }) (h Answerer)
 
 same-side : (s u : Side) → s.heard ≡ u.heard → s.check ≡ u.check → s.sent ≡ u.sent → s.given ≡ u.given → s ≡ u
-same-side s u h c p g =
-    ap (λ z. record { heard = z; check = s.check; sent = s.sent; given = s.given }) h
-    ∙ ap (λ z. record { heard = u.heard; check = z; sent = s.sent; given = s.given }) c
-    ∙ ap (λ z. record { heard = u.heard; check = u.check; sent = z; given = s.given }) p
-    ∙ ap (λ z. record { heard = u.heard; check = u.check; sent = u.sent; given = z }) g
+same-side s u h c p g = grind (arith)
 
 -- the same is heard by each end
 abbrev pub HearSame : Turn → Turn → Type 0
@@ -53,9 +49,7 @@ one-turn : (turn : ℕ) (before : Accounts) (t u : Turn) (mid others : Accounts)
     → HearSame t u
     → mid ≡ others
     → ((r : Role) → (of r t).sent ≡ (of r u).sent) → t ≡ u
-one-turn turn before t u mid others h k e m p =
-    same-both t u (λ r. same-side (of r t) (of r u) (e r) ((h r).check_is ∙ sym (k r).check_is) (p r)
-    ((h r).given_is ∙ ap (λ (z : Accounts). given_break (of r z)) m ∙ sym (k r).given_is))
+one-turn turn before t u mid others h k e m p = grind (arith, same-both, same-side)
 
 pub record SameGoing (t u : Turn) (mid others after later : Accounts) : Type 0 where
   pub mids : mid ≡ others
@@ -94,9 +88,7 @@ one_run link (t ∷ ts) (u ∷ us) ends others h k e =
 -- what becomes of a turn
 hearing-of : (link : Link) (ts : List Turn) (before : Accounts) (t : Turn) (mid : Accounts) (a : Outcome) → TurnIs link ts before t mid a
     → Hears (length ts) before t mid
-hearing-of link ts before t mid Going h = subst (Hears (length ts) before t) h.2 h.1.hearing
-hearing-of link ts before t mid Done h = h.hearing
-hearing-of link ts before t mid (Broken role fault) h = h.hearing
+hearing-of link ts before t mid a h = grind (arith)
 
 -- what an outcome says of the ends that have heard, and of what is sent
 pub record Says (link : Link) (turn : ℕ) (t : Turn) (mid : Accounts) : Type 0 where
@@ -121,8 +113,7 @@ tells link ts before t mid Going h =
       says = λ r. (g.speaking r).says;
       sent_is = λ r. (g.speaking r).sent_is;
     })
-tells link ts before t mid Done h = (h.done, h.silent)
-tells link ts before t mid (Broken role fault) h = (h.going, h.broken, h.silent)
+tells link ts before t mid a h = grind (arith)
 
 abbrev SameOutcome : Turn → Turn → Outcome → Outcome → Type 0
 SameOutcome t u a b = (a ≡ b) × ((r : Role) → (of r t).sent ≡ (of r u).sent)

@@ -93,11 +93,7 @@ of-slot : (P : Frame → Type 0) (o : Option Spoken) (slot : Spoken) (frame : Fr
 of-slot P o slot frame e f h = subst (OnSent P) f (subst (IfSent P) e h)
 
 checked-as : (o : Option Spoken) (slot s : Spoken) → o ≡ Some slot → o ≡ Some s → slot.check ≡ s.check
-checked-as o slot s e k = ap check-in (sym e ∙ k)
-  where
-    check-in : Option Spoken → Check
-    check-in None = Sixteen
-    check-in (Some z) = z.check
+checked-as o slot s e k = grind (arith)
 
 pub sends_agreed_check : KnowingLaws → SendsAgreedCheck
 sends_agreed_check laws link delay ts ends t after v c g role slot frame = at-role role
@@ -217,12 +213,7 @@ first-of role (slot ∷ rest) (Some t) left s e c =
     }
   where
     of-turn : (o : Option Spoken) → Some (slot.sent, slot.number) ≡ told_by_turn o → Crosses o (Passed s) → slot.sent ≡ s
-    of-turn None q d = absurd d
-    of-turn (Some m) q d = ap sent-of q ∙ sym d.0
-      where
-        sent-of : Option (Sent × ℕ) → Sent
-        sent-of None = slot.sent
-        sent-of (Some p) = p.0
+    of-turn o q d = grind (arith)
 
 -- nothing of what stands first is new where all was taken and given
 old-segment : (from to : Account) (line tl : List Slot) (ns nr : ℕ) (pf : Bool) (info : List ℕ) → First line (slots.Frame (I ns nr pf info))
@@ -248,10 +239,7 @@ old-break from to line tl command pf info f by all number length_octet w =
     odd number f.slot.number (length to.their_breaks.lengths) k.number_is last)
   where
     odd : (number n m : ℕ) → number ≡ n % 2 → m ≡ n + 1 → nat_eq number (m % 2) ≡ false
-    odd number n m p q = differs number (m % 2) (λ z. omega (arith, z, p, q))
-      where
-        differs : (x y : ℕ) → x ≢ y → nat_eq x y ≡ false
-        differs x y h = grind (arith, nat_tests)
+    odd number n m p q = grind (arith)
 
     go : (b : Bool) → b ≡ false → cond b (Some length_octet) None ≡ None
     go q0 z = grind (arith)
@@ -382,19 +370,10 @@ ignores : (p : Phase) (command pf : Bool) (info : List ℕ) (turn : ℕ) (a : Ac
 ignores p command pf info turn a e = grind (arith)
 
 same-ok : (r : Result Account LinkFault) (x y : Account) → r ≡ Ok x → r ≡ Ok y → x ≡ y
-same-ok r x y e k = ap ok-of (sym e ∙ k)
-  where
-    ok-of : Result Account LinkFault → Account
-    ok-of (Ok z) = z
-    ok-of fault = x
+same-ok r x y e k = grind (arith)
 
 pub early_breaks_are_ignored : KnowingLaws → EarlyBreaksAreIgnored
-early_breaks_are_ignored laws link delay ts ends t mid v c k role command pf info closed e =
-    let a = of role ends in
-    let early : has_begun a.phase ≡ false = opens_by_frames laws link delay ts ends v role ∙ closed in
-    same-ok (hear (length ts) (arrivals.Frame (Ui command pf info)) a) (of role mid) a
-    (subst (λ h. hear (length ts) (arrival h) a ≡ Ok (of role mid)) e (k role).hears)
-    (ignores a.phase command pf info (length ts) a early)
+early_breaks_are_ignored laws link delay ts ends t mid v c k role command pf info closed e = grind (arith, opens_by_frames, same-ok, ignores)
 
 pub segments_pass_later : KnowingLaws → SegmentsPassLater
 segments_pass_later laws link delay ts ends t v c role ns nr pf info e =

@@ -81,19 +81,7 @@ none-is-some x xs e = omega (arith, ap length e)
 -- a slot on a line, as a turn tells it
 pub told-slot : (slot : Slot) (s : Option run.Spoken) → Some (slot.sent, slot.number) ≡ told_by_turn s → (h : Heard) → Crosses s h
     → (check : Check) → Crosses (Some (record { sent = slot.sent; number = slot.number; check = check })) h
-told-slot slot None e h c check = absurd (false≢true (sym (ap is_some e)))
-told-slot slot (Some s) e h c check =
-    subst (λ z. Crosses (Some (record { sent = z; number = slot.number; check = check })) h) (sym (ap sent-of e)) (sent-alone h c)
-  where
-    sent-of : Option (Sent × ℕ) → Sent
-    sent-of None = slot.sent
-    sent-of (Some p) = p.0
-
-    sent-alone : (h : Heard) → Crosses (Some s) h → Crosses (Some (record { sent = s.sent; number = slot.number; check = check })) h
-    sent-alone Nothing c = c
-    sent-alone (Passed z) c = c
-    sent-alone (Lost z) c = c
-    sent-alone Chance c = c
+told-slot slot s e h c check = grind (arith)
 
 arriving : (role : Role) (turn : ℕ) (x y b : Account) (lx ly : List Slot) (t : Option Turn) (left : List (Option run.Spoken)) (h : Heard)
     → told_by_play lx ≡ map told_by_turn (made role t ++ left) → Crosses (sent_in role t) h → hear turn (arrival h) y ≡ Ok b
@@ -132,10 +120,7 @@ arriving role turn x y b (slot ∷ rest) ly (Some t) left h e c k =
 pub arrives-next : (role : Role) (turn d : ℕ) (ts : List Turn) (x y b : Account) (lx ly : List Slot) (h : Heard) → 1 ≤ d
     → told_by_play lx ≡ map told_by_turn (on_line d role ts) → Crosses (sent_ago d role ts) h → hear turn (arrival h) y ≡ Ok b
     → Came role x b lx ly y (on_line (d - 1) role ts)
-arrives-next role turn d ts x y b lx ly h some e c k =
-    let same : d ≡ suc (d - 1) = omega (arith, some) in
-    arriving role turn x y b lx ly (slice_get ts (d - 1)) (on_line (d - 1) role ts) h
-    (e ∙ ap (map told_by_turn) (ap (λ m. on_line m role ts) same ∙ oldest role (d - 1) ts)) c k
+arrives-next role turn d ts x y b lx ly h some e c k = grind (arith, arriving, oldest)
 
 -- one more slot is on the line
 pub behind : (role : Role) (d : ℕ) (t : Turn) (ts : List Turn) → 1 ≤ d
@@ -159,12 +144,7 @@ with_given x g = record x { incoming = record x.incoming { given = g } }
 
 delivered-next : (x : Account) → is_connected x.phase ≡ true → x.incoming.given < length x.incoming.taken
     → after_delivery x ≡ with_given x (x.incoming.given + 1)
-delivered-next x e less = go (is_connected x.phase) (nat_lt x.incoming.given (length x.incoming.taken)) e (grind (arith, nat_tests))
-  where
-    go : (b c : Bool) → b ≡ true → c ≡ true
-        → cond b (record x { incoming = cond c (with_given x (x.incoming.given + 1)).incoming x.incoming }) x ≡ with_given x
-        (x.incoming.given + 1)
-    go q0 c e k = grind (arith)
+delivered-next x e less = grind (arith)
 
 delivers-all : (n : ℕ) (role : Role) (x y : Account) (lx ly : List Slot) → x.incoming.given + n ≡ length x.incoming.taken
     → is_connected x.phase ≡ true

@@ -85,13 +85,7 @@ own_segments_stay size n file =
 
 -- what is wanted
 wants-open : (a : Account) (n : ℕ) → wants a ≡ Some n → a.outgoing.ended ≡ false
-wants-open a n e = go (is_connected a.phase) a.outgoing.ended (nat_lt (length a.outgoing.pieces) (a.outgoing.front + a.outgoing.window)) e
-  where
-    none : {x : ℕ} → None ≡ Some x → ⊥
-    none z = false≢true (ap is_some z)
-
-    go : (b c d : Bool) → cond b (cond (not c && d) (Some (length a.outgoing.pieces)) None) None ≡ Some n → c ≡ false
-    go q0 c d z = grind (arith)
+wants-open a n e = grind (arith)
 
 pub offers_what_is_read : OffersWhatIsRead
 offers_what_is_read file a n piece h e short =
@@ -201,8 +195,7 @@ offers-piece (x ∷ xs) a e = record {
 }
 
 offers-at : (file : List ℕ) (a : Account) (w : Option ℕ) → wants a ≡ w → Offers a (offered_at file a w)
-offers-at file a None e = none-less a
-offers-at file a (Some n) e = offers-piece (piece_at (piece_size a) file n) a (wants-open a n e)
+offers-at file a w e = grind (arith, none-less, offers-piece, wants-open)
 
 offers-times : (n : ℕ) (file : List ℕ) (a : Account) → Offers a (offered_times n file a)
 offers-times zero file a = none-less a
@@ -251,14 +244,7 @@ served-same u file others turn released a h s =
 -- speaking offers nothing
 pub same-spoken : (file others : List ℕ) (release : Bool) (a b : Account) → Speaks release a b → SameSoFar b.outgoing file others
     → SameSoFar a.outgoing file others
-same-spoken file others release a b (Keeps_on e) s =
-    let pieces = ap (λ (l : Ledger). l.books.pieces) e in
-    same-earlier file others a.outgoing b.outgoing (sym (ap (λ (l : Ledger). l.size) e)) (omega (arith, ap length pieces))
-    (λ z. ap (λ (l : Ledger). l.books.ended) e ∙ z) s
-same-spoken file others release a b (Releases on role linked e k) s =
-    let pieces = ap (λ (l : Ledger). l.books.pieces) e in
-    same-earlier file others a.outgoing b.outgoing (sym (ap (λ (l : Ledger). l.size) e)) (omega (arith, ap length pieces))
-    (λ z. ap (λ (l : Ledger). l.books.ended) e ∙ z) s
+same-spoken file others release a b q5 s = grind (arith, same-earlier)
 
 -- serving offers no less
 pub same-served : (u : User) (file others : List ℕ) (turn : ℕ) (released : Bool) (a : Account)
@@ -275,16 +261,7 @@ same-served u file others turn released a s =
 -- an end that becomes Connected was offered nothing before
 pub same-heard : (file others : List ℕ) (a b : Account) → Unoffered a → GoesOn a b → SameSoFar b.outgoing file others
     → SameSoFar a.outgoing file others
-same-heard file others a b un (inl g) s =
-    same-earlier file others a.outgoing b.outgoing (sym g.size) (omega (arith, ap (λ (k : Books). length k.pieces) g.books_are))
-    (λ z. ap (λ (k : Books). k.ended) g.books_are ∙ z) s
-same-heard file others a b un (inr g) s = record {
-  front = nothing (a.outgoing.size * length a.outgoing.pieces) (rw (un.none g.was) (omega arith));
-  whole = λ z. absurd (false≢true (sym (un.going g.was) ∙ z));
-}
-  where
-    nothing : (n : ℕ) → n ≡ 0 → take n others ≡ take n file
-    nothing n e = rw e refl
+same-heard file others a b un q5 s = grind (arith, same-earlier)
 
 pub runs_by_what_was_read : ReadsAllowed → KeepsTaken → RunsByWhatWasRead
 runs_by_what_was_read reads keeps link files others [] ends allowed h same = h
@@ -310,8 +287,7 @@ runs_by_what_was_read reads keeps link files others (t ∷ ts) ends allowed h sa
     turn = length ts
 
     is-allowed : (r : Role) → IsAllowed (of r old).setup.offer
-    is-allowed Originator = allowed Originator
-    is-allowed Answerer = allowed Answerer
+    is-allowed r = grind (arith)
 
     cut : (r : Role) → IsOffered (of r old).user.file (of r mid)
     cut = kept-heard reads keeps (HasCut old) old (cuts-kept old is-allowed) turn h.0 t mid

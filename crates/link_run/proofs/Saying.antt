@@ -36,14 +36,7 @@ pub record Says (p : Phase) (a : Account) (said : Said) : Type 0 where
 other : (p : Phase) (a : Account) (said : Said) → carries is_ua said.sent ≡ false → carries is_segment said.sent ≡ false
     → carries is_disc said.sent ≡ false → (carries is_counted said.sent ≡ true → stage p ≡ 1)
     → owes_ua said.account.owes.answer ≡ owes_ua a.owes.answer → part said.account ≡ part a → Says p a said
-other p a said u s d c o e = record {
-  ua = λ z. absurd (false≢true (sym u ∙ z));
-  owes = λ z. sym o ∙ z;
-  part_is = e;
-  counted = c;
-  segment = λ z. absurd (false≢true (sym s ∙ z));
-  disc = λ z. absurd (false≢true (sym d ∙ z));
-}
+other p a said u s d c o e = grind (arith)
 
 -- what an answer is, and RR or RNR
 answer-is : (d : Answer) (b : Account) → (carries is_ua (frame_for d b) ≡ owes_ua (Some d)) × (carries is_counted (frame_for d b) ≡ false)
@@ -57,38 +50,18 @@ ready-is q0 command pf nr = grind (arith)
 
 answered : (p : Phase) (a : Account) (d : Answer) (b : Account) → part b ≡ part a → a.owes.answer ≡ Some d
     → Says p a (says (frame_for d b) (record b { owes = record b.owes { answer = None } }))
-answered p a d b same e = let k = answer-is d b in record {
-  ua = λ z. ap owes_ua e ∙ sym k.0 ∙ z;
-  owes = λ z. absurd (false≢true z);
-  part_is = same;
-  counted = λ z. absurd (false≢true (sym k.1 ∙ z));
-  segment = λ z. absurd (false≢true (sym k.2 ∙ z));
-  disc = λ z. absurd (false≢true (sym k.3 ∙ z));
-}
+answered p a d b same e = grind (arith, answer-is)
 
 disconnects : (p : Phase) (a b : Account) → part b ≡ part a → b.owes.answer ≡ a.owes.answer → 2 ≤ stage b.phase
     → Says p a (says_frame (Disc true) b)
-disconnects p a b same o later = record {
-  ua = λ z. absurd (false≢true z);
-  owes = λ z. ap owes_ua (sym o) ∙ z;
-  part_is = same;
-  counted = λ z. absurd (false≢true z);
-  segment = λ z. absurd (false≢true z);
-  disc = λ z. later;
-}
+disconnects p a b same o later = grind (arith)
 
 allowed : (b : Bool) (o : Option ℕ) (n : ℕ) → cond b o None ≡ Some n → b ≡ true
 allowed q0 o n e = grind (arith)
 
 asked-part : (n : ℕ) (i : Incoming)
     → ((after_asked n i).taken ≡ i.taken) × ((after_asked n i).held ≡ i.held) × ((after_asked n i).srej ≡ i.srej)
-asked-part n i = go i.srej refl
-  where
-    go : (b : Bool) → i.srej ≡ b
-        → ((cond b (record i { asked = i.asked ++ n ∷ [] }) (record i { rej = false })).taken ≡ i.taken)
-        × ((cond b (record i { asked = i.asked ++ n ∷ [] }) (record i { rej = false })).held ≡ i.held)
-        × ((cond b (record i { asked = i.asked ++ n ∷ [] }) (record i { rej = false })).srej ≡ i.srej)
-    go q0 e = grind (arith)
+asked-part n i = grind (arith)
 
 same-part : (a : Account) (t : List (List ℕ)) (h : List Held) (s : Bool) → t ≡ a.incoming.taken → h ≡ a.incoming.held → s ≡ a.incoming.srej
     → record { taken = t; held = h; srej = s; numbered = a.numbered } ≡ part a

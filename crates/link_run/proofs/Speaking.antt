@@ -51,12 +51,7 @@ out-ledger : (a : Account) (ps : List (List ℕ)) (e : Bool) (s : ℕ) → ps �
 out-ledger a ps e s p q r = rw (p, q, r) refl
 
 asked-in : (n : ℕ) (i : Incoming) → ((after_asked n i).given ≡ i.given) × ((after_asked n i).taken ≡ i.taken)
-asked-in n i = go i.srej
-  where
-    go : (b : Bool) → ((cond b (record i { asked = i.asked ++ n ∷ [] }) (record i { rej = false })).given ≡ i.given)
-        × ((cond b (record i { asked = i.asked ++ n ∷ [] }) (record i { rej = false })).taken ≡ i.taken)
-    go true = (refl, refl)
-    go false = (refl, refl)
+asked-in n i = grind (arith)
 
 in-ledger : (a : Account) (g : ℕ) (t : List (List ℕ)) → g ≡ a.incoming.given → t ≡ a.incoming.taken
     → record {
@@ -142,22 +137,8 @@ speaks-pieces turn release a said e = go (speaks turn release a said e)
 -- what stands in Releasing and Closed
 pub stands-spoken : (turn : ℕ) (release : Bool) (a : Account) (said : Said) → 2 ≤ stage a.phase → speak turn release a ≡ Ok said
     → standing said.account ≡ standing a
-stands-spoken turn release a said h e = by-ways (λ said. standing said.account ≡ standing a) turn release a (record {
-  answers = λ alone d e. refl;
-  flags = λ alone e. refl;
-  mark = λ p r e. refl;
-  odp = λ p r e. refl;
-  xid = λ p r. tries-alike _ _ _ a (λ w. refl) refl;
-  sabme = λ p. tries-alike _ _ _ a (λ w. refl) refl;
-  linked = λ p r. absurd (omega (arith, h, ap stage p));
-  releases = λ p r. absurd (omega (arith, h, ap stage p));
-  disc = λ p. tries-alike _ _ _ a (λ w. refl) refl;
-}) said e
+stands-spoken turn release a said h e = grind (arith, by-ways)
 
 pub breaks-for-want : (turn : ℕ) (release : Bool) (a : Account) (fault : LinkFault) → speak turn release a ≡ Err fault
     → WantsAnswers (Some fault)
-breaks-for-want turn release a fault e = go (why-broken turn release a fault e)
-  where
-    go : Breaks turn release a fault → WantsAnswers (Some fault)
-    go (Undetected p r l f) = subst (λ x. WantsAnswers (Some x)) (sym f) tt
-    go (Spends x f) = subst (λ x. WantsAnswers (Some x)) (sym f) tt
+breaks-for-want turn release a fault e = grind (arith, why-broken)
