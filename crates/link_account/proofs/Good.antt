@@ -1,11 +1,8 @@
 -- What holds all through a play of two ends of ours.
 use Rattle.std.proofs.Common.{◌≡◌, ℕ, ◌≤◌, Bool, true, false, List, [], ◌∷◌, arith, ◌∙◌, Option, Some, None}
-use Rattle.link_account.proofs.Names.{AllByRecursion, Originator, Answerer, Sabme, Disc, Ua, Dm, Xid, Terms, agree, offer_in, written}
-use Rattle.link_account.proofs.Names.{Sent, Account, Slot}
-use Rattle.link_account.specs.declared.setup.Setup.{Setup}
-use Rattle.link_account.specs.declared.phase.Phase.{Phase}
-use Rattle.link_account.specs.declared.phase.Phase.TheVariants.{Detecting, Negotiating, Establishing, Connected, Releasing, Closed}
-use Rattle.link_account.specs.declared.answer.Answer.{Answer}
+use Rattle.link_account.proofs.Names.{Account, AllByRecursion, Answer, Answerer, Closed, Connected, Detecting, Disc, Dm, Establishing}
+use Rattle.link_account.proofs.Names.{Negotiating, Originator, Phase, Releasing, Sabme, Sent, Setup, Slot, Terms, Ua, Xid, agree, offer_in}
+use Rattle.link_account.proofs.Names.{written}
 use Rattle.link_account.proofs.Flow.{all_weaker}
 use Rattle.link_account.proofs.Ends.{Goes, back-forgotten, line-lost}
 use Rattle.link_account.proofs.Linked.{Linked, IsNumbered, IsLinked}
@@ -129,7 +126,7 @@ pub from_a-later : (sa : Setup) (k m k' m' : ℕ) (sent : Sent) (n told : ℕ) �
 from_a-later sa k m k' m' sent n told e f h = grind (arith)
 
 pub due-later : (k m k' m' : ℕ) (answer : Option Answer) → k ≤ k' → m ≤ m' → DueA k m answer → DueA k' m' answer
-due-later k m k' m' q4 e f h = grind (arith)
+due-later k m k' m' x e f h = grind (arith)
 
 -- the two ends as linked ends
 pub linked-o : (so sa : Setup) (o a : Account) (lo la : List Slot) → Good so sa o a lo la

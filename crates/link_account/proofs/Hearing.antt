@@ -1,17 +1,13 @@
 -- Hearing keeps a play good.
 use Rattle.std.proofs.Common.{◌≡◌, ℕ, ◌≤◌, ◌||◌, Bool, true, false, cond, List, ◌∷◌, arith, refl, sym, ◌∙◌, ap, subst, Option, Some, None}
 use Rattle.std.proofs.Common.{Result, Ok, Err}
-use Rattle.link_account.proofs.Names.{Role, Originator, Answerer, other, Frame, I, Rr, Rnr, Rej, Srej, Sabme, Disc, Ua, Dm, Xid, agree}
-use Rattle.link_account.proofs.Names.{offer_in, written, Sent, LinkFault, Account, is_originator, hear, on_frame, owing, trying, on_nothing}
-use Rattle.link_account.proofs.Names.{without_adp, Slot, arrives}
+use Rattle.link_account.proofs.Names.{Account, Answer, Answerer, Closed, Connected, Detecting, Disc, Dm, Establishing, Frame, I, LinkFault}
+use Rattle.link_account.proofs.Names.{Negotiating, Originator, Phase, Rej, Releasing, Rnr, Role, Rr, Sabme, Sent, Setup, Slot, Srej, Ua}
+use Rattle.link_account.proofs.Names.{Xid, agree, arrives, connected, hear, is_originator, offer_in, on_closed, on_connected, on_detecting}
+use Rattle.link_account.proofs.Names.{on_disc, on_establishing, on_frame, on_negotiating, on_nothing, on_pattern, on_releasing, on_sabme}
+use Rattle.link_account.proofs.Names.{on_seen, on_xid_command, on_xid_response, other, owing, peer_reset, trying, window_for, without_adp}
+use Rattle.link_account.proofs.Names.{written}
 use Rattle.lapm_frames.specs.declared.frame.Frame.TheVariants.{Frmr, Test}
-use Rattle.link_account.specs.declared.setup.Setup.{Setup}
-use Rattle.link_account.specs.declared.phase.Phase.{Phase}
-use Rattle.link_account.specs.declared.phase.Phase.TheVariants.{Detecting, Negotiating, Establishing, Connected, Releasing, Closed}
-use Rattle.link_account.specs.declared.answer.Answer.{Answer}
-use Rattle.link_account.specs.Account.{window_for}
-use Rattle.link_account.specs.Hear.{on_connected, on_detecting, on_negotiating, on_establishing, on_releasing, on_closed, on_xid_command}
-use Rattle.link_account.specs.Hear.{on_xid_response, on_sabme, peer_reset, on_disc, on_seen, on_pattern, connected}
 use Rattle.link_account.proofs.Ends.{Goes}
 use Rattle.link_account.proofs.Linked.{IsNumbered, IsLinked, HearsWell, hears-linked, counts_as_numbered}
 use Rattle.link_account.proofs.Good.{rank, DueA, IsFresh, PlaceO, PlaceA, NoSabme, terms_of, Good, linked-o, linked-a, lost-o, lost-a}
@@ -157,7 +153,7 @@ module _ (so sa : Setup) (o a : Account) (lo la : List Slot) where
     where
       go : (b : Bool) → a.numbered ≡ b → (r : Role) → r ≡ Answerer
           → IsWellA (cond (b || is_originator r) (Err (peer_reset a)) (Ok (owing (answers.Ua pf) a)))
-      go q0 t r q = grind (arith)
+      go x t r q = grind (arith)
 
   a-disc : (n told : ℕ) (pf : Bool) → BeforeA (framed (Disc pf) n told) → a.phase ≡ Connected → IsWellA (on_disc Answerer pf a)
   a-disc n told pf h e =
