@@ -1,16 +1,13 @@
 -- How many segments an end has sent, and which of them go again, is counted by the numbers modulo 128 as by the meant ones.
-use Rattle.std.proofs.Common.{◌≡◌, ◌≢◌, inl, inr, ℕ, zero, suc, ◌+◌, ◌%◌, ◌≤◌, ◌||◌, max, Bool, true, false, cond, nat_eq, nat_lt, List, []}
-use Rattle.std.proofs.Common.{◌∷◌, ◌++◌, length, arith, refl, sym, ◌∙◌, ap, subst, Option, Some, None, Ok}
-use Rattle.link_account.proofs.Names.{false≢true, nat_tests, Role, Originator, Answerer, of, ReadsAllowed, Frame, I, Outgoing, with_piece}
-use Rattle.link_account.proofs.Names.{KeepsTaken, Sent, Account, wants, piece_size, after_given, MayPlay, Said}
-use Rattle.link_run.proofs.Names.{User, delivered, piece_at}
-use Rattle.link_run.proofs.Names.{offered_at, offered_times, room_for, served, is_released, Link, Accounts, Spoken, Turn, arrival}
-use Rattle.link_run.proofs.Names.{GoingTurn, start, said_at, served_at, releases, Carries, RunsOver}
-use Rattle.link_account.specs.Laws.{IsInRange, SendsInOrder, SendsInRange}
-use Rattle.link_run.specs.Laws.{IsPlayed}
+use Rattle.std.proofs.Common.{◌≡◌, ◌≢◌, ℕ, zero, suc, ◌+◌, ◌%◌, ◌≤◌, ◌||◌, max, Bool, true, false, cond, nat_eq, nat_lt, List, [], ◌∷◌}
+use Rattle.std.proofs.Common.{◌++◌, length, arith, refl, sym, ◌∙◌, ap, subst, Option, Some, None, Ok}
+use Rattle.link_account.proofs.Names.{false≢true, nat_tests, Role, of, ReadsAllowed, Frame, Outgoing, with_piece, KeepsTaken, Sent, Account}
+use Rattle.link_account.proofs.Names.{wants, MayPlay, Said}
+use Rattle.link_run.proofs.Names.{Accounts, Carries, GoingTurn, IsInRange, IsPlayed, Link, RunsOver, SendsInOrder, SendsInRange, Spoken}
+use Rattle.link_run.proofs.Names.{Turn, User, arrival, offered_at, offered_times, said_at, served, start}
 use Rattle.link_run.specs.Counts.{number_in, segment_number, is_number, numbers_sent, repeated, sequence_number, sequence_in, sequence_of}
 use Rattle.link_run.specs.Counts.{next_count, again_in, CountsByNumber, SentBelowHigh}
-use Rattle.link_run.proofs.Keeping.{GoesOn, hears, not-begun}
+use Rattle.link_run.proofs.Keeping.{GoesOn, hears}
 use Rattle.link_run.proofs.Serving.{served-alone}
 use Rattle.link_run.proofs.Running.{runs_are_plays, hearings_are_plays}
 use Rattle.link_run.proofs.Numbering.{SentAs, Alike, sends-as}
@@ -46,7 +43,7 @@ served-alike u turn released a = grind (arith, offered-alike, served-alone, deli
 
 -- hearing sends nothing
 heard-high : (a b : Account) → SendsInOrder a → GoesOn a b → b.outgoing.high ≡ a.outgoing.high
-heard-high a b s q3 = grind (arith)
+heard-high a b s x = grind (arith)
 
 -- both ends of a play
 both-in-order : SendsInRange → (link : Link) → MayPlay link.orig.setup link.answ.setup → (ends : Accounts)
@@ -156,7 +153,7 @@ pub sent_below_high : ReadsAllowed → KeepsTaken → SendsInRange → SentBelow
 sent_below_high reads keeps sends link delay [] ends v r n = none r ∙ ap (λ (e : Accounts). nat_lt n (of r e).outgoing.high) (sym v.run)
   where
     none : (r : Role) → false ≡ nat_lt n (of r (start link)).outgoing.high
-    none q0 = grind (arith)
+    none x = grind (arith)
 sent_below_high reads keeps sends link delay (t ∷ ts) ends v r n =
     let before : RunsOver link delay ts v.run.0 =
     record { may_play = v.may_play; delays = v.delays; carried = v.carried.1; run = v.run.1 } in

@@ -5,9 +5,7 @@ use Rattle.link_account.proofs.Names.{false≢true, nat_tests, append_assoc, All
 use Rattle.link_account.proofs.Names.{after_take, next_expected, Took, InOrder, Kept, Repeat, Gap}
 use borrow.Author.Tests.{eqb-true}
 use Rattle.std.specs.List.{concat}
-use Rattle.lapm_receiver.specs.Held.{Held, is_held, with_held, run_from, rest_from}
-use Rattle.lapm_receiver.specs.Incoming.{kind_at}
-use Rattle.link_account.specs.Laws.{IsTakenBy}
+use Rattle.link_run.proofs.Names.{Held, IsTakenBy, is_held, kind_at, rest_from, run_from, with_held}
 use Rattle.link_run.specs.Taken.{Segment, is_among, beyond, missing_from, missing, keeping, info_of, infos_from, octets_in}
 
 -- what is held rises from a number on
@@ -36,14 +34,9 @@ run-held : (r k : ℕ) (hs : List Held) → r ≤ k → k < r + length (run_from
 run-held r k [] low high = absurd (omega (arith, low, high))
 run-held r k (x ∷ hs) low high = go (nat_eq x.number r) refl (run-held (r + 1) k hs) high
   where
-    inner : x.number ≡ r → k < r + (length (run_from (r + 1) hs) + 1)
-        → (r + 1 ≤ k → k < r + 1 + length (run_from (r + 1) hs) → is_held k hs ≡ true) → (c : Bool) → nat_eq x.number k ≡ c
-        → (c || is_held k hs) ≡ true
-    inner e h ih c z = grind (arith, same-is)
-
     go : (b : Bool) → nat_eq x.number r ≡ b → (r + 1 ≤ k → k < r + 1 + length (run_from (r + 1) hs) → is_held k hs ≡ true)
         → k < r + length (cond b (x.info ∷ run_from (r + 1) hs) []) → (nat_eq x.number k || is_held k hs) ≡ true
-    go q0 e ih h = grind (arith)
+    go x e ih h = grind (arith)
 
 run-stops : (r : ℕ) (hs : List Held) → Rises r hs → is_held (r + length (run_from r hs)) hs ≡ false
 run-stops r [] h = refl
@@ -86,24 +79,18 @@ with-held : (s : Held) (k : ℕ) (hs : List Held) → is_held k (with_held s hs)
 with-held s k [] = refl
 with-held s k (x ∷ hs) = go (nat_lt s.number x.number) (with-held s k hs)
   where
-    swap : (a b c : Bool) → (a || (b || c)) ≡ (b || (a || c))
-    swap a b c = grind (arith)
-
     go : (b : Bool) → is_held k (with_held s hs) ≡ (nat_eq s.number k || is_held k hs)
         → is_held k (cond b (s ∷ x ∷ hs) (x ∷ with_held s hs)) ≡ (nat_eq s.number k || (nat_eq x.number k || is_held k hs))
-    go q0 ih = grind (arith)
+    go x ih = grind (arith)
 
 or-false : (b c : Bool) → (b || c) ≡ false → (b ≡ false) × (c ≡ false)
-or-false q0 c e = grind (arith)
+or-false x c e = grind (arith)
 
 with-rises : (low : ℕ) (s : Held) (hs : List Held) → Rises low hs → low ≤ s.number → is_held s.number hs ≡ false
     → Rises low (with_held s hs)
 with-rises low s [] r l n = (l, tt)
 with-rises low s (x ∷ hs) r l n = go (nat_lt s.number x.number) refl (with-rises (x.number + 1) s hs r.1)
   where
-    parts : (nat_eq x.number s.number ≡ false) × (is_held s.number hs ≡ false)
-    parts = or-false (nat_eq x.number s.number) (is_held s.number hs) n
-
     go : (b : Bool) → nat_lt s.number x.number ≡ b
         → (x.number + 1 ≤ s.number → is_held s.number hs ≡ false → Rises (x.number + 1) (with_held s hs))
         → Rises low (cond b (s ∷ x ∷ hs) (x ∷ with_held s hs))
@@ -114,24 +101,24 @@ among-more : (n : ℕ) (ss : List Segment) (s : Segment) → is_among n (ss ++ s
 among-more n [] s = or-last (nat_eq s.number n)
   where
     or-last : (b : Bool) → (b || false) ≡ b
-    or-last q0 = grind (arith)
+    or-last x = grind (arith)
 among-more n (x ∷ ss) s =
     ap (λ b. nat_eq x.number n || b) (among-more n ss s) ∙ sym (assoc (nat_eq x.number n) (is_among n ss) (nat_eq s.number n))
   where
     assoc : (a b c : Bool) → ((a || b) || c) ≡ (a || (b || c))
-    assoc q0 b c = grind (arith)
+    assoc x b c = grind (arith)
 
 pub or-true-left : (b c : Bool) → b ≡ true → (b || c) ≡ true
 or-true-left b c e = ap (λ z. z || c) e
 
 pub or-true-right : (b c : Bool) → c ≡ true → (b || c) ≡ true
-or-true-right q0 c e = grind (arith)
+or-true-right x c e = grind (arith)
 
 or-both-false : (b c : Bool) → b ≡ false → c ≡ false → (b || c) ≡ false
 or-both-false b c e f = ap (λ z. z || c) e ∙ f
 
 or-right-false : (b c : Bool) → c ≡ false → (b || c) ≡ b
-or-right-false q0 c e = grind (arith)
+or-right-false x c e = grind (arith)
 
 among-beyond : (n : ℕ) (ss : List Segment) → is_among n ss ≡ true → n < beyond ss
 among-beyond n [] e = absurd (false≢true e)
@@ -237,7 +224,7 @@ kept-later ss r held s srej on t h not = record {
 }
   where
     or-swap : (a b : Bool) → (a || b) ≡ (b || a)
-    or-swap q0 q1 = grind (arith)
+    or-swap x y = grind (arith)
 
 -- what a segment is to a receiver's part, by how far its number is ahead
 not-kept : (i : Incoming) (o : ℕ) → i.srej ≡ false → kind_at i o ≡ Kept → ⊥
@@ -257,9 +244,6 @@ pub one-comes : (srej : Bool) (ss : List Segment) (i : Incoming) (s : Segment) (
 one-comes srej ss i s ns t on by spelled near width =
     go (nat_lt s.number (length i.taken)) refl (nat_eq s.number (length i.taken)) refl i.srej refl
   where
-    r : ℕ
-    r = length i.taken
-
     still : (s.number ≢ length i.taken) → (kind_of ns i ≡ Kept → ⊥) → keeping srej ss s ≡ ss
         → Tracks (keeping srej ss s) (after_take ns s.info i)
     still other not-k same = grind (arith, same-tracks, idle-kind)

@@ -1,20 +1,16 @@
 -- The segments that an end was offered are its user's file, cut at the agreed length.
-use Rattle.std.proofs.Common.{◌≡◌, inl, inr, ℕ, zero, suc, ◌+◌, ◌*◌, ◌<◌, ◌≤◌, ◌&&◌, not, Bool, true, false, cond, nat_lt, List, [], ◌∷◌}
-use Rattle.std.proofs.Common.{◌++◌, length, take, drop, arith, length-append, refl, sym, ◌∙◌, ap, subst, Option, Some, None}
-use Rattle.link_account.proofs.Names.{false≢true, nat_tests, append-nil, append_assoc, take-append-drop, is_some, Terms, IsAllowed, Role}
-use Rattle.link_account.proofs.Names.{Originator, Answerer, Outgoing, wanted, with_piece, Account, fresh, is_connected, wants, piece_size}
-use Rattle.link_account.proofs.Names.{after_given, after_busy, IsPrefixOf}
-use Rattle.link_run.proofs.Names.{Setup, Phase, Connected, User, delivered}
-use Rattle.link_run.proofs.Names.{piece_at, offered_at, offered_times, room_for, offered, is_busy, served}
+use Rattle.std.proofs.Common.{◌≡◌, inl, inr, ℕ, zero, suc, ◌+◌, ◌*◌, ◌<◌, ◌≤◌, Bool, true, false, cond, List, [], ◌∷◌, ◌++◌, length, take}
+use Rattle.std.proofs.Common.{drop, arith, length-append, refl, sym, ◌∙◌, ap, subst, Option, Some, None}
+use Rattle.link_account.proofs.Names.{false≢true, nat_tests, append-nil, append_assoc, take-append-drop, Terms, IsAllowed, Role, Outgoing}
+use Rattle.link_account.proofs.Names.{with_piece, Account, fresh, is_connected, wants, piece_size, after_given, after_busy, IsPrefixOf}
+use Rattle.link_run.proofs.Names.{IsCut, IsOffered, Phase, Setup, User, delivered, is_busy, offered, offered_at, offered_times, piece_at}
+use Rattle.link_run.proofs.Names.{room_for, served, size_for}
 use Rattle.std.proofs.Math.Seq.{take-add}
 use Rattle.std.proofs.lemmas.List.{take_all, length-take, length-drop}
 use Rattle.std.proofs.lemmas.List.Folds.{concat-append}
 use Rattle.std.specs.List.{concat}
-use Rattle.std.specs.Prelude.{unwrap_or}
-use Rattle.link_account.specs.Account.{size_for}
-use Rattle.link_run.specs.Reading.{IsCut, IsOffered}
 use Rattle.link_run.proofs.Keeping.{Books, stage, AreTerms, GoesOn}
-use Rattle.link_run.proofs.Speaking.{Ledger, Speaks, Keeps_on, Releases}
+use Rattle.link_run.proofs.Speaking.{Speaks}
 use Rattle.link_run.proofs.Serving.{asks-alone, busy-alone}
 
 pub none-cut : (file : List ℕ) (size : ℕ) → IsCut file size [] false
@@ -65,7 +61,7 @@ pub as-cut : (file : List ℕ) (s s' : ℕ) (ps ps' : List (List ℕ)) (e e' : B
 as-cut file s s' ps ps' e e' p q r h = rw (p, q, r) h
 
 size-of : (r : Role) (t : Terms) → AreTerms t → 1 ≤ size_for r t
-size-of q0 t h = grind (arith)
+size-of x t h = grind (arith)
 
 pub linked-stage : (p : Phase) → is_connected p ≡ true → stage p ≡ 1
 linked-stage p e = grind (arith)
@@ -97,9 +93,6 @@ heard-cuts file a b h (inr e) =
           (none-cut file (size_for b.setup.role b.terms));
     }
 
-wanted-is : (o : Outgoing) (n : ℕ) → wanted o ≡ Some n → n ≡ length o.pieces
-wanted-is o n e = grind (arith)
-
 pub record Wants (a : Account) (n : ℕ) : Type 0 where
   pub linked : is_connected a.phase ≡ true
   pub number : n ≡ length a.outgoing.pieces
@@ -111,7 +104,7 @@ pub piece-size-is : (a : Account) → is_connected a.phase ≡ true → piece_si
 piece-size-is a e = ap (λ b. cond b a.outgoing.size 0) e
 
 pub piece-sizes : (p : List ℕ) (o : Outgoing) → (with_piece p o).size ≡ o.size
-piece-sizes q0 o = grind (arith)
+piece-sizes x o = grind (arith)
 
 pub offered-cuts-at : (file : List ℕ) (a : Account) (w : Option ℕ) → wants a ≡ w → IsOffered file a → IsOffered file (offered_at file a w)
 offered-cuts-at file a None e h = h
@@ -151,7 +144,7 @@ served-cuts u turn released a h =
     (record { allowed = b.allowed; terms = b.terms; size = b.size; cut = b.cut })
 
 pub spoken-cuts : (file : List ℕ) (release : Bool) (a b : Account) → IsOffered file a → Speaks release a b → IsOffered file b
-spoken-cuts file release a b h q5 = grind (arith)
+spoken-cuts file release a b h x = grind (arith)
 
 -- segments that begin those that were offered begin the file
 pub begins-file : (file : List ℕ) (a : Account) (taken : List (List ℕ)) → IsOffered file a → IsPrefixOf taken a.outgoing.pieces

@@ -2,8 +2,8 @@
 use Rattle.std.proofs.Common.{arith, ◌≡◌, ◌⊎◌, inl, inr, ℕ, Bool, true, false, refl, Option, Some, None, Ok}
 use Rattle.link_account.proofs.Names.{Originator, Frame, Sabme, Disc, Ua, Xid, written, Sent, Account, Said, speak, frame_for, ready_frame}
 use Rattle.link_account.proofs.Names.{trying}
-use Rattle.link_run.proofs.Names.{Setup, Phase, Negotiating, Establishing, Releasing, Answer}
-use Rattle.link_account.proofs.SpeakWays.{Tries, Ways, by-ways, linked-alike, tries-alike}
+use Rattle.link_run.proofs.Names.{Answer, Establishing, Negotiating, Phase, Releasing, Setup, Tries, Ways, by-ways, linked-alike}
+use Rattle.link_run.proofs.Names.{tries-alike}
 use Rattle.lapm_frames.specs.declared.sent.Sent.TheVariants as slots
 use Rattle.link_account.specs.declared.answer.Answer.TheVariants as answers
 
@@ -33,7 +33,7 @@ module _ (a : Account) where
   P = Declares a.phase a
 
   own-answer : (d : Answer) (p : Phase) (b : Account) → b.setup.offer ≡ a.setup.offer → OwnSent a.setup (Some d) p (frame_for d b)
-  own-answer q0 p b e = grind (arith)
+  own-answer x p b e = grind (arith)
 
   answer : (d : Answer) (b : Account) (left : Option Answer) → b.setup.offer ≡ a.setup.offer → a.owes.answer ≡ Some d
       → OwnSent a.setup a.owes.answer a.phase (frame_for d b)

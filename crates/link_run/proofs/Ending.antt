@@ -1,15 +1,14 @@
 -- What holds once the originator was told to release, and in the end.
-use Rattle.std.proofs.Common.{arith, ◌≡◌, inl, inr, ℕ, ◌≤◌, Bool, true, false, cond, List, [], ◌∷◌, length, refl, sym, ◌∙◌, ap, subst, Option}
-use Rattle.link_account.proofs.Names.{Role, Originator, Answerer, of, IsPrefixOf, IsAllowed, ReadsAllowed, KeepsTaken, Account, fresh}
-use Rattle.link_account.proofs.Names.{is_connected, Play, MayPlay}
-use Rattle.link_run.proofs.Names.{delivered, served, is_released, Link, Accounts, Turn, arrival, Hears, RunOf, served_at}
-use Rattle.link_account.specs.Laws.{TakesInOrder, AcknowledgesTaken, GivesBreaksInOrder, AnswersGiven}
-use Rattle.link_run.specs.Laws.{HoldPrefixes, TakesPrefixes, HearsPrefixes}
-use Rattle.link_run.proofs.Keeping.{Books, GoesOn, hears}
-use Rattle.link_run.proofs.Speaking.{Ledger, Speaks, Keeps_on, Releases}
+use Rattle.std.proofs.Common.{arith, ◌≡◌, ℕ, ◌≤◌, Bool, List, [], ◌∷◌, length, refl, sym, ◌∙◌, ap, subst, Option}
+use Rattle.link_account.proofs.Names.{Role, Originator, Answerer, of, IsPrefixOf, IsAllowed, ReadsAllowed, KeepsTaken, Account, fresh, Play}
+use Rattle.link_account.proofs.Names.{MayPlay}
+use Rattle.link_run.proofs.Names.{Accounts, AcknowledgesTaken, AnswersGiven, GivesBreaksInOrder, Hears, HearsPrefixes, HoldPrefixes}
+use Rattle.link_run.proofs.Names.{IsOffered, Link, RunOf, TakesInOrder, TakesPrefixes, Turn, arrival, delivered, is_released, served}
+use Rattle.link_run.proofs.Names.{served_at}
+use Rattle.link_run.proofs.Keeping.{GoesOn, hears}
+use Rattle.link_run.proofs.Speaking.{Speaks}
 use Rattle.link_run.proofs.Serving.{served-alone}
 use Rattle.link_run.proofs.Running.{Reaches, told, speaks-at, hearing-reaches, run-reaches}
-use Rattle.link_run.specs.Reading.{IsOffered}
 use Rattle.link_run.proofs.Cutting.{fresh-cuts, heard-cuts, served-cuts, spoken-cuts, begins-file}
 use Rattle.link_run.specs.Run as run
 
@@ -50,10 +49,10 @@ abbrev pub HasSetup : Link → Role → Account → Type 0
 HasSetup link r a = a.setup ≡ (of r link).setup
 
 heard-setup : (a b : Account) → GoesOn a b → b.setup ≡ a.setup
-heard-setup a b q2 = grind (arith)
+heard-setup a b x = grind (arith)
 
 spoken-setup : (release : Bool) (a b : Account) → Speaks release a b → b.setup ≡ a.setup
-spoken-setup release a b q3 = grind (arith)
+spoken-setup release a b x = grind (arith)
 
 delivered-setup : (a : Account) → (delivered a).setup ≡ a.setup
 delivered-setup a = grind (arith)

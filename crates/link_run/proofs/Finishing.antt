@@ -1,23 +1,16 @@
 -- Once the originator was told to release, nothing of both files or of any break is left; so done means whole.
-use Rattle.std.proofs.Common.{◌≡◌, inl, inr, ℕ, zero, suc, ◌+◌, ◌≤◌, ◌&&◌, ◌||◌, not, Bool, true, false, cond, nat_eq, nat_lt, List, []}
-use Rattle.std.proofs.Common.{◌∷◌, ◌++◌, length, arith, length-append, refl, sym, ◌∙◌, ap, subst, Option, Some, None, Ok}
-use Rattle.link_account.proofs.Names.{false≢true, nat_tests, append-nil, IsPrefixOf, Role, Originator, Answerer, of, ReadsAllowed, Outgoing}
-use Rattle.link_account.proofs.Names.{KeepsTaken, OwnBreaks, waits, Account, is_connected, wants, after_given, after_busy, Said, MayPlay}
-use Rattle.link_run.proofs.Names.{Setup, Phase, Releasing, Closed, User, delivered}
-use Rattle.link_run.proofs.Names.{offered_at, offered_times, room_for, is_busy, served, is_released, is_closed, has_finished, next_break}
-use Rattle.link_run.proofs.Names.{Link, Accounts, Turn, arrival, Hears, RunOf, served_at, releases, said_at, IsCarried}
+use Rattle.std.proofs.Common.{◌≡◌, ℕ, zero, suc, ◌≤◌, ◌&&◌, ◌||◌, not, Bool, true, false, List, [], ◌∷◌, ◌++◌, length, arith, length-append}
+use Rattle.std.proofs.Common.{refl, sym, ◌∙◌, ap, subst, Option, None, Ok}
+use Rattle.link_account.proofs.Names.{append-nil, IsPrefixOf, Role, Originator, Answerer, of, ReadsAllowed, Outgoing, KeepsTaken, Account}
+use Rattle.link_account.proofs.Names.{is_connected, wants, after_given, after_busy, Said, MayPlay}
+use Rattle.link_run.proofs.Names.{Accounts, DoneIsWhole, HasDelays, Hears, HoldWhole, IsCarried, Link, Phase, RunOf, Setup, Turn, User}
+use Rattle.link_run.proofs.Names.{arrival, at, delivered, finished_at, has_finished, is_busy, is_closed, is_released, offered_at}
+use Rattle.link_run.proofs.Names.{offered_times, releases, room_for, said_at, served, served_at, served_ends}
 use Rattle.std.specs.List.{concat}
-use Rattle.lapm_sender.specs.Outgoing.{is_whole}
-use Rattle.link_account.specs.Account.{is_done, break_waits}
-use Rattle.link_run.specs.End.{is_ready}
-use Rattle.link_run.specs.Run.{finished_at, served_ends}
-use Rattle.link_run.specs.Carried.{HasDelays}
-use Rattle.link_run.specs.Laws.{HoldWhole, DoneIsWhole}
-use Rattle.link_run.proofs.Keeping.{Books, stage, GoesOn, hears, Standing, standing, stands-heard}
+use Rattle.link_run.proofs.Keeping.{stage, GoesOn, hears, standing, stands-heard}
 use Rattle.link_run.proofs.Speaking.{Ledger, Speaks, Keeps_on, Releases, stands-spoken}
 use Rattle.link_run.proofs.Serving.{Waiting, served-alone, busy-alone}
 use Rattle.link_run.proofs.Playing.{then-leads, serves}
-use Rattle.link_account.proofs.Events.{at}
 use Rattle.link_run.proofs.Running.{begun, Reaches, speaks-at, run-handed, hearing-waits, hearing-reaches, run-reaches}
 use Rattle.link_run.proofs.Cutting.{linked-stage}
 use Rattle.link_run.proofs.Ending.{AtBoth, kept-heard, kept-run, HasSetup, setups-kept, HasCut, cuts-kept, Facts, PlayLaws, facts}
@@ -25,10 +18,10 @@ use Rattle.link_run.proofs.Ending.{allowed-both}
 use Rattle.link_run.specs.Run as run
 
 both-true : (b c : Bool) → (b && c) ≡ true → (b ≡ true) × (c ≡ true)
-both-true q0 c e = grind (arith)
+both-true x c e = grind (arith)
 
 neither : (b c : Bool) → not (b || c) ≡ true → (b ≡ false) × (c ≡ false)
-neither q0 c e = grind (arith)
+neither x c e = grind (arith)
 
 -- an end that has finished
 pub record Finished (a : Account) : Type 0 where
@@ -61,10 +54,10 @@ still-over : (o p a b : Account) → Over o a → standing p ≡ standing o → 
 still-over o p a b h s l = grind (arith)
 
 heard-left : (a b : Account) → 1 ≤ stage a.phase → GoesOn a b → SameLeft a b
-heard-left a b linked q3 = grind (arith)
+heard-left a b linked x = grind (arith)
 
 spoken-left : (a b : Account) → Speaks false a b → SameLeft a b
-spoken-left a b q2 = grind (arith)
+spoken-left a b x = grind (arith)
 
 -- nothing is offered once the file has ended
 pub offers-none : (n : ℕ) (file : List ℕ) (a : Account) → wants a ≡ None → offered_times n file a ≡ a
@@ -95,9 +88,6 @@ served-idles u turn a e =
     (record { outgoing = g.outgoing; taken = g.taken; own = g.own; theirs = g.theirs; phase = g.phase }) in
     subst (λ c. Idles a (after_busy busy c))
     (sym (offers-none (room_for b) u.file b (ended-wants b (ap (λ (o : Outgoing). o.ended) g.outgoing ∙ e)))) k
-
-idles-left : (a b : Account) → Idles a b → SameLeft a b
-idles-left a b i = grind (arith)
 
 -- of the originator, what is delivered isn't part of what stands
 idles-over : (o p a b : Account) → Over o a → Idles o p → Idles a b → Over p b
@@ -207,7 +197,7 @@ over-run reads keeps laws link delay m some (t ∷ ts) ends c h two =
     not-closed p e = grind (arith)
 
     was-released : {x y : Account} → GoesOn x y → stage y.phase ≤ 2 → 2 ≤ stage y.phase → 2 ≤ stage x.phase
-    was-released q0 low high = grind (arith)
+    was-released x low high = grind (arith)
 
     same-ends : (e : Accounts) (x y : Account) → e.orig ≡ x → e.answ ≡ y → e ≡ record { orig = x; answ = y }
     same-ends e x y p q = ap (λ z. record { orig = z; answ = e.answ }) p ∙ ap (λ z. record { orig = x; answ = z }) q
@@ -252,4 +242,4 @@ done_is_whole reads keeps laws link delay ts ends t mid v n k =
     (kept-heard reads keeps (HasCut link) link kept turn ends t mid (kept-run reads keeps (HasCut link) link kept ts ends v.run) k.hearing)
   where
     hung-up : {x y : Account} → GoesOn x y → stage y.phase ≡ 3 → x.setup.role ≡ Originator → 2 ≤ stage x.phase
-    hung-up q0 e r = grind (arith)
+    hung-up x e r = grind (arith)

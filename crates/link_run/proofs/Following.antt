@@ -1,13 +1,10 @@
 -- All through a run the frames that passed tell how far both ends are.
-use Rattle.std.proofs.Common.{◌≡◌, ◌≢◌, ◌⊎◌, inl, inr, ℕ, ◌≤◌, ◌||◌, Bool, true, false, cond, nat_le, List, [], ◌∷◌, length, arith, refl}
-use Rattle.std.proofs.Common.{sym, ◌∙◌, ap, subst, Option, Some, None, Ok}
-use Rattle.link_account.proofs.Names.{false≢true, nat_tests, Role, Originator, Answerer, is_originator, of, Frame, I, Rr, Rnr, Rej, Srej}
-use Rattle.link_account.proofs.Names.{Sabme, Disc, Ua, Xid, ReadsAllowed, ReadsWritten, KeepsTaken, Sent, Account, is_connected, hear, Said}
-use Rattle.link_account.proofs.Names.{MayPlay}
-use Rattle.link_run.proofs.Names.{Setup, Phase, Connected, Releasing, Closed, Answer, User, delivered}
-use Rattle.link_run.proofs.Names.{served, Link, Accounts, Turn, Spoken, spoken, arrival, Hears, RunOf, served_at, Carries, IsCarried}
-use Rattle.link_account.specs.Account.{first_terms}
-use Rattle.link_run.specs.Overheard.{has_passed, is_xid, opens}
+use Rattle.std.proofs.Common.{◌≡◌, ◌≢◌, ◌⊎◌, ℕ, ◌≤◌, ◌||◌, Bool, true, false, cond, nat_le, List, [], ◌∷◌, length, arith, refl, sym, ◌∙◌}
+use Rattle.std.proofs.Common.{ap, subst, Option, Some, None, Ok}
+use Rattle.link_account.proofs.Names.{Role, Originator, Answerer, of, Frame, ReadsAllowed, ReadsWritten, KeepsTaken, Sent, Account, hear}
+use Rattle.link_account.proofs.Names.{Said, MayPlay}
+use Rattle.link_run.proofs.Names.{Accounts, Answer, Carries, Hears, IsCarried, Link, Phase, Releasing, RunOf, Setup, Spoken, Turn, User}
+use Rattle.link_run.proofs.Names.{arrival, delivered, first_terms, has_passed, is_xid, opens, served, served_at, spoken}
 use Rattle.link_run.proofs.Keeping.{stage}
 use Rattle.link_run.proofs.Speaking.{Ledger, Speaks, Keeps_on, Releases}
 use Rattle.link_run.proofs.Serving.{served-alone}
@@ -102,16 +99,13 @@ spoke release a said (Releases on role linked e k) d =
     }
 
 due_o-spoke : (x y : Option Answer) → (y ≡ x) ⊎ (y ≡ None) → DueO x → DueO y
-due_o-spoke x y q2 h = grind (arith)
+due_o-spoke x y w h = grind (arith)
 
 due_a-spoke : (r m : ℕ) (x y : Option Answer) → (y ≡ x) ⊎ (y ≡ None) → DueA r m x → DueA r m y
-due_a-spoke r m x y q4 h = grind (arith)
+due_a-spoke r m x y w h = grind (arith)
 
 stage-rank : (p : Phase) → 2 ≤ stage p → 4 ≤ rank p
 stage-rank p h = grind (arith)
-
-pub linked-rank : (p : Phase) → stage p ≡ 1 → rank p ≡ 3
-linked-rank p h = grind (arith)
 
 -- what an originator says
 said-o : (so : Setup) (p : Phase) (answer : Option Answer) (s : ℕ) (frame : Frame) → OwnFrame so answer p frame → DueO answer → rank p ≤ s
@@ -176,7 +170,7 @@ known-spoken so sa ts t o a release p b h eo ea role go ga wo wa dco dca so-sent
     }
   where
     same-phase : (x y : Account) → Speaks false x y → y.phase ≡ x.phase
-    same-phase x y q2 = grind (arith)
+    same-phase x y w = grind (arith)
 
     le-two : (m n : ℕ) → nat_le 2 m ≡ nat_le 2 n → 2 ≤ m → 2 ≤ n
     le-two m n e l = grind (arith)
@@ -249,4 +243,4 @@ known-run reads keeps written link delay p (t ∷ ts) ends c h =
     (sym ka.after_is) m)
   where
     setup-before : {s : Setup} (release : Bool) (x y e : Account) → e ≡ y → Speaks release x y → e.setup ≡ s → x.setup ≡ s
-    setup-before {s} release x y e q q6 w = grind (arith)
+    setup-before {s} release x y e q v w = grind (arith)

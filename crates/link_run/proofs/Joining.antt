@@ -1,19 +1,19 @@
 -- How far both ends have come, by what each has sent: neither is sent numbered frames before it is Connected, and the answerer is closed
 -- only once
 -- the originator releases.
-use Rattle.std.proofs.Common.{◌≡◌, ◌≢◌, ◌⊎◌, inl, inr, ℕ, zero, suc, ◌-◌, ◌≤◌, ◌||◌, Bool, true, false, cond, List, [], ◌∷◌, length, arith}
-use Rattle.std.proofs.Common.{refl, sym, ◌∙◌, ap, subst, Option, Some, None, slice_get}
-use Rattle.link_account.proofs.Names.{false≢true, Role, Originator, Answerer, Frame, ReadsAllowed, KeepsTaken, Account, is_connected}
-use Rattle.link_account.proofs.Names.{after_busy, after_given, Said, MayPlay, Heard, Nothing, Passed, Lost, Chance, is_originator, of}
+use Rattle.std.proofs.Common.{◌≡◌, ◌≢◌, ◌⊎◌, inl, inr, ℕ, zero, suc, ◌-◌, ◌≤◌, ◌||◌, Bool, true, false, List, [], ◌∷◌, length, arith, refl}
+use Rattle.std.proofs.Common.{sym, ◌∙◌, ap, subst, Option, Some, None, slice_get}
+use Rattle.link_account.proofs.Names.{false≢true, Role, Originator, Answerer, Frame, ReadsAllowed, KeepsTaken, Account, after_busy}
+use Rattle.link_account.proofs.Names.{after_given, Said, MayPlay, Heard, of}
 use Rattle.link_run.proofs.Counting.{or-true-left, or-true-right}
 use Rattle.link_run.proofs.Names.{Setup, User, delivered, room_for, offered, is_busy, served, is_released, Link, Accounts, Turn, Spoken}
 use Rattle.link_run.proofs.Names.{spoken, arrival, Hears, RunOf, served_at, sent_in, sent_ago, Crosses, Carries, IsCarried}
 use Rattle.link_run.proofs.Keeping.{stage, GoesOn, hears}
-use Rattle.link_run.proofs.Speaking.{Ledger, Speaks, Keeps_on, Releases}
+use Rattle.link_run.proofs.Speaking.{Speaks}
 use Rattle.link_run.proofs.Serving.{served-alone, offers-alone}
 use Rattle.link_run.proofs.Running.{told, speaks-at}
 use Rattle.link_run.proofs.Ending.{HasSetup, setups-kept, kept-run}
-use Rattle.link_run.proofs.Meeting.{is_ua, is_disc, is_segment, is_counted, carries, brings, brings-carried, owes_ua, Told, is-told}
+use Rattle.link_run.proofs.Meeting.{is_ua, is_disc, is_segment, is_counted, carries, brings, owes_ua, Told, is-told}
 use Rattle.link_run.proofs.Saying.{Part, part, Says, is-said}
 
 -- whether a role sent such a frame in a turn, and in any of these turns
@@ -26,7 +26,7 @@ any_sent is role [] = false
 any_sent is role (t ∷ ts) = sent_is is (of role t).sent || any_sent is role ts
 
 or-either : (b c : Bool) → (b || c) ≡ true → (b ≡ true) ⊎ (c ≡ true)
-or-either q0 c e = grind (arith)
+or-either x c e = grind (arith)
 
 ago-any : (is : Frame → Bool) (role : Role) (k : ℕ) (ts : List Turn) → sent_is is (sent_in role (slice_get ts k)) ≡ true
     → any_sent is role ts ≡ true
@@ -35,7 +35,7 @@ ago-any is role zero (t ∷ ts) e = or-true-left (sent_is is (of role t).sent) (
 ago-any is role (suc k) (t ∷ ts) e = or-true-right (sent_is is (of role t).sent) (any_sent is role ts) (ago-any is role k ts e)
 
 brought : (is : Frame → Bool) (o : Option Spoken) (h : Heard) → Crosses o h → brings is (arrival h) ≡ true → sent_is is o ≡ true
-brought is o q2 c e = grind (arith)
+brought is o x c e = grind (arith)
 
 pub came : (is : Frame → Bool) (delay : Role → ℕ) (role : Role) (ts : List Turn) (h : Heard) → Crosses (sent_ago (delay role) role ts) h
     → brings is (arrival h) ≡ true → any_sent is role ts ≡ true
@@ -54,10 +54,10 @@ pub record Met (ts : List Turn) (o a : Account) : Type 0 where
   pub never : stage a.phase ≢ 2
 
 later : (a b : Account) → GoesOn a b → stage a.phase ≤ stage b.phase
-later a b q2 = grind (arith)
+later a b x = grind (arith)
 
 still-never : (a b : Account) → GoesOn a b → stage a.phase ≢ 2 → stage b.phase ≢ 2
-still-never a b q2 h z = grind (arith)
+still-never a b x h z = grind (arith)
 
 met-heard : (ts : List Turn) (o a p b : Account) (delay : Role → ℕ) (ho ha : Heard) → Met ts o a → o.setup.role ≡ Originator → GoesOn o p
     → GoesOn a b → Told o.phase (arrival ho) o p → Told a.phase (arrival ha) a b
@@ -82,7 +82,7 @@ met-heard ts o a p b delay ho ha m role go ga to ta co ca =
     up-by (suc n) e z = omega (arith, later a b ga, m.up (omega (arith, e)))
 
     due-by : (owes_ua a.owes.answer ≡ true) ⊎ (1 ≤ stage b.phase) → 1 ≤ stage b.phase
-    due-by q0 = grind (arith)
+    due-by x = grind (arith)
 
     counted-by : (a.numbered ≡ true) ⊎ (brings is_counted (arrival ha) ≡ true) → 1 ≤ stage p.phase
     counted-by (inl z) = omega (arith, m.counted z, later o p go)
@@ -116,13 +116,13 @@ serving u turn released a =
     subst (Leaves a) (sym (served-alone u turn released a)) (record { phase = d.phase; answer = due; part_is = d.part_is; setup = d.setup })
 
 later-spoken : (release : Bool) (a b : Account) → Speaks release a b → stage a.phase ≤ stage b.phase
-later-spoken release a b q3 = grind (arith)
+later-spoken release a b x = grind (arith)
 
 same-spoken : (a b : Account) → Speaks false a b → stage b.phase ≡ stage a.phase
-same-spoken a b q2 = grind (arith)
+same-spoken a b x = grind (arith)
 
 pub linked-spoken : (release : Bool) (a b : Account) → Speaks release a b → 1 ≤ stage b.phase → 1 ≤ stage a.phase
-linked-spoken release a b q3 z = grind (arith)
+linked-spoken release a b x z = grind (arith)
 
 met-spoken : (ts : List Turn) (t : Turn) (o a : Account) (release : Bool) (p b : Said) → Met ts o a → a.setup.role ≡ Answerer
     → Speaks release o p.account → Speaks false a b.account → Says o.phase o p → Says a.phase a b
@@ -143,19 +143,16 @@ met-spoken ts t o a release p b m role go ga to ta so sa =
     }
   where
     uas-by : (sent_is is_ua t.answ.sent ≡ true) ⊎ (any_sent is_ua Answerer ts ≡ true) → 1 ≤ stage a.phase
-    uas-by q0 = grind (arith)
+    uas-by x = grind (arith)
 
     froms-by : (sent_is is_counted t.orig.sent ≡ true) ⊎ (any_sent is_counted Originator ts ≡ true) → 1 ≤ stage p.account.phase
-    froms-by q0 = grind (arith)
-
-    numbered-by : (is_originator a.setup.role || a.numbered) ≡ true → a.numbered ≡ true
-    numbered-by z = sym (ap (λ r. is_originator r || a.numbered) role) ∙ z
+    froms-by x = grind (arith)
 
     segments-by : (sent_is is_segment t.answ.sent ≡ true) ⊎ (any_sent is_segment Answerer ts ≡ true) → 1 ≤ stage o.phase
-    segments-by q0 = grind (arith)
+    segments-by x = grind (arith)
 
     discs-by : (sent_is is_disc t.orig.sent ≡ true) ⊎ (any_sent is_disc Originator ts ≡ true) → 2 ≤ stage p.account.phase
-    discs-by q0 = grind (arith)
+    discs-by x = grind (arith)
 
 met-left : (ts : List Turn) (o a p b : Account) → Leaves o p → Leaves a b → Met ts o a → Met ts p b
 met-left ts o a p b l k m = grind (arith)
@@ -209,4 +206,4 @@ met-run reads keeps link delay p (t ∷ ts) ends c h =
     (subst (λ (x : Account). Met (t ∷ ts) ko.said.account x) (sym ka.after_is) m)
   where
     role-of : (e : Accounts) (x y : Account) → e.answ ≡ x → Speaks false y x → e.answ.setup.role ≡ Answerer → y.setup.role ≡ Answerer
-    role-of e x y q q4 w = grind (arith)
+    role-of e x y q v w = grind (arith)

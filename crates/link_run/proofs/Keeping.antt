@@ -1,19 +1,14 @@
 -- What an end keeps of its books as it hears and speaks.
-use Rattle.std.proofs.Common.{◌≡◌, ◌≢◌, ◌⊎◌, inl, inr, ℕ, ◌+◌, ◌%◌, ◌≤◌, ◌&&◌, Bool, true, false, cond, nat_eq, List, [], ◌∷◌, ◌++◌, length}
-use Rattle.std.proofs.Common.{arith, lit≤, refl, sym, ◌∙◌, ap, subst, Option, Some, None, Ok}
+use Rattle.std.proofs.Common.{◌≡◌, ◌≢◌, ◌⊎◌, inl, inr, ℕ, ◌≤◌, Bool, false, List, [], ◌∷◌, ◌++◌, length, arith, refl, sym, ◌∙◌, ap, subst}
+use Rattle.std.proofs.Common.{Option, Some, None, Ok}
 use Rattle.link_account.proofs.Names.{false≢true, append-nil, is_connected, Role, Originator, Answerer, Offer, Terms, agree, IsAllowed}
-use Rattle.link_account.proofs.Names.{ReadsAllowed}
-use Rattle.link_account.proofs.Names.{Outgoing, Incoming, after_take, after_kind, kind_of, offset, KeepsTaken, Took, InOrder}
-use Rattle.link_account.proofs.Names.{OwnBreaks, waits, after_answer, Arrived, Account, hear, on_nothing, owing, trying}
-use Rattle.link_account.proofs.Names.{is_originator}
-use Rattle.link_run.proofs.Names.{Setup, Phase, Detecting, Negotiating, Connected, Releasing, Closed}
+use Rattle.link_account.proofs.Names.{ReadsAllowed, Outgoing, Incoming, after_take, after_kind, kind_of, offset, KeepsTaken, Took}
+use Rattle.link_account.proofs.Names.{OwnBreaks, after_answer, Arrived, Account, hear, on_nothing, owing, trying, is_originator}
+use Rattle.link_run.proofs.Names.{Closed, Connected, Negotiating, NumberKeeps, Phase, Releasing, Setup, TheirBreaks, acked-keeps}
+use Rattle.link_run.proofs.Names.{acked_back-keeps, after_break, connected, gives, has_begun, numbered_with, paused-keeps, resumed-keeps}
+use Rattle.link_run.proofs.Names.{size_for, window_for, with_given}
 use Rattle.xid_params.specs.Terms.{default_offer}
-use Rattle.break_signals.specs.Breaks.{TheirBreaks, with_given, gives, after_break}
-use Rattle.link_account.specs.Account.{size_for, window_for}
-use Rattle.link_account.specs.Laws.{has_begun}
-use Rattle.link_account.specs.Hear.{connected}
-use Rattle.link_account.proofs.HearWays.{NumberKeeps, numbered_with, acked-keeps, acked_back-keeps, resumed-keeps, paused-keeps, Ways}
-use Rattle.link_account.proofs.HearWays.{by-ways}
+use Rattle.link_account.proofs.HearWays.{Ways, by-ways}
 use Rattle.lapm_sender.specs.Outgoing as outgoing
 use Rattle.lapm_receiver.specs.Incoming as incoming
 use Rattle.link_account.specs.declared.answer.Answer.TheVariants as answers

@@ -1,16 +1,13 @@
 -- What is known of both ends by the frames that passed: who has heard an XID frame has agreed, and who has heard a UA or a SABME is
 -- Connected.
 use Rattle.std.proofs.Common.{inl, inr, ◌≡◌, ◌≢◌, ℕ, zero, suc, ◌-◌, ◌≤◌, ◌||◌, Bool, true, false, cond, nat_le, List, [], ◌∷◌, arith, refl}
-use Rattle.std.proofs.Common.{sym, ◌∙◌, ap, subst, Option, Some, None, Result, Ok, Err, slice_get}
+use Rattle.std.proofs.Common.{sym, ◌∙◌, ap, Option, Some, None, Result, Ok, Err, slice_get}
 use Rattle.link_account.proofs.Names.{false≢true, Role, Originator, Answerer, of, Frame, I, Rr, Rnr, Rej, Srej, Sabme, Disc, Ua, Xid, Terms}
-use Rattle.link_account.proofs.Names.{agree, offer_in, written, Arrived, Sent, Heard, Nothing, Passed, Lost, Chance, LinkFault}
-use Rattle.link_account.proofs.Names.{is_originator, Offer, Account, hear, on_frame, without_adp, arrives}
-use Rattle.link_run.proofs.Names.{Setup, Phase, Detecting, Negotiating, Establishing, Connected, Releasing, Closed, Answer, Spoken, Turn}
-use Rattle.link_run.proofs.Names.{arrival, sent_in, sent_ago, Crosses}
-use Rattle.link_account.specs.Account.{first_terms}
-use Rattle.link_account.specs.Hear.{on_detecting, on_negotiating, on_establishing, on_xid_command, on_xid_response}
-use Rattle.link_account.proofs.HearWays.{ConnectedWays, EarlyWays, by-ways, numbers-alike}
-use Rattle.link_run.specs.Overheard.{passes_in, is_xid, opens}
+use Rattle.link_account.proofs.Names.{agree, offer_in, written, Arrived, Sent, Heard, LinkFault, is_originator, Offer, Account, hear}
+use Rattle.link_account.proofs.Names.{without_adp, arrives}
+use Rattle.link_run.proofs.Names.{Answer, Closed, Connected, ConnectedWays, Crosses, Detecting, EarlyWays, Establishing, Negotiating, Phase}
+use Rattle.link_run.proofs.Names.{Releasing, Setup, Spoken, Turn, arrival, first_terms, is_xid, opens, passes_in, sent_ago, sent_in}
+use Rattle.link_account.proofs.HearWays.{by-ways}
 use Rattle.link_run.proofs.Meeting.{brings}
 use Rattle.lapm_frames.specs.declared.arrived.Arrived.TheVariants as arrivals
 use Rattle.lapm_frames.specs.declared.sent.Sent.TheVariants as slots
@@ -80,7 +77,7 @@ pub came-all : (P : Frame → Type 0) (delay : Role → ℕ) (role : Role) (ts :
 came-all P delay role ts h k c = brought-all P (sent_ago (delay role) role ts) h c (ago-all P role (delay role - 1) ts k)
 
 pub passed-brings : (is : Frame → Bool) (h : Heard) → passes_in is h ≡ brings is (arrival h)
-passed-brings is q1 = grind (arith)
+passed-brings is x = grind (arith)
 
 -- what the originator sends, once it is as far as r
 abbrev pub SentO : Setup → ℕ → Frame → Type 0
@@ -127,7 +124,7 @@ DueA r m (Some (answers.Ua pf)) = (pf ≡ true) × (2 ≤ r)
 DueA r m (Some (answers.Dm pf)) = Unit {0}
 
 pub due_a-later : (r m s n : ℕ) → r ≤ s → m ≤ n → (o : Option Answer) → DueA r m o → DueA s n o
-due_a-later r m s n l k q6 h = grind (arith)
+due_a-later r m s n l k x h = grind (arith)
 
 due_o-without : (o : Option Answer) → DueO o → DueO (without_adp o)
 due_o-without o h = grind (arith)
@@ -144,7 +141,7 @@ pub record Reads (so sa : Setup) : Type 0 where
   pub answ : offer_in (written sa.offer) ≡ Some sa.offer
 
 or-late : (b n : Bool) → n ≡ true → n ≡ (b || n)
-or-late q0 n e = grind (arith)
+or-late x n e = grind (arith)
 
 abbrev rank_of : ℕ → Result Account LinkFault → ℕ
 rank_of n (Ok b) = rank b.phase

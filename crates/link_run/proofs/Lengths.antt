@@ -1,12 +1,10 @@
 -- How many octets of information the frames have that an end says: those of a segment that it was offered, or few.
 use Rattle.std.proofs.Common.{◌≡◌, ℕ, zero, suc, ◌≤◌, Bool, true, false, List, [], ◌∷◌, length, slice_index_or, arith, Ok}
-use Rattle.link_account.proofs.Names.{Frame, BreakWord, Brk, Ack, Account, Said, speak, frame_for, ready_frame}
-use Rattle.link_run.proofs.Names.{Answer}
+use Rattle.link_account.proofs.Names.{Frame, BreakWord, Account, Said, speak, frame_for, ready_frame}
+use Rattle.link_run.proofs.Names.{Answer, Steps, Ways, by-ways, linked-alike, tries-alike}
 use Rattle.lapm_frames.specs.Frame.{information_of}
 use Rattle.break_signals.specs.Words.{spelled}
 use Rattle.link_run.proofs.Knowing.{OnSent}
-use Rattle.link_account.proofs.SpeakWays.{Steps, Ways, by-ways, linked-alike, tries-alike}
-use Rattle.link_account.specs.declared.answer.Answer.TheVariants as answers
 
 -- lists of at most so many octets
 abbrev pub AllShort : ℕ → List (List ℕ) → Type 0
@@ -33,7 +31,7 @@ module _ (n : ℕ) (l : 23 ≤ n) where
   ready busy command pf nr = grind (arith)
 
   word : (w : BreakWord) → length (spelled w) ≤ n
-  word q0 = grind (arith)
+  word x = grind (arith)
 
   steps : (turn : ℕ) (special : Bool) (a : Account) → AllShort n a.outgoing.pieces → Steps IsShort turn special a
   steps turn special a h = record {

@@ -1,16 +1,11 @@
 -- What an end sends is the next segment, or one that it has sent.
-use Rattle.std.proofs.Common.{◌≡◌, ℕ, ◌+◌, ◌%◌, ◌<◌, ◌≤◌, ◌&&◌, ◌||◌, Bool, true, false, cond, nat_lt, max, List, [], ◌∷◌, length, arith}
-use Rattle.std.proofs.Common.{refl, ap, subst, Option, Some, None, Ok}
-use Rattle.link_account.proofs.Names.{AllByRecursion, is_originator, Outgoing, next_number, Account, Said, ready_frame, frame_for, may_send}
-use Rattle.link_account.proofs.Names.{nr_of, speak, trying}
-use Rattle.link_run.proofs.Names.{Answer, Releasing}
-use Rattle.lapm_sender.specs.Outgoing.{next_among, sent_among}
-use Rattle.link_account.specs.Laws.{IsInRange}
+use Rattle.std.proofs.Common.{◌≡◌, ℕ, ◌+◌, ◌%◌, ◌≤◌, ◌||◌, Bool, cond, max, List, arith, Option, Some, None, Ok}
+use Rattle.link_account.proofs.Names.{is_originator, Outgoing, next_number, Account, Said, ready_frame, frame_for, may_send, speak}
+use Rattle.link_run.proofs.Names.{AllSaid, Answer, IsInRange, Steps, Ways, by-ways}
+use Rattle.lapm_sender.specs.Outgoing.{next_among}
 use Rattle.link_account.specs.Speak.{says_segment}
 use Rattle.link_run.specs.Counts.{sequence_in}
-use Rattle.link_account.proofs.SpeakWays.{AllSaid, Steps, Ways, by-ways, linked-alike, tries-alike}
 use Rattle.lapm_frames.specs.declared.sent.Sent.TheVariants as slots
-use Rattle.link_account.specs.declared.answer.Answer.TheVariants as answers
 
 -- how far an end has sent, by the N(S) of what it sends and its meant number
 abbrev pub SentAs : Option ℕ → ℕ → ℕ → ℕ → Type 0

@@ -1,9 +1,7 @@
 -- Pieces are offered until none is wanted.
-use Rattle.std.proofs.Common.{◌≡◌, ℕ, zero, suc, ◌+◌, ◌≤◌, ◌&&◌, not, Bool, true, false, cond, nat_lt, List, [], ◌∷◌, length, arith}
-use Rattle.std.proofs.Common.{length-append, refl, sym, ◌∙◌, ap, Option, Some, None}
-use Rattle.link_account.proofs.Names.{false≢true, nat_tests, Account, is_connected, wants, piece_size, after_offer}
-use Rattle.link_run.proofs.Names.{piece_at, offered_at, offered_times, room_for, offered}
-use Rattle.link_run.specs.Laws.{OffersUntilNoneIsWanted}
+use Rattle.std.proofs.Common.{◌≡◌, ℕ, zero, suc, ◌≤◌, List, [], ◌∷◌, arith, length-append, refl, sym, ◌∙◌, ap, Option, Some, None}
+use Rattle.link_account.proofs.Names.{Account, wants, piece_size, after_offer}
+use Rattle.link_run.proofs.Names.{OffersUntilNoneIsWanted, offered, offered_at, offered_times, piece_at, room_for}
 use Rattle.link_run.proofs.Finishing.{offers-none, ended-wants}
 
 -- no room: none is wanted

@@ -1,13 +1,10 @@
 -- What is heard determines a run.
 use Rattle.std.proofs.Common.{◌≡◌, ℕ, true, false, List, [], ◌∷◌, length, map, arith, refl, sym, ◌∙◌, ap, subst, Some, Result, Ok, Err}
-use Rattle.link_account.proofs.Names.{false≢true, Role, Originator, Answerer, Both, of, Heard, LinkFault, hear, Said}
+use Rattle.link_account.proofs.Names.{false≢true, Role, Originator, Answerer, Both, of, LinkFault, hear, Said}
 use Rattle.link_run.proofs.Playing.{head-of}
-use Rattle.link_run.proofs.Names.{is_closed, Link, Accounts, Turn, spoken, arrival, Hears, GoingTurn, said_at, Outcome, Going, Done, Broken}
-use Rattle.link_run.proofs.Names.{TurnIs}
+use Rattle.link_run.proofs.Names.{Accounts, Broken, Done, Going, GoingTurn, Hears, IsBroken, IsSilent, Link, OneOutcome, OneRun, Outcome}
+use Rattle.link_run.proofs.Names.{Side, Turn, TurnIs, arrival, heard_in, is_closed, said_at, spoken}
 use Rattle.std.specs.Prelude.{is_ok}
-use Rattle.link_account.specs.Account.{given_break}
-use Rattle.link_run.specs.Run.{Side, IsSilent, IsBroken}
-use Rattle.link_run.specs.Laws.{heard_in, OneRun, OneOutcome}
 
 abbrev ok-or : {A E : Type 0} → A → Result A E → A
 ok-or d (Ok x) = x
@@ -19,9 +16,6 @@ err-or d (Err e) = e
 
 pub one-ok : {A E : Type 0} {r : Result A E} {x y : A} → r ≡ Ok x → r ≡ Ok y → x ≡ y
 one-ok {A} {E} {r} {x} {y} e k = ap (ok-or x) (sym e ∙ k)
-
-one-err : {A E : Type 0} {r : Result A E} {x y : E} → r ≡ Err x → r ≡ Err y → x ≡ y
-one-err {A} {E} {r} {x} {y} e k = ap (err-or x) (sym e ∙ k)
 
 not-both : {A E : Type 0} {r : Result A E} {x : A} {f : E} → r ≡ Ok x → r ≡ Err f → ⊥
 not-both {A} {E} {r} {x} {f} e k = false≢true (ap is_ok (sym k ∙ e))
@@ -71,7 +65,7 @@ one-going link ts before t u after later g k e =
     }
 
 heard-same : (t u : Turn) → heard_in t ≡ heard_in u → HearSame t u
-heard-same t u e q3 = grind (arith)
+heard-same t u e x = grind (arith)
 
 pub one_run : OneRun
 one_run link [] [] ends others h k e = (refl, h ∙ sym k)
@@ -124,7 +118,7 @@ silent-both t u h k r = h r ∙ sym (k r)
 same-role : (link : Link) (turn : ℕ) (mid : Accounts) (r s : Role) (f g : LinkFault) → IsBroken link turn mid r f
     → IsBroken link turn mid s g
     → Broken r f ≡ Broken s g
-same-role link turn mid q3 q4 f g h k = grind (arith)
+same-role link turn mid x y f g h k = grind (arith)
 
 not-broken : (link : Link) (turn : ℕ) (t : Turn) (mid : Accounts) (r : Role) (f : LinkFault) → Says link turn t mid
     → IsBroken link turn mid r f

@@ -1,26 +1,17 @@
 -- What the frames that pass tell.
-use Rattle.std.proofs.Common.{zero, suc, ◌≡◌, ◌≢◌, inl, inr, ℕ, ◌+◌, ◌-◌, ◌%◌, ◌≤◌, Bool, true, false, cond, nat_eq, nat_le, List, [], ◌∷◌}
-use Rattle.std.proofs.Common.{◌++◌, length, map, arith, length-append, refl, sym, ◌∙◌, ap, subst, Option, Some, None, Result, Ok, slice_get}
+use Rattle.std.proofs.Common.{zero, suc, ◌≡◌, inl, inr, ℕ, ◌+◌, ◌-◌, ◌%◌, ◌≤◌, Bool, true, false, cond, nat_eq, nat_le, List, [], ◌∷◌, ◌++◌}
+use Rattle.std.proofs.Common.{length, map, arith, length-append, refl, sym, ◌∙◌, ap, subst, Option, Some, None, Result, Ok, slice_get}
 use Rattle.link_account.proofs.Names.{false≢true, nat_tests, append-nil, IsPrefixOf, Check, Role, Originator, Answerer, other, of, is_some}
-use Rattle.link_account.proofs.Names.{Frame, I, Rr, Rnr, Rej, Srej, Sabme, Disc, Ua, Dm, Ui, Xid, Terms, ReadsAllowed, ReadsWritten}
-use Rattle.link_account.proofs.Names.{KeepsTaken, kind_of, InOrder, Kept, Brk, word_in, Sent, Passed, LinkFault, Account, check_of, hear}
-use Rattle.link_account.proofs.Names.{on_frame, Slot, Play, MayPlay}
-use Rattle.link_run.proofs.Names.{Setup, Phase, Detecting, Negotiating, Establishing, Releasing, Closed, is_released, RunOf}
-use Rattle.link_run.proofs.Names.{Link, Accounts, Spoken, Turn, spoken, arrival, sent_in, sent_ago, Crosses, IsCarried, RunsOver}
-use Rattle.frame_check.specs.declared.check.Check.TheVariants.{Sixteen, ThirtyTwo}
-use Rattle.lapm_frames.specs.declared.frame.Frame.TheVariants.{Frmr, Test}
+use Rattle.link_account.proofs.Names.{Frame, I, Ui, Terms, ReadsAllowed, ReadsWritten, KeepsTaken, kind_of, InOrder, Kept, Brk, word_in}
+use Rattle.link_account.proofs.Names.{Sent, Passed, LinkFault, Account, check_of, on_frame, Slot, Play, MayPlay}
+use Rattle.link_run.proofs.Names.{Accounts, AgreesByXid, Crosses, EarlyBreaksAreIgnored, HasDelays, HearsAgreedCheck, IsCarried, IsOld}
+use Rattle.link_run.proofs.Names.{JudgesByItsCheck, JudgesOnceHeard, KnownByNumber, Link, NextIsBreak, NextIsKnown, NextWasOffered}
+use Rattle.link_run.proofs.Names.{NothingNew, OpensByFrames, Phase, ReleasesLast, RunOf, RunsOver, SegmentsPassLater, SendsAgreedCheck}
+use Rattle.link_run.proofs.Names.{SendsBreaksTaken, SendsWhatWasOffered, Setup, Sixteen, Spoken, ThirtyTwo, Turn, agreed_check}
+use Rattle.link_run.proofs.Names.{agreed_terms, arrival, first_terms, gives, has_begun, has_passed, is_released, is_xid, opens, sent_ago}
+use Rattle.link_run.proofs.Names.{sent_in, spoken, told_by_play, told_by_turn}
 use Rattle.lapm_frames.specs.Checked.{check_for}
 use Rattle.lapm_frames.specs.Frame.{has_number}
-use Rattle.break_signals.specs.Breaks.{gives}
-use Rattle.link_account.specs.Account.{first_terms}
-use Rattle.link_account.specs.Hear.{on_detecting, on_negotiating}
-use Rattle.link_account.specs.Laws.{has_begun, NextIsKnown, KnownByNumber, NextWasOffered, SendsWhatWasOffered, NextIsBreak}
-use Rattle.link_account.specs.Laws.{SendsBreaksTaken}
-use Rattle.link_run.specs.Carried.{HasDelays}
-use Rattle.link_run.specs.Laws.{told_by_play, told_by_turn}
-use Rattle.link_run.specs.Overheard.{has_passed, is_xid, opens, OpensByFrames, agreed_terms, AgreesByXid, agreed_check, SendsAgreedCheck}
-use Rattle.link_run.specs.Overheard.{HearsAgreedCheck, JudgesByItsCheck, JudgesOnceHeard, SegmentsPassLater, IsOld, NothingNew}
-use Rattle.link_run.specs.Overheard.{ReleasesLast, EarlyBreaksAreIgnored}
 use Rattle.link_run.proofs.Keeping.{stage, GoesOn, hears, Standing, standing, stands-heard}
 use Rattle.link_run.proofs.Playing.{made, next-first, head-of, none-is-some}
 use Rattle.link_run.proofs.Running.{Reaches, lines, run-reaches, hearing-reaches}
@@ -32,7 +23,6 @@ use Rattle.link_run.proofs.Following.{KnownOf, known-mid, known-run}
 use Rattle.link_run.proofs.Meeting.{is_segment, is_counted, brings}
 use Rattle.link_run.proofs.Joining.{Met, met-run, came}
 use Rattle.lapm_frames.specs.declared.sent.Sent.TheVariants as slots
-use Rattle.lapm_frames.specs.declared.arrived.Arrived.TheVariants as arrivals
 
 pub record KnowingLaws : Type 0 where
   pub reads : ReadsAllowed
@@ -82,10 +72,10 @@ answ-agreed link sent heard ends k l = let m = k.met l in
 
 -- who sends a frame with numbers is Connected
 numbered-o : (so : Setup) (r : ℕ) (frame : Frame) → has_number frame ≡ true → SentO so r frame → 2 ≤ r
-numbered-o so r q2 e h = grind (arith)
+numbered-o so r x e h = grind (arith)
 
 numbered-a : (sa : Setup) (r m : ℕ) (frame : Frame) → has_number frame ≡ true → SentA sa r m frame → 2 ≤ r
-numbered-a sa r m q3 e h = grind (arith)
+numbered-a sa r m x e h = grind (arith)
 
 -- a slot that was sent
 of-slot : (P : Frame → Type 0) (o : Option Spoken) (slot : Spoken) (frame : Frame) → o ≡ Some slot → slot.sent ≡ slots.Frame frame
@@ -242,7 +232,7 @@ old-break from to line tl command pf info f by all number length_octet w =
     odd number n m p q = grind (arith)
 
     go : (b : Bool) → b ≡ false → cond b (Some length_octet) None ≡ None
-    go q0 z = grind (arith)
+    go x z = grind (arith)
 
 old-frame : (from to : Account) (line tl : List Slot) (frame : Frame) → First line (slots.Frame frame)
     → NextIsKnown (side_with from line) (side_with to tl) → NextWasOffered (side_with from line) (side_with to tl)
@@ -357,14 +347,6 @@ releases_last laws link delay ts ends t mid v c k released role = at-role role
     }
 
 -- what is no break's time is ignored
-ignores-detecting : (role : Role) (command pf : Bool) (info : List ℕ) (turn : ℕ) (a : Account)
-    → on_detecting role (Ui command pf info) turn a ≡ Ok a
-ignores-detecting q0 command pf info turn a = grind (arith)
-
-ignores-negotiating : (role : Role) (command pf : Bool) (info : List ℕ) (turn : ℕ) (a : Account)
-    → on_negotiating role (Ui command pf info) turn a ≡ Ok a
-ignores-negotiating q0 command pf info turn a = grind (arith)
-
 ignores : (p : Phase) (command pf : Bool) (info : List ℕ) (turn : ℕ) (a : Account) → has_begun p ≡ false
     → on_frame p (Ui command pf info) turn a ≡ Ok a
 ignores p command pf info turn a e = grind (arith)
@@ -373,7 +355,8 @@ same-ok : (r : Result Account LinkFault) (x y : Account) → r ≡ Ok x → r �
 same-ok r x y e k = grind (arith)
 
 pub early_breaks_are_ignored : KnowingLaws → EarlyBreaksAreIgnored
-early_breaks_are_ignored laws link delay ts ends t mid v c k role command pf info closed e = grind (arith, opens_by_frames, same-ok, ignores)
+early_breaks_are_ignored laws link delay ts ends t mid v c k role command pf info closed e = grind
+    (arith, opens_by_frames, same-ok, ignores)
 
 pub segments_pass_later : KnowingLaws → SegmentsPassLater
 segments_pass_later laws link delay ts ends t v c role ns nr pf info e =

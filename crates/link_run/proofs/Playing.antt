@@ -1,21 +1,15 @@
 -- Each run is a play: the events of each turn, one after another.
-use Rattle.std.proofs.Common.{◌≡◌, ℕ, zero, suc, ◌+◌, ◌-◌, ◌*◌, ◌<◌, ◌≤◌, ◌&&◌, Bool, true, false, cond, nat_lt, nat_le, List, [], ◌∷◌}
-use Rattle.std.proofs.Common.{◌++◌, length, map, take, drop, arith, refl, sym, ◌∙◌, ap, subst, Option, Some, None, Ok, slice_get}
-use Rattle.link_account.proofs.Names.{is_some, false≢true, nat_tests, append_assoc, Check, Role, Originator, Answerer, Sent}
-use Rattle.link_account.proofs.Names.{Account, is_connected, wants, piece_size, after_break_asked, after_given, after_busy}
-use Rattle.link_account.proofs.Names.{hear, Slot, Play, arrives, Heard, Nothing, Passed, Lost, Chance, of}
-use Rattle.link_run.proofs.Names.{User, BreakLine, delivered, piece_at, offered_at, offered_times, room_for, offered, is_busy, next_break}
-use Rattle.link_run.proofs.Names.{served, Turn, arrival, sent_in, sent_ago, Crosses}
-use Rattle.frame_check.specs.declared.check.Check.TheVariants.{Sixteen}
-use Rattle.link_account.specs.Account.{after_delivery}
-use Rattle.link_account.specs.Play.{Event, Passes, Is_lost, Hears_nothing, Is_offered, Is_asked, Delivers, Gives_break, Is_busy}
-use Rattle.link_account.specs.Play.{happens, play}
-use Rattle.link_run.specs.End.{asked_at, asked}
-use Rattle.link_run.specs.Carried.{on_line}
-use Rattle.link_account.proofs.Events.{at, play-append, hears-event, passes-event, loses-event, delivers-event, gives-event, offered-event}
-use Rattle.link_account.proofs.Events.{asked-event, busy-event}
+use Rattle.std.proofs.Common.{◌≡◌, ℕ, zero, suc, ◌+◌, ◌-◌, ◌*◌, ◌<◌, ◌≤◌, ◌&&◌, Bool, true, false, cond, nat_le, List, [], ◌∷◌, ◌++◌}
+use Rattle.std.proofs.Common.{length, map, take, drop, arith, refl, ◌∙◌, ap, subst, Option, Some, None, Ok, slice_get}
+use Rattle.link_account.proofs.Names.{is_some, nat_tests, append_assoc, Check, Role, Originator, Answerer, Account, is_connected, wants}
+use Rattle.link_account.proofs.Names.{piece_size, after_break_asked, after_given, after_busy, hear, Slot, Play, arrives, Heard, Nothing}
+use Rattle.link_account.proofs.Names.{Passed, Lost, Chance, of}
+use Rattle.link_run.proofs.Names.{BreakLine, Crosses, Delivers, Event, Gives_break, Hears_nothing, Is_asked, Is_busy, Is_lost, Is_offered}
+use Rattle.link_run.proofs.Names.{Passes, Sixteen, Turn, User, after_delivery, arrival, asked, asked-event, asked_at, at, busy-event}
+use Rattle.link_run.proofs.Names.{delivered, delivers-event, gives-event, happens, hears-event, is_busy, loses-event, next_break, offered}
+use Rattle.link_run.proofs.Names.{offered-event, offered_at, offered_times, on_line, passes-event, piece_at, play, play-append, room_for}
+use Rattle.link_run.proofs.Names.{sent_ago, sent_in, served, told_by_play, told_by_turn}
 use Rattle.link_run.proofs.Serving.{Waiting}
-use Rattle.link_run.specs.Laws.{told_by_play, told_by_turn}
 use Rattle.lapm_frames.specs.declared.arrived.Arrived.TheVariants as arrivals
 use Rattle.link_run.specs.Run as run
 

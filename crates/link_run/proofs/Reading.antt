@@ -1,19 +1,18 @@
 -- What is offered is what was read, and files count in a run as far as they were read.
-use Rattle.std.proofs.Common.{◌≡◌, inl, inr, ℕ, zero, suc, ◌+◌, ◌*◌, ◌<◌, ◌≤◌, Bool, true, false, cond, not, ◌&&◌, nat_lt, List, [], ◌∷◌}
-use Rattle.std.proofs.Common.{◌++◌, length, take, drop, arith, length-append, drop-drop, refl, sym, ◌∙◌, ap, subst, Option, Some, None}
-use Rattle.link_account.proofs.Names.{false≢true, is_some, nat_tests, append-nil, take-append-drop, Role, Originator, Answerer, of}
-use Rattle.link_account.proofs.Names.{IsAllowed, ReadsAllowed, KeepsTaken, Outgoing, with_piece, Account, is_connected, wants, piece_size}
-use Rattle.link_account.proofs.Names.{after_offer, after_given, after_busy, speak}
-use Rattle.link_run.proofs.Names.{User, delivered, piece_at, offered_at, offered_times, room_for, offered, is_busy, served, is_released}
-use Rattle.link_run.proofs.Names.{has_finished, Link, Accounts, arrival, GoingTurn, SpeaksAt, said_at, served_at}
+use Rattle.std.proofs.Common.{◌≡◌, ℕ, zero, suc, ◌+◌, ◌*◌, ◌<◌, ◌≤◌, Bool, true, false, cond, ◌&&◌, nat_lt, List, [], ◌∷◌, ◌++◌, length}
+use Rattle.std.proofs.Common.{take, drop, arith, length-append, drop-drop, refl, sym, ◌∙◌, ap, subst, Option, Some, None}
+use Rattle.link_account.proofs.Names.{false≢true, nat_tests, append-nil, take-append-drop, Role, Originator, Answerer, of, IsAllowed}
+use Rattle.link_account.proofs.Names.{ReadsAllowed, KeepsTaken, Outgoing, with_piece, Account, wants, piece_size, after_offer, after_given}
+use Rattle.link_account.proofs.Names.{after_busy, speak}
+use Rattle.link_run.proofs.Names.{Accounts, BeginsUnoffered, GoingTurn, HearingStaysOffered, IsCut, IsOffered, Link, OffersWhatIsRead}
+use Rattle.link_run.proofs.Names.{OwnSegmentsStay, RunsByWhatIsReadOn, RunsByWhatWasRead, SameSoFar, SegmentsAreTold, Served}
+use Rattle.link_run.proofs.Names.{SpeakingStaysOffered, SpeaksAt, User, arrival, asked, delivered, deliveries, given_break, has_finished}
+use Rattle.link_run.proofs.Names.{is_busy, is_released, offered, offered_at, offered_times, piece_at, room_for, said_at, served, served_at}
+use Rattle.link_run.proofs.Names.{with_files, with_segment}
 use Rattle.std.proofs.lemmas.List.{take_all, take-take, drop-take, length-take, length-take-le}
 use Rattle.std.proofs.Math.Seq.{take-append_seam, drop-append_seam}
-use Rattle.link_account.specs.Account.{given_break}
-use Rattle.link_run.specs.End.{Served, deliveries, asked}
-use Rattle.link_run.specs.Reading.{IsCut, IsOffered, SameSoFar, with_segment, BeginsUnoffered, HearingStaysOffered, SpeakingStaysOffered}
-use Rattle.link_run.specs.Reading.{OffersWhatIsRead, SegmentsAreTold, OwnSegmentsStay, with_files, RunsByWhatWasRead, RunsByWhatIsReadOn}
-use Rattle.link_run.proofs.Keeping.{Books, GoesOn, hears}
-use Rattle.link_run.proofs.Speaking.{Ledger, Speaks, Keeps_on, Releases, speaks}
+use Rattle.link_run.proofs.Keeping.{GoesOn, hears}
+use Rattle.link_run.proofs.Speaking.{Speaks, speaks}
 use Rattle.link_run.proofs.Cutting.{fresh-cuts, heard-cuts, spoken-cuts, delivered-cuts, offered-cuts-at, wants-are, piece-size-is}
 use Rattle.link_run.proofs.Cutting.{piece-sizes, next-cut, as-cut, times-next}
 use Rattle.link_run.proofs.Serving.{served-alone}
@@ -26,10 +25,10 @@ pub begins_unoffered : BeginsUnoffered
 begins_unoffered file setup h = fresh-cuts file setup h
 
 heard-lengths : (a b : Account) → GoesOn a b → b.own_breaks.lengths ≡ a.own_breaks.lengths
-heard-lengths a b q2 = grind (arith)
+heard-lengths a b x = grind (arith)
 
 spoken-lengths : (release : Bool) (a b : Account) → Speaks release a b → b.own_breaks.lengths ≡ a.own_breaks.lengths
-spoken-lengths release a b q3 = grind (arith)
+spoken-lengths release a b x = grind (arith)
 
 pub hearing_stays_offered : ReadsAllowed → KeepsTaken → HearingStaysOffered
 hearing_stays_offered reads keeps file turn arrived a b h e =
@@ -244,7 +243,7 @@ served-same u file others turn released a h s =
 -- speaking offers nothing
 pub same-spoken : (file others : List ℕ) (release : Bool) (a b : Account) → Speaks release a b → SameSoFar b.outgoing file others
     → SameSoFar a.outgoing file others
-same-spoken file others release a b q5 s = grind (arith, same-earlier)
+same-spoken file others release a b x s = grind (arith, same-earlier)
 
 -- serving offers no less
 pub same-served : (u : User) (file others : List ℕ) (turn : ℕ) (released : Bool) (a : Account)
@@ -261,7 +260,7 @@ same-served u file others turn released a s =
 -- an end that becomes Connected was offered nothing before
 pub same-heard : (file others : List ℕ) (a b : Account) → Unoffered a → GoesOn a b → SameSoFar b.outgoing file others
     → SameSoFar a.outgoing file others
-same-heard file others a b un q5 s = grind (arith, same-earlier)
+same-heard file others a b un x s = grind (arith, same-earlier)
 
 pub runs_by_what_was_read : ReadsAllowed → KeepsTaken → RunsByWhatWasRead
 runs_by_what_was_read reads keeps link files others [] ends allowed h same = h

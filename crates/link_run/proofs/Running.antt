@@ -1,18 +1,14 @@
 -- Each run over a line is a play.
-use Rattle.std.proofs.Common.{arith, ◌≡◌, ℕ, zero, suc, Bool, false, ◌-◌, List, [], ◌∷◌, ◌++◌, length, map, refl, sym, ◌∙◌, ap, subst, Option}
-use Rattle.std.proofs.Common.{Some, Ok}
+use Rattle.std.proofs.Common.{arith, ◌≡◌, ℕ, Bool, false, ◌-◌, List, [], ◌∷◌, ◌++◌, length, map, refl, sym, ap, subst, Option, Some, Ok}
 use Rattle.link_account.proofs.Names.{Role, Originator, Answerer, of, ReadsAllowed, KeepsTaken, fresh, Slot, Play, Said}
-use Rattle.link_run.proofs.Names.{is_released, Link, Accounts, Turn, arrival, Hears, GoingTurn, RunOf, served_at, releases, said_at}
-use Rattle.link_run.proofs.Names.{Carries, IsCarried}
-use Rattle.link_account.specs.Laws.{played}
-use Rattle.link_account.specs.Play.{Speaks, start, seen_from}
-use Rattle.link_run.specs.Carried.{HasDelays, on_line}
-use Rattle.link_run.specs.Laws.{told_by_play, told_by_turn, IsAt, IsPlayed, RunsArePlays, HearingsArePlays}
+use Rattle.link_run.proofs.Names.{Accounts, Carries, GoingTurn, HasDelays, HearingsArePlays, Hears, IsCarried, IsPlayed, Link, RunOf}
+use Rattle.link_run.proofs.Names.{RunsArePlays, Turn, arrival, at, is_released, on_line, releases, said_at, served_at, slot_of}
+use Rattle.link_run.proofs.Names.{speaks-event, told_by_play, told_by_turn}
+use Rattle.link_account.specs.Play.{Speaks, start}
 use Rattle.link_run.proofs.Keeping.{hears}
 use Rattle.link_run.proofs.Speaking.{speaks}
 use Rattle.link_run.proofs.Serving.{Handed, Waiting, heard-waits, served-handed, spoken-handed}
-use Rattle.link_run.proofs.Playing.{Leads, stay, then-leads, one, arrives-next, behind, told-behind, turns-behind, serves}
-use Rattle.link_account.proofs.Events.{at, speaks-event, slot_of}
+use Rattle.link_run.proofs.Playing.{Leads, stay, then-leads, one, arrives-next, told-behind, turns-behind, serves}
 use Rattle.link_run.specs.Run as run
 use Rattle.link_run.proofs.Speaking as speaking
 

@@ -1,17 +1,12 @@
 -- Who says a UA, a DISC and a frame with numbers, and in which phase.
-use Rattle.std.proofs.Common.{◌≡◌, ℕ, ◌≤◌, ◌||◌, Bool, true, false, cond, List, [], ◌∷◌, ◌++◌, arith, refl, sym, ◌∙◌, ap, Option, Some}
-use Rattle.std.proofs.Common.{None, Ok}
+use Rattle.std.proofs.Common.{◌≡◌, ℕ, ◌≤◌, ◌||◌, Bool, true, false, cond, List, arith, refl, sym, ◌∙◌, ap, Option, Some, None, Ok}
 use Rattle.link_account.proofs.Names.{false≢true, Frame, Disc, Incoming, Account, Said, says, frame_for, ready_frame, nr_of, speak, trying}
 use Rattle.link_account.proofs.Names.{is_originator}
-use Rattle.link_run.proofs.Names.{Phase, Connected, Releasing, Answer}
-use Rattle.lapm_receiver.specs.Incoming.{after_asked}
-use Rattle.lapm_receiver.specs.Held.{Held}
+use Rattle.link_run.proofs.Names.{Answer, Connected, Held, Phase, Releasing, Tries, Ways, after_asked, by-ways, linked-alike, tries-alike}
 use Rattle.link_account.specs.Speak.{says_frame}
 use Rattle.link_run.proofs.Keeping.{stage}
 use Rattle.link_run.proofs.Meeting.{is_ua, is_disc, is_segment, is_counted, carries, owes_ua}
-use Rattle.link_account.proofs.SpeakWays.{Tries, Ways, by-ways, linked-alike, tries-alike}
 use Rattle.lapm_frames.specs.declared.sent.Sent.TheVariants as slots
-use Rattle.link_account.specs.declared.answer.Answer.TheVariants as answers
 
 -- what a receiver's part has
 pub record Part : Type 0 where
@@ -41,12 +36,12 @@ other p a said u s d c o e = grind (arith)
 -- what an answer is, and RR or RNR
 answer-is : (d : Answer) (b : Account) → (carries is_ua (frame_for d b) ≡ owes_ua (Some d)) × (carries is_counted (frame_for d b) ≡ false)
     × (carries is_segment (frame_for d b) ≡ false) × (carries is_disc (frame_for d b) ≡ false)
-answer-is q0 b = grind (arith)
+answer-is x b = grind (arith)
 
 ready-is : (busy command pf : Bool) (nr : ℕ) → (carries is_ua (slots.Frame (ready_frame busy command nr pf)) ≡ false)
     × (carries is_segment (slots.Frame (ready_frame busy command nr pf)) ≡ false)
     × (carries is_disc (slots.Frame (ready_frame busy command nr pf)) ≡ false)
-ready-is q0 command pf nr = grind (arith)
+ready-is x command pf nr = grind (arith)
 
 answered : (p : Phase) (a : Account) (d : Answer) (b : Account) → part b ≡ part a → a.owes.answer ≡ Some d
     → Says p a (says (frame_for d b) (record b { owes = record b.owes { answer = None } }))
@@ -57,7 +52,7 @@ disconnects : (p : Phase) (a b : Account) → part b ≡ part a → b.owes.answe
 disconnects p a b same o later = grind (arith)
 
 allowed : (b : Bool) (o : Option ℕ) (n : ℕ) → cond b o None ≡ Some n → b ≡ true
-allowed q0 o n e = grind (arith)
+allowed x o n e = grind (arith)
 
 asked-part : (n : ℕ) (i : Incoming)
     → ((after_asked n i).taken ≡ i.taken) × ((after_asked n i).held ≡ i.held) × ((after_asked n i).srej ≡ i.srej)

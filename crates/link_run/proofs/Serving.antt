@@ -1,12 +1,9 @@
 -- What an end has handed to its user, between turns and once it has heard.
-use Rattle.std.proofs.Common.{◌≡◌, ◌≢◌, inl, inr, ℕ, zero, suc, ◌+◌, ◌≤◌, Bool, true, false, cond, nat_le, List, length, arith}
-use Rattle.std.proofs.Common.{length-append, refl, sym, ◌∙◌, ap, subst, Option, Some, None}
-use Rattle.link_account.proofs.Names.{after_ask, Account, is_connected, wants, after_given, after_busy}
-use Rattle.link_run.proofs.Names.{User, BreakLine, delivered}
-use Rattle.link_run.proofs.Names.{offered_at, offered_times, room_for, offered, is_busy, next_break, served}
-use Rattle.link_run.specs.End.{asked_at, asked}
-use Rattle.link_run.proofs.Keeping.{Books, stage, GoesOn, unlinked-stage}
-use Rattle.link_run.proofs.Speaking.{Ledger, Speaks, Keeps_on, Releases}
+use Rattle.std.proofs.Common.{◌≡◌, ◌≢◌, inl, inr, ℕ, zero, suc, ◌+◌, ◌≤◌, Bool, List, length, arith, length-append, refl, ◌∙◌, ap, Option}
+use Rattle.link_account.proofs.Names.{Account, wants, after_given, after_busy}
+use Rattle.link_run.proofs.Names.{BreakLine, User, asked, delivered, is_busy, offered, offered_at, offered_times, served}
+use Rattle.link_run.proofs.Keeping.{Books, stage, GoesOn}
+use Rattle.link_run.proofs.Speaking.{Speaks}
 
 -- all was handed over
 pub record Handed (a : Account) : Type 0 where
@@ -104,4 +101,4 @@ pub served-handed : (u : User) (turn : ℕ) (released : Bool) (a : Account) → 
 served-handed u turn released a w = grind (arith, served-alone)
 
 pub spoken-handed : (release : Bool) (a b : Account) → Handed a → Speaks release a b → Handed b
-spoken-handed release a b h q4 = grind (arith)
+spoken-handed release a b h x = grind (arith)

@@ -1,20 +1,18 @@
 -- Segments have at most the agreed length, and that is at most what their sender offers.
-use Rattle.std.proofs.Common.{◌≡◌, ◌≤◌, max, inl, inr, ℕ, zero, suc, ◌*◌, Bool, true, false, cond, nat_le, List, [], ◌∷◌, ◌++◌, length}
-use Rattle.std.proofs.Common.{drop, arith, refl, sym, ◌∙◌, ap, subst, Option, Some, None, Ok}
-use Rattle.link_account.proofs.Names.{Role, Originator, Answerer, of, Terms, ReadsAllowed, ReadsWritten, Outgoing, with_piece, KeepsTaken}
-use Rattle.link_account.proofs.Names.{Sent, Account, is_connected, wants, piece_size, after_given, after_busy, Said, MayPlay}
-use Rattle.link_run.proofs.Names.{Setup, Connected, User, delivered, piece_at, offered_at, offered_times, room_for, offered, is_busy}
-use Rattle.link_run.proofs.Names.{served, is_released, Link, Accounts, Turn, start, Spoken, arrival, Hears, RunOf, served_at, releases}
-use Rattle.link_run.proofs.Names.{said_at, Carries, IsCarried}
+use Rattle.std.proofs.Common.{◌≡◌, ◌≤◌, max, ℕ, zero, suc, ◌*◌, Bool, false, cond, List, [], ◌∷◌, ◌++◌, length, drop, arith, refl, sym, ◌∙◌}
+use Rattle.std.proofs.Common.{ap, subst, Option, Some, None, Ok}
+use Rattle.link_account.proofs.Names.{Role, Originator, Answerer, of, ReadsAllowed, ReadsWritten, Outgoing, with_piece, KeepsTaken, Account}
+use Rattle.link_account.proofs.Names.{is_connected, wants, piece_size, after_given, after_busy, Said, MayPlay}
+use Rattle.link_run.proofs.Names.{Accounts, Carries, Connected, Hears, IsCarried, Link, RunOf, SendsShort, Turn, User, arrival, delivered}
+use Rattle.link_run.proofs.Names.{is_busy, is_released, offered, offered_at, offered_times, piece_at, releases, room_for, said_at, served}
+use Rattle.link_run.proofs.Names.{served_at, size_for, start}
 use Rattle.std.proofs.lemmas.List.{length-take}
-use Rattle.link_account.specs.Account.{size_for, first_terms}
-use Rattle.link_run.specs.Laws.{SendsShort}
-use Rattle.link_run.proofs.Keeping.{Books, GoesOn, hears}
-use Rattle.link_run.proofs.Speaking.{Ledger, Speaks, Keeps_on, Releases}
+use Rattle.link_run.proofs.Keeping.{GoesOn, hears}
+use Rattle.link_run.proofs.Speaking.{Speaks}
 use Rattle.link_run.proofs.Serving.{asks-alone, busy-alone}
 use Rattle.link_run.proofs.Running.{told, speaks-at}
 use Rattle.link_run.proofs.Ending.{IsKept, AtBoth, kept-heard, kept-run, HasSetup, setups-kept}
-use Rattle.link_run.proofs.Knowing.{rank, OnSent, terms_of}
+use Rattle.link_run.proofs.Knowing.{OnSent}
 use Rattle.link_run.proofs.Following.{KnownOf, known-run, known-mid}
 use Rattle.link_run.proofs.Lengths.{AllShort, ShortFrame, said-short}
 
@@ -46,17 +44,14 @@ fit-offered : (n : ℕ) (file : List ℕ) (a : Account) → Fit a → Fit (offer
 fit-offered zero file a h = h
 fit-offered (suc n) file a h = fit-offered n file (offered_at file a (wants a)) (fit-offered-at file a (wants a) h)
 
-fit-delivered : (a : Account) → Fit a → Fit (delivered a)
-fit-delivered a h = grind (arith)
-
 fit-served : (u : User) (turn : ℕ) (released : Bool) (a : Account) → Fit a → Fit (served u turn released a).account
 fit-served u turn released a h = grind (arith, fit-offered, busy-alone, asks-alone)
 
 fit-heard : (a b : Account) → Fit a → GoesOn a b → Fit b
-fit-heard a b h q3 = grind (arith)
+fit-heard a b h x = grind (arith)
 
 fit-spoken : (release : Bool) (a b : Account) → Fit a → Speaks release a b → Fit b
-fit-spoken release a b h q4 = grind (arith)
+fit-spoken release a b h x = grind (arith)
 
 fits-kept : (link : Link) → IsKept IsFit link
 fits-kept link = grind (arith, fit-heard, fit-served, fit-spoken)
@@ -67,7 +62,7 @@ pub record Sized (most : ℕ) (a : Account) : Type 0 where
 
 sized-heard : (most : ℕ) (a b : Account) → Sized most a → GoesOn a b → (b.phase ≡ Connected → size_for b.setup.role b.terms ≤ most)
     → Sized most b
-sized-heard most a b h q4 f = grind (arith)
+sized-heard most a b h x f = grind (arith)
 
 served-size : (u : User) (turn : ℕ) (released : Bool) (a : Account) → (served u turn released a).account.outgoing.size ≡ a.outgoing.size
 served-size u turn released a =
@@ -78,11 +73,8 @@ served-size u turn released a =
     ∙ ap (λ (x : Account). x.outgoing.size) (busy-alone (is_busy turn u.busy) c) ∙ sizes (room_for g) u.file g
     ∙ given (is_connected a.phase)
   where
-    one : (p : List ℕ) (o : Outgoing) → (with_piece p o).size ≡ o.size
-    one q0 o = grind (arith)
-
     at : (file : List ℕ) (x : Account) (w : Option ℕ) → (offered_at file x w).outgoing.size ≡ x.outgoing.size
-    at file x q2 = grind (arith)
+    at file x y = grind (arith)
 
     sizes : (n : ℕ) (file : List ℕ) (x : Account) → (offered_times n file x).outgoing.size ≡ x.outgoing.size
     sizes zero file x = refl
@@ -90,10 +82,10 @@ served-size u turn released a =
 
     given : (b : Bool) → (after_given
         (cond b (record a { incoming = record a.incoming { given = length a.incoming.taken } }) a)).outgoing.size ≡ a.outgoing.size
-    given q0 = grind (arith)
+    given x = grind (arith)
 
 spoken-size : (release : Bool) (a b : Account) → Speaks release a b → b.outgoing.size ≡ a.outgoing.size
-spoken-size release a b q3 = grind (arith)
+spoken-size release a b x = grind (arith)
 
 -- what an end offers
 abbrev most_of : Link → Role → ℕ

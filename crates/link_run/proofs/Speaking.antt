@@ -1,13 +1,8 @@
 -- What an end keeps as it speaks.
-use Rattle.std.proofs.Common.{◌⊎◌, inl, inr}
-use Rattle.std.proofs.Common.{◌≡◌, ℕ, Bool, true, false, cond, ◌&&◌, List, [], ◌∷◌, ◌++◌, arith, ◌≤◌, refl, sym, ap, subst, Some, Ok, Err}
-use Rattle.link_account.proofs.Names.{false≢true, Role, Originator, Answerer, Frame, Terms, Incoming, LinkFault, Account, trying, Said}
-use Rattle.link_account.proofs.Names.{speak, is_originator}
-use Rattle.link_run.proofs.Names.{Phase, Connected, Releasing}
-use Rattle.lapm_receiver.specs.Incoming.{after_asked}
-use Rattle.link_account.specs.Laws.{WantsAnswers}
-use Rattle.link_account.proofs.SpeakWays.{Tries, Ways, by-ways, linked-alike, tries-alike, next-keeps, Breaks, Undetected, Spends}
-use Rattle.link_account.proofs.SpeakWays.{why-broken}
+use Rattle.std.proofs.Common.{◌⊎◌, ◌≡◌, ℕ, Bool, true, ◌&&◌, List, arith, ◌≤◌, refl, Some, Ok, Err}
+use Rattle.link_account.proofs.Names.{Role, Originator, Frame, Terms, Incoming, LinkFault, Account, trying, Said, speak, is_originator}
+use Rattle.link_run.proofs.Names.{Connected, Phase, Releasing, Tries, WantsAnswers, Ways, after_asked, by-ways, linked-alike, next-keeps}
+use Rattle.link_run.proofs.Names.{tries-alike, why-broken}
 use Rattle.link_run.proofs.Keeping.{Books, books, stage, standing}
 
 -- what speaking doesn't change
@@ -89,7 +84,7 @@ module _ (turn : ℕ) (release : Bool) (a : Account) where
 
   released-now : (role : Role) → a.setup.role ≡ role → (b : Bool) → release ≡ b → (b && is_originator role) ≡ true
       → (release ≡ true) × (a.setup.role ≡ Originator)
-  released-now q0 e q2 f g = grind (arith)
+  released-now x e y f g = grind (arith)
 
   ways : Ways P turn release a
   ways = record {
@@ -125,14 +120,14 @@ pub speaks-phase : (turn : ℕ) (release : Bool) (a : Account) (said : Said) →
 speaks-phase turn release a said e = go (speaks turn release a said e)
   where
     go : Speaks release a said.account → (said.account.phase ≡ a.phase) ⊎ ((a.phase ≡ Connected) × (said.account.phase ≡ Releasing))
-    go q0 = grind (arith)
+    go x = grind (arith)
 
 pub speaks-pieces : (turn : ℕ) (release : Bool) (a : Account) (said : Said) → speak turn release a ≡ Ok said
     → (said.account.outgoing.pieces ≡ a.outgoing.pieces) × (said.account.outgoing.size ≡ a.outgoing.size)
 speaks-pieces turn release a said e = go (speaks turn release a said e)
   where
     go : Speaks release a said.account → (said.account.outgoing.pieces ≡ a.outgoing.pieces) × (said.account.outgoing.size ≡ a.outgoing.size)
-    go q0 = grind (arith)
+    go x = grind (arith)
 
 -- what stands in Releasing and Closed
 pub stands-spoken : (turn : ℕ) (release : Bool) (a : Account) (said : Said) → 2 ≤ stage a.phase → speak turn release a ≡ Ok said
