@@ -1,15 +1,11 @@
 -- The front of an end that isn't whole advances within the turns of one segment, or the run ends.
-use Rattle.std.proofs.Common.{◌≡◌, ℕ, suc, ◌+◌, ◌-◌, ◌*◌, ◌<◌, ◌≤◌, ◌||◌, ◌⊎◌, Bool, true, false, cond, nat_lt, List, [], ◌∷◌, ◌++◌, length}
+use Rattle.std.proofs.Common.{◌≡◌, ℕ, suc, ◌+◌, ◌-◌, ◌*◌, ◌<◌, ◌≤◌, ◌⊎◌, Bool, true, false, cond, List, [], ◌∷◌, ◌++◌, length}
 use Rattle.std.proofs.Common.{inl, inr, arith, refl, sym, ◌∙◌, ap, subst, Option}
 use Rattle.turn_bound.proofs.Truths.{neither-first}
-use Rattle.link_account.proofs.Names.{nat_tests, Role, of, Outgoing, Account}
+use Rattle.link_account.proofs.Names.{Role, of, Outgoing, Account}
 use Rattle.link_run.proofs.Names.{Connected, is_released, Link, Accounts, Turn, GoingTurn, RunOf, arrival, IsCarried}
-use Rattle.lapm_sender.specs.Outgoing.{is_whole}
-use Rattle.turn_bound.specs.Time.{KeepsTime}
-use Rattle.turn_bound.specs.Due.{NoneDue}
-use Rattle.turn_bound.specs.Advance.{NeverBusy, MaySend, GoesOn, AdvancesSoon}
+use Rattle.turn_bound.proofs.Names.{AdvancesSoon, GoesOn, KeepsTime, MaySend, NeverBusy, NoneDue, is_whole}
 use Rattle.turn_bound.proofs.Value.{Rates, rates, AreRates, Ticks, left, is_waiting, Sends, is_free, lasts, one_if, sender_value, cond-le}
-use Rattle.turn_bound.proofs.Value.{Stands}
 use Rattle.turn_bound.proofs.Falls.{Offered, end-turn}
 use Rattle.turn_bound.proofs.Ending.{own-offered}
 use Rattle.turn_bound.proofs.MeetHear.{is_begun, of_arrived}
@@ -20,7 +16,6 @@ use Rattle.turn_bound.proofs.HeldTurn.{Linking, Linger, lingers}
 use Rattle.turn_bound.proofs.Wholeness.{late-whole}
 use Rattle.turn_bound.proofs.CalmRuns.{said-speaks, EndAt, end-at, never-at, light-arrival, Unpaused, calm-run, going-run, polls_heard}
 use Rattle.turn_bound.proofs.CalmRuns.{few-heard, hears-in}
-use Rattle.turn_bound.proofs.Tied.{keeps}
 
 -- the run behind later turns is one run
 joins : (link : Link) (ts us : List Turn) (before after : Accounts) → RunOf link ts before → GoesOn link ts before us after
@@ -210,7 +205,7 @@ soon : (z : Rates) (total start n front : ℕ) (list : List Turn) (role : Role) 
     → start ≤ z.quota * (total - front) + z.first + z.whole → a.outgoing.front ≡ front → a.outgoing.front < total
     → ((h : ℕ) → 3 * h + held_value (length list) a ≤ 68 + 8 * polls_heard h role list → h ≤ 32) → Stage z total start n list role a
     → n < z.quota
-soon z total start n front list role a y low same less few q13 = grind (arith, neither-first)
+soon z total start n front list role a y low same less few x = grind (arith, neither-first)
 
 advances-linked : (tries period : ℕ) (delay : Role → ℕ) (link : Link) (ts us : List Turn) (before after : Accounts) (role : Role)
     → KeepsTime tries period delay link → NeverBusy link → RunOf link ts before → MaySend (of role before) → GoesOn link ts before us after

@@ -1,18 +1,15 @@
 use Rattle.std.proofs.Common.{arith, ◌⊎◌, inl, inr, ◌≡◌, ℕ, ◌+◌, ◌&&◌, Bool, true, false, List, [], ◌∷◌, length, refl, sym, ◌∙◌, ap, subst}
-use Rattle.std.proofs.Common.{Some, None, Ok}
+use Rattle.std.proofs.Common.{None, Ok}
 use Rattle.link_account.proofs.Names.{Role, Originator, Answerer, Frame, is_originator, Arrived, Account, is_connected, hear, without_adp}
 use Rattle.link_account.proofs.Names.{trying, Said, speak, of}
-use Rattle.link_run.proofs.Names.{Phase, Connected, Releasing, Answer, User, is_busy, is_closed, is_released, Link, Accounts, Turn, RunOf}
+use Rattle.link_run.proofs.Names.{Phase, Connected, Releasing, User, is_busy, is_closed, is_released, Link, Accounts, Turn, RunOf}
 use Rattle.link_run.proofs.Names.{IsCarried}
 use Rattle.turn_bound.proofs.Value.{Rates, Stands}
 use Rattle.turn_bound.proofs.OneTurn.{Hearing}
 use Rattle.turn_bound.proofs.CalmRuns.{said-speaks, hears-in}
-use Rattle.link_run.specs.Run.{start}
-use Rattle.turn_bound.specs.Time.{KeepsTime}
-use Rattle.turn_bound.specs.Due.{NoneDue}
+use Rattle.turn_bound.proofs.Names.{KeepsTime, NoneDue, Steps, Tries, answers-unconnected, linked-alike, numbers-alike, retimed}
+use Rattle.turn_bound.proofs.Names.{tries-alike}
 use Rattle.turn_bound.proofs.Serving.{Served}
-use Rattle.link_account.proofs.HearWays.{numbers-alike}
-use Rattle.link_account.proofs.SpeakWays.{Steps, Tries, answers-unconnected, linked-alike, tries-alike, retimed}
 use Rattle.link_account.proofs.HearWays as HearWays
 use Rattle.link_account.proofs.SpeakWays as SpeakWays
 

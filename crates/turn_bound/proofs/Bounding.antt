@@ -1,22 +1,19 @@
-use Rattle.std.proofs.Common.{◌≡◌, ℕ, ◌+◌, ◌-◌, ◌*◌, Bool, true, false, nat_eq, nat_le, arith, refl, sym, ◌∙◌, ap, subst, Err, inl, inr}
+use Rattle.std.proofs.Common.{◌≡◌, ℕ, ◌+◌, ◌-◌, ◌*◌, Bool, true, false, nat_eq, arith, sym, ◌∙◌, ap, subst, Err}
 use Rattle.std.proofs.Common.{◌⊎◌, ◌<◌, ◌≤◌, List, [], ◌∷◌, length, map}
-use Rattle.link_account.proofs.Names.{nat_tests, Role, Originator, Answerer, LinkFault, Account, is_connected, spent, speak, Arrived}
-use Rattle.link_account.proofs.Names.{cases_lt, AllByRecursion, Outgoing, of}
-use Rattle.link_run.proofs.Names.{Phase, Negotiating, Establishing, Connected, Releasing, User, served_at, releases}
-use Rattle.turn_bound.proofs.Value.{Rates, AreRates, Runs, Ticks, IsOf, Linked, Tries, Stands, rates}
+use Rattle.link_account.proofs.Names.{Role, Originator, Answerer, LinkFault, Account, is_connected, speak, Arrived}
+use Rattle.link_account.proofs.Names.{AllByRecursion, Outgoing, of}
+use Rattle.link_run.proofs.Names.{Phase, Negotiating, Establishing, Releasing, User, served_at, releases}
+use Rattle.turn_bound.proofs.Value.{Rates, AreRates, Runs, IsOf, Tries, Stands}
 use Rattle.turn_bound.specs.Spent.{since, IsTimely, SpendsOnTime}
-use Rattle.link_account.proofs.SpeakWays.{Ended, TryEnds, ReleaseEnds, TimerEnds, BreakEnds, Breaks, Undetected, Spends, why-broken}
+use Rattle.turn_bound.proofs.Names.{AnswersAtOnce, Breaks, BusyLine, IsBroken}
+use Rattle.turn_bound.proofs.Names.{busy_turns, why-broken}
 use Rattle.turn_bound.proofs.OneTurn.{Hearing}
 use Rattle.std.proofs.Math.Nat.{mul-le-mul_right, mul-le-mul_left}
-use Rattle.link_run.specs.End.{BusyLine, busy_turns}
 use Rattle.turn_bound.specs.Offered.{HoldsFile, IsWithin, OffersWithin}
 use Rattle.turn_bound.specs.Limits.{IsShort, NoRunIsLong}
-use Rattle.link_run.specs.Run.{IsBroken}
 use Rattle.turn_bound.specs.Bound.{of_both, weight, most_turns, offered_to, EndsSoon, EndsSoonByFiles, EndsSoonByOctets}
 use Rattle.turn_bound.specs.Together.{StandTogether}
-use Rattle.turn_bound.specs.Due.{NoneDue, AnswersAtOnce}
 use Rattle.turn_bound.proofs.Tied.{tied, keeps, link_of, turn_of, state_of, turns-length}
-use Rattle.turn_bound.proofs.Ending.{fits}
 use Rattle.turn_bound.proofs.Soon.{ends-soon, stands-together}
 use Rattle.turn_bound.proofs.CalmRuns.{hears-in}
 use Rattle.turn_bound.proofs.AtMostOne.{none-due-run}
@@ -38,22 +35,13 @@ speaks-spend z turn role p release a fault y k s e er h = go (why-broken turn re
     -- the try of its phase
     tries : ((a.phase ≡ Negotiating) × (a.setup.role ≡ Originator)) ⊎ ((a.phase ≡ Establishing) ⊎ (a.phase ≡ Releasing))
         → Tries z (turn + 1) turn a × (is_connected a.phase ≡ false)
-    tries q0 = grind (arith)
-
-    linked : a.phase ≡ Connected → Linked z (turn + 1) turn role a
-    linked q = subst (λ x. Stands z (turn + 1) turn role x a) (sym e ∙ q) s
+    tries x = grind (arith)
 
     whole-is : (a.setup.tries + 1) * a.setup.period ≡ z.whole
     whole-is = ap (λ n. (n + 1) * a.setup.period) k.tries ∙ ap (λ p. (z.tries + 1) * p) k.period ∙ sym y.whole
 
-    by : Ended turn release a → IsTimely z.period z.whole turn a (spent turn a)
-    by (TryEnds q x n) = grind (arith, on-time)
-    by (ReleaseEnds q x) = grind (arith)
-    by (TimerEnds q set r x n) = grind (arith, linked, on-time)
-    by (BreakEnds q w x n) = grind (arith, linked, on-time)
-
     go : Breaks turn release a fault → IsTimely z.period z.whole turn a fault
-    go q0 = grind (arith, whole-is)
+    go x = grind (arith, whole-is)
 
 -- an end that has heard and is served
 pub end-spends : {z : Rates} {user : User} {turn : ℕ} {role : Role} {a : Account} {arrived : Arrived} {mid b : Account}

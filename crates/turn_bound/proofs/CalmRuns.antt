@@ -1,13 +1,11 @@
 -- What holds all through a run where no user is busy.
-use Rattle.std.proofs.Common.{◌≡◌, ℕ, zero, suc, ◌+◌, ◌-◌, ◌*◌, ◌≤◌, Bool, true, false, List, [], ◌∷◌, drop, map, length, arith, refl, sym}
-use Rattle.std.proofs.Common.{◌∙◌, ap, subst, Option, Some, None, Result, Ok}
-use Rattle.link_account.proofs.Names.{slice_get, AllByRecursion, Role, Originator, Answerer, other, of, Heard, LinkFault, Account}
+use Rattle.std.proofs.Common.{◌≡◌, ℕ, zero, suc, ◌+◌, ◌*◌, ◌≤◌, Bool, true, false, List, [], ◌∷◌, drop, map, length, arith, refl, sym}
+use Rattle.std.proofs.Common.{◌∙◌, ap, subst, Option, Some, None, Ok}
+use Rattle.link_account.proofs.Names.{slice_get, AllByRecursion, Role, Originator, Answerer, other, of, Heard, Account}
 use Rattle.link_account.proofs.Names.{is_connected, Said, speak}
 use Rattle.link_run.proofs.Names.{User, is_busy, is_released, Link, Accounts, Spoken, Turn, GoingTurn, RunOf, said_at, releases, arrival}
-use Rattle.link_run.proofs.Names.{Crosses, Carries, IsCarried, sent_in, sent_ago, Hears}
-use Rattle.link_run.specs.End.{BusyLine}
-use Rattle.turn_bound.specs.Time.{KeepsTime}
-use Rattle.turn_bound.specs.Advance.{NeverBusy}
+use Rattle.link_run.proofs.Names.{Crosses, Carries, IsCarried, sent_in, Hears}
+use Rattle.turn_bound.proofs.Names.{BusyLine, KeepsTime, NeverBusy}
 use Rattle.turn_bound.proofs.Value.{Rates, rates, AreRates, one_if, IsOf, Stands, weight, rnrs, arrived_weight, arrived_rnrs}
 use Rattle.turn_bound.proofs.Run.{served_account}
 use Rattle.turn_bound.proofs.Serving.{serves-all}

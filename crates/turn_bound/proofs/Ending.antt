@@ -1,7 +1,6 @@
-use Rattle.std.proofs.Common.{◌≡◌, ℕ, ◌+◌, ◌-◌, ◌*◌, ◌<◌, ◌≤◌, cond, List, [], ◌∷◌, length, arith, refl, sym, ap, subst}
-use Rattle.link_account.specs.Account.{Account}
-use Rattle.turn_bound.proofs.Value.{Rates, rates, is_free, cond-le}
-use Rattle.link_run.specs.End.{busy_left, busy_turns}
+use Rattle.std.proofs.Common.{◌≡◌, ℕ, ◌+◌, ◌-◌, ◌*◌, ◌<◌, ◌≤◌, List, [], ◌∷◌, length, arith, refl, sym, subst}
+use Rattle.turn_bound.proofs.Names.{Account, busy_turns}
+use Rattle.turn_bound.proofs.Value.{Rates, rates, cond-le}
 use Rattle.turn_bound.proofs.Run.{Link, State, Turn, RunOf, start, Totals, potential, Keeps, AreTogether}
 use Rattle.turn_bound.proofs.Lines.{busy-start}
 use Rattle.turn_bound.proofs.Falls.{Offered, Sound, Fits, both-turn, sound-after, state_after, after-is, falls}

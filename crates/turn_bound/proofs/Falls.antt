@@ -1,12 +1,12 @@
-use Rattle.std.proofs.Common.{◌≡◌, ℕ, ◌+◌, ◌*◌, ◌<◌, ◌≤◌, ◌&&◌, ◌||◌, not, Bool, true, false, cond, nat_lt, [], length, length-append}
-use Rattle.std.proofs.Common.{arith, refl, sym, ◌∙◌, ap, subst, Some, None, Result, Ok, List, ◌++◌, ◌∷◌}
+use Rattle.std.proofs.Common.{◌≡◌, ℕ, ◌+◌, ◌*◌, ◌<◌, ◌≤◌, ◌&&◌, ◌||◌, Bool, true, false, cond, [], length, length-append}
+use Rattle.std.proofs.Common.{arith, refl, sym, ◌∙◌, ap, subst, None, Result, Ok, List, ◌++◌, ◌∷◌}
 use Rattle.turn_bound.proofs.Truths.{neither-first, neither-second}
 use Rattle.link_account.proofs.Names.{Role, Originator, Answerer, Outgoing, wanted, Arrived, LinkFault, Account, is_connected}
 use Rattle.link_account.proofs.Names.{is_originator, Said, speak, Slot}
 use Rattle.link_run.proofs.Names.{Phase, Connected, User, is_busy, is_closed, is_released, has_finished}
-use Rattle.turn_bound.proofs.Value.{Rates, is_waiting, is_free, lasts, one_if, is_breaking, AreRates, value, linked_lives, lives, IsOf}
+use Rattle.turn_bound.proofs.Value.{Rates, is_free, lasts, one_if, AreRates, value, linked_lives, lives, IsOf}
 use Rattle.turn_bound.proofs.Value.{Linked, Stands, dues, arrived_rnrs, kept}
-use Rattle.link_run.specs.End.{busy_left}
+use Rattle.turn_bound.proofs.Names.{busy_left}
 use Rattle.turn_bound.proofs.Run.{served_account, Link, State, Turn, GoingTurn, arrival, left_on, slot_of, weights, rnrs_on, Totals}
 use Rattle.turn_bound.proofs.Run.{is_alive, stall, potential, AreTogether}
 use Rattle.turn_bound.proofs.Lines.{AllLight, arrived-well, weights-snoc, rnrs-snoc, light-snoc, weights-most, dues-most, busy-falls}
@@ -307,9 +307,6 @@ falls z link totals turn s t u f h g oo oa before after = by (is_busy turn link.
 
     ba : Bool
     ba = is_busy turn link.answ.user.busy
-
-    owed : State → ℕ → ℕ
-    owed x n = rnrs_on x.forward + rnrs_on x.back + 2 * (busy_left n link.orig.user.busy + busy_left n link.answ.user.busy)
 
     lines : rnrs_on s'.forward + rnrs_on s'.back + 2 *
         (busy_left (turn + 1) link.orig.user.busy + busy_left (turn + 1) link.answ.user.busy) + ao + aa + (one_if bo + one_if ba)

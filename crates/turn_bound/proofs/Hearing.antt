@@ -1,27 +1,25 @@
-use Rattle.std.proofs.Common.{◌≡◌, ℕ, ◌≤◌, ◌&&◌, min, Bool, true, false, List, arith, Some, ◌+◌, ◌-◌, ◌*◌, ◌%◌, ◌<◌, ◌||◌, cond, nat_eq}
-use Rattle.std.proofs.Common.{length, refl, subst, Option, nat_lt, sym, ◌∙◌, ap, Ok, inl, inr}
+use Rattle.std.proofs.Common.{◌≡◌, ℕ, ◌≤◌, Bool, true, false, List, arith, Some, ◌+◌, ◌-◌, ◌*◌, ◌<◌, ◌||◌}
+use Rattle.std.proofs.Common.{length, refl, subst, Option, sym, ◌∙◌, ap, Ok, inl, inr}
 use Rattle.link_account.proofs.Names.{Offer, agree, offer_in, nat_tests, Role, Originator, Answerer, Outgoing, OwnBreaks, after_answer}
-use Rattle.link_account.proofs.Names.{waits, Account, Frame, I, Rr, Rnr, Rej, Srej, Arrived, Incoming, is_some, Sabme, Disc, Ui, Ua, Xid}
+use Rattle.link_account.proofs.Names.{Account, Frame, I, Rr, Rnr, Rej, Srej, Arrived, Incoming, Sabme, Disc, Ui, Ua, Xid}
 use Rattle.link_account.proofs.Names.{is_originator, other, hear, on_nothing, trying, owing}
 use Rattle.xid_params.specs.Terms.{lowered, default_offer}
 use Rattle.xid_params.proofs.Allowed.{reads_allowed_always}
 use Rattle.link_run.proofs.Names.{Phase, Connected, Detecting, Negotiating, Establishing, Releasing, Closed}
-use Rattle.lapm_sender.specs.Outgoing.{paused_at}
-use Rattle.link_account.specs.Hear.{timer_after, connected, on_xid_command, on_xid_response, first_wait}
-use Rattle.link_account.proofs.HearWays.{Numbers, numbered_with, acked-keeps, acked_back-keeps, resumed-keeps, ConnectedWays, EarlyWays}
+use Rattle.turn_bound.proofs.Names.{ConnectedWays, EarlyWays, Numbers, TheirBreaks, acked-keeps, acked_back-keeps, connected, first_wait}
+use Rattle.turn_bound.proofs.Names.{no_breaks, numbered_with, on_xid_command, on_xid_response, paused_at, resumed-keeps, size_for}
+use Rattle.turn_bound.proofs.Names.{timer_after, window_for}
 use Rattle.link_account.proofs.HearWays.{by-ways}
 use Rattle.turn_bound.proofs.Value.{frame_rnrs, value, lives, IsAck, IsSilent, Linked, Stands, Rates, AreRates, is_waiting, Sends, ends}
-use Rattle.turn_bound.proofs.Value.{Breaks, is_breaking, Ticks, left, worth, break_left, time_left, linked_left, linked_lives, IsOf}
+use Rattle.turn_bound.proofs.Value.{Breaks, is_breaking, worth, break_left, time_left, linked_left, linked_lives, IsOf}
 use Rattle.turn_bound.proofs.Value.{Unlinked, Tries, phases_left, arrived_rnrs, tries_fit, left-some, ticks-now}
 use Rattle.turn_bound.proofs.Sender.{acked-heard, Heard, HeardWell, heard-well, heard-busy, meant-range, heard-advanced, heard-resumed}
 use Rattle.turn_bound.proofs.Sender.{heard-selected}
 use Rattle.turn_bound.proofs.Sending.{later-sends, later-breaks, ChangedWell, answered-well, ends-same, or-false}
-use Rattle.break_signals.specs.Breaks.{TheirBreaks, no_breaks}
 use Rattle.link_account.specs.declared.owes.Owes.{Owes}
 use Rattle.lapm_frames.specs.declared.arrived.Arrived.TheVariants as arrivals
 use Rattle.xid_params.specs.declared.terms.Terms.{Terms}
 use Rattle.lapm_frames.specs.declared.seen.Seen.TheVariants.{Odp, Adp}
-use Rattle.link_account.specs.Account.{window_for, size_for}
 use Rattle.lapm_sender.specs.Outgoing as outgoing
 use Rattle.lapm_receiver.specs.Incoming as incoming
 use Rattle.link_account.specs.declared.answer.Answer.TheVariants as answers
@@ -186,14 +184,6 @@ begins-o z total breaks turn a y k u = record {
   lengths = refl;
   falls = omega (arith, ap (worth z total) u.outgoing, ap (break_left z turn) u.breaks, y.quota);
 }
-
-stays-dead : (z : Rates) (turn : ℕ) (k : ℕ) (own : OwnBreaks) → own ≡ no_breaks
-    → (break_left z turn own ≡ 0) × (ends k false (is_breaking turn own) ≡ 0)
-stays-dead z turn k own e = grind (arith)
-
-begins-a-stands : (z : Rates) (turn : ℕ) (a : Account) → AreRates z → IsOf z a.setup → Unlinked a
-    → Linked z (turn + 1) turn Answerer (connected_as Answerer turn a)
-begins-a-stands z turn a y k u = grind (arith, none-broken)
 
 begins-a : (z : Rates) (total breaks turn : ℕ) (p : Phase) (a : Account) → AreRates z → IsOf z a.setup → Unlinked a
     → lives turn Answerer p a ≡ false → time_left z turn Answerer p a ≡ 0

@@ -2,18 +2,15 @@
 use Rattle.std.proofs.Common.{◌≡◌, ℕ, ◌+◌, ◌-◌, ◌%◌, ◌<◌, ◌≤◌, ◌&&◌, ◌||◌, ◌⊎◌, min, Bool, true, false, cond, nat_eq, [], ◌∷◌, subst, ◌++◌}
 use Rattle.std.proofs.Common.{length, slice_index_or, inl, inr, arith, refl, sym, ◌∙◌, ap, Some, None, not, nat_lt, Ok}
 use Rattle.link_account.proofs.Names.{is_some, nat_tests, is_originator, next_number, Incoming, BreakWord, Brk, OwnBreaks, waits, ticked}
-use Rattle.link_account.proofs.Names.{Account, Said, may_send, Role, wanted, Arrived, is_connected, speak, other}
-use Rattle.link_account.specs.Speak.{differs}
+use Rattle.link_account.proofs.Names.{Account, Said, may_send, Role, wanted, Arrived, is_connected, speak}
+use Rattle.turn_bound.proofs.Names.{NoWord, NoneDue, Steps, differs, is_whole, steps-so}
 use Rattle.turn_bound.proofs.Value.{Rates, AreRates, is_waiting, Sends, IsOf, ends, one_if, lasts, sender_value, Linked, Stands}
 use Rattle.turn_bound.proofs.Value.{arrived_weight, arrived_rnrs}
 use Rattle.turn_bound.proofs.Sending.{sent-well, ends-same}
-use Rattle.link_account.proofs.SpeakWays.{NoWord, Steps, steps-so}
 use Rattle.turn_bound.proofs.StillTurn.{asks-rej, idle-next, Stays, stays, or-numbered}
 use Rattle.turn_bound.proofs.Taking.{own_value, held_value, owed_by, may_send_at, frame_poll, TakesNumber, Takes, Closes, takes, served-own}
 use Rattle.turn_bound.proofs.Taking.{served-owes}
-use Rattle.link_run.proofs.Names.{Connected, Closed, User, is_busy, is_released}
-use Rattle.lapm_sender.specs.Outgoing.{is_whole}
-use Rattle.turn_bound.specs.Due.{NoneDue}
+use Rattle.link_run.proofs.Names.{Connected, User, is_busy, is_released}
 use Rattle.turn_bound.proofs.Sender.{heard-well}
 use Rattle.turn_bound.proofs.Speaking.{Spoke, spoke, untimed, stopped}
 use Rattle.turn_bound.proofs.Falls.{Offered, full-or-ended}
@@ -98,7 +95,7 @@ module _ (z : Rates) (turn : ℕ) (special : Bool) (a : Account) (y : AreRates z
 
   -- where no word is to be said no break is to be answered
   unasked : special ≡ false → NoWord special a → is_some a.their_breaks.ack ≡ false
-  unasked e q1 = grind (arith)
+  unasked e x = grind (arith)
 
   rejected : (i : Incoming) (x : ℕ) → i.srej ≡ false → i.rej ≡ true
       → cond (cond i.srej (record i { asked = i.asked ++ x ∷ [] }) (record i { rej = false })).srej 0
@@ -167,7 +164,7 @@ heard-value : (z : Rates) (total turn : ℕ) (a b : Account) → AreRates z → 
     → length a.outgoing.pieces ≤ total → TakesNumber turn a b
     → (sender_value z total turn b.outgoing b.wait.timer + ends z.room (is_waiting a.outgoing)
     (is_waiting b.outgoing) ≤ sender_value z total turn a.outgoing a.wait.timer) × (a.outgoing.front ≤ b.outgoing.front)
-heard-value z total turn a b y s all q8 = grind (arith, heard-well, ends-same)
+heard-value z total turn a b y s all x = grind (arith, heard-well, ends-same)
 
 module _ {z : Rates} {user : User} {turn : ℕ} {role : Role} {a : Account} {arrived : Arrived} {mid b : Account}
     (i : Hearing z user turn role a arrived mid b) where
@@ -214,9 +211,6 @@ module _ {z : Rates} {user : User} {turn : ℕ} {role : Role} {a : Account} {arr
 
       front-said : said.account.outgoing.front ≡ b.outgoing.front
       front-said = ap (λ m. m.1) c.0
-
-      closed : Closes a mid → ⊥
-      closed e = let wrong : Closed ≡ Connected = sym e.phase ∙ s.mid_phase in cc
 
       may-said : Takes turn polled a mid → may_send_at said.account ≡ true
       may-said t = or-numbered (is_originator a.setup.role) (is_originator said.account.setup.role) a.numbered said.account.numbered
@@ -286,7 +280,7 @@ module _ {z : Rates} {user : User} {turn : ℕ} {role : Role} {a : Account} {arr
                   omega (arith, less, base, t.calm (sym s.serves.srej ∙ e) (ap (λ x. is_some x.ack) (sym s.serves.ack) ∙ n))
 
               by : (x : Said) → Goes turn b.special d x → Lingers x
-              by x q1 = grind (arith, pays)
+              by x y = grind (arith, pays)
 
       -- none is wanted: the file has ended, or the window is full
       some-left : is_whole said.account.outgoing ≡ false → said.account.outgoing.front < length said.account.outgoing.pieces
@@ -346,4 +340,4 @@ module _ {z : Rates} {user : User} {turn : ℕ} {role : Role} {a : Account} {arr
           on true e t idle less = inl (p.stepped.waits (timed-waits ∙ (sym same-waits ∙ e)))
 
       result : Closes a mid ⊎ ((mid.phase ≡ Connected) × Takes turn polled a mid) → Linger z total turn polled a said.account
-      result q0 = grind (arith, linger)
+      result x = grind (arith, linger)

@@ -1,24 +1,16 @@
-use Rattle.std.proofs.Common.{◌≡◌, ℕ, ◌+◌, ◌-◌, ◌*◌, ◌<◌, ◌≤◌, ◌&&◌, ◌||◌, max, Bool, true, false, cond, nat_lt, nat_le, not, List, [], ◌∷◌}
+use Rattle.std.proofs.Common.{◌≡◌, ℕ, ◌+◌, ◌*◌, ◌≤◌, Bool, List, [], ◌∷◌}
 use Rattle.std.proofs.Common.{◌++◌, length, arith, refl}
-use Rattle.link_account.proofs.Names.{is_some, AllByRecursion, nat_tests, Sent, Arrived, Account, Slot, arrives}
+use Rattle.link_account.proofs.Names.{AllByRecursion, Arrived, Account, Slot}
 use Rattle.link_run.proofs.Names.{is_busy}
-use Rattle.turn_bound.proofs.Value.{one_if, is_free, weight, rnrs, arrived_weight, arrived_rnrs, dues, two_if, four_if}
-use Rattle.link_run.specs.End.{BusyLine, busy_left, busy_turns}
+use Rattle.turn_bound.proofs.Value.{one_if, weight, rnrs, arrived_weight, arrived_rnrs, dues, two_if, four_if}
+use Rattle.turn_bound.proofs.Names.{BusyLine, busy_left, busy_turns}
 use Rattle.turn_bound.proofs.Run.{arrival, left_on, weights, rnrs_on}
-use Rattle.lapm_frames.specs.declared.sent.Sent.TheVariants as slots
-use Rattle.lapm_frames.specs.declared.arrived.Arrived.TheVariants as arrivals
 
 abbrev pub IsLight : Slot → Type 0
 IsLight slot = weight slot.sent ≤ 2
 
 abbrev pub AllLight : List Slot → Type 0
 AllLight line = AllByRecursion {X = Slot} IsLight line
-
-pub arrives-weight : (sent : Sent) → arrived_weight (arrives sent) ≡ weight sent
-arrives-weight sent = grind (arith)
-
-pub arrives-rnrs : (sent : Sent) → arrived_rnrs (arrives sent) ≡ rnrs sent
-arrives-rnrs sent = grind (arith)
 
 -- what arrives of a line leaves it
 pub record Arrives (delay : ℕ) (line rest : List Slot) (arrived : Arrived) : Type 0 where

@@ -1,10 +1,10 @@
-use Rattle.std.proofs.Common.{arith, ◌≡◌, ℕ, ◌&&◌, ◌||◌, not, Bool, true, false, cond, refl, sym, ◌∙◌, ap, Option, Ok, inl, inr}
+use Rattle.std.proofs.Common.{arith, ◌≡◌, ℕ, ◌&&◌, ◌||◌, not, Bool, true, false, refl, sym, ◌∙◌, ap, Option, Ok, inl, inr}
 use Rattle.turn_bound.proofs.Truths.{or-first, or-true}
-use Rattle.link_account.proofs.Names.{Originator, Answerer, Frame, Rr, Rnr, Rej, Outgoing, is_outstanding, resumed, Arrived, Account}
+use Rattle.link_account.proofs.Names.{Originator, Answerer, Frame, Rr, Rnr, Rej, Outgoing, resumed, Arrived, Account}
 use Rattle.link_account.proofs.Names.{is_originator, hear, without_adp}
 use Rattle.link_run.proofs.Names.{Phase, Detecting, Negotiating, Establishing, Connected, Answer, is_closed, is_released}
-use Rattle.link_account.specs.Hear.{ends_wait}
-use Rattle.link_account.proofs.HearWays.{Ways, by-ways, acked, acked_back, numbers-alike}
+use Rattle.turn_bound.proofs.Names.{acked, acked_back, ends_wait, numbers-alike}
+use Rattle.link_account.proofs.HearWays.{Ways, by-ways}
 pub use Rattle.link_run.proofs.Meeting.{is_ua as frame_ua, is_disc as frame_disc, carries as of_frame, brings as of_arrived}
 pub use Rattle.link_run.proofs.Meeting.{owes_ua as is_ua_due}
 pub use Rattle.link_account.specs.Laws.{has_begun as is_begun}

@@ -1,22 +1,19 @@
-use Rattle.std.proofs.Common.{◌≡◌, ◌≤◌, ℕ, ◌&&◌, not, Bool, true, false, refl, sym, ◌∙◌, ap, arith, Ok, inl, inr, ◌||◌, cond, nat_lt, List}
+use Rattle.std.proofs.Common.{◌≡◌, ◌≤◌, ℕ, ◌&&◌, not, Bool, true, false, refl, sym, ◌∙◌, ap, arith, Ok, inl, inr, ◌||◌, List}
 use Rattle.std.proofs.Common.{[], ◌∷◌, ◌++◌, length, subst}
 use Rattle.turn_bound.proofs.Truths.{not-true}
 use Rattle.link_account.proofs.Names.{Account, trying, Said, frame_for, ready_frame, nr_of, speak, AllByRecursion, Answerer, Frame, Sent}
 use Rattle.link_account.proofs.Names.{Slot, arrives}
 use Rattle.link_run.proofs.Names.{Phase, Releasing, Answer, is_closed, is_released, Connected}
-use Rattle.link_account.proofs.SpeakWays.{Steps, by-ways, steps-so, tries-alike, next-keeps, polling_at}
+use Rattle.turn_bound.proofs.Names.{Steps, by-ways, next-keeps, polling_at, steps-so, tries-alike}
 use Rattle.link_run.proofs.Keeping.{stage}
 use Rattle.link_run.proofs.Saying.{Part, is-said}
 use Rattle.link_run.proofs.Speaking.{speaks-phase}
 use Rattle.turn_bound.proofs.MeetHear.{is_begun, is_ua_due, frame_ua, frame_disc, frame_final, of_frame, of_arrived, o-hears, a-hears}
-use Rattle.link_account.specs.declared.answer.Answer.TheVariants as answers
 use Rattle.turn_bound.proofs.Value.{Rates, Stands, all_weaker}
 use Rattle.turn_bound.proofs.Run.{served_account, Link, State, Turn, GoingTurn, RunOf, start, arrival, left_on, slot_of, AreTogether}
 use Rattle.turn_bound.proofs.Serving.{serves-all}
 use Rattle.turn_bound.proofs.Falls.{Sound, Fits, state_after, after-is}
 use Rattle.turn_bound.proofs.Ending.{sound-run}
-use Rattle.lapm_frames.specs.declared.sent.Sent.TheVariants as slots
-use Rattle.lapm_frames.specs.declared.arrived.Arrived.TheVariants as arrivals
 
 -- What an end says, of either role.
 pub record SaysSo (a : Account) (said : Said) : Type 0 where

@@ -1,14 +1,13 @@
 -- Where no user is busy no end tells that it is, and none counts the other as busy.
-use Rattle.std.proofs.Common.{◌≡◌, ℕ, Bool, true, false, arith, refl, sym, ◌∙◌, ap, subst, Option, Ok, inl, inr}
-use Rattle.link_account.proofs.Names.{Disc, Outgoing, Arrived, Account, is_connected, hear, on_nothing, trying, Said, speak}
-use Rattle.link_account.proofs.Names.{speak_releasing, Incoming, frame_for}
-use Rattle.link_run.proofs.Names.{Phase, Connected, Releasing, Answer, is_released}
+use Rattle.std.proofs.Common.{◌≡◌, ℕ, Bool, true, false, arith, refl, sym, ◌∙◌, ap, Option, Ok, inl, inr}
+use Rattle.link_account.proofs.Names.{Outgoing, Arrived, Account, is_connected, hear, on_nothing, trying, Said, speak}
+use Rattle.link_account.proofs.Names.{speak_releasing, Incoming}
+use Rattle.link_run.proofs.Names.{Phase, Connected, Releasing, is_released}
 use Rattle.turn_bound.proofs.Value.{arrived_rnrs}
-use Rattle.link_account.proofs.HearWays.{numbered_with, acked, acked_back, resumed-unpaused}
-use Rattle.link_account.proofs.SpeakWays.{OnSaid, Steps, linked-alike, tries-alike, by-tries, retimed, next-keeps}
+use Rattle.turn_bound.proofs.Names.{Steps, acked, acked_back, by-tries, linked-alike, numbered_with, resumed-unpaused}
+use Rattle.turn_bound.proofs.Names.{retimed, tries-alike}
 use Rattle.turn_bound.proofs.MeetHear.{is_begun, of_frame}
 use Rattle.turn_bound.proofs.Taking.{frame_poll}
-use Rattle.link_account.specs.declared.answer.Answer.TheVariants as answers
 use Rattle.link_account.proofs.HearWays as HearWays
 use Rattle.link_account.proofs.SpeakWays as SpeakWays
 
@@ -120,9 +119,6 @@ says-calm turn release a said calm e = SpeakWays.by-ways (Calm a) turn release a
 -- An end that isn't Connected, or that is told to release, sends no poll.
 abbrev pub Unpolled : Said → Type 0
 Unpolled said = of_frame frame_poll said.sent ≡ false
-
-answer-unpolled : (d : Answer) (a : Account) → of_frame frame_poll (frame_for d a) ≡ false
-answer-unpolled d a = grind (arith)
 
 pub says-unpolled : (turn : ℕ) (release : Bool) (a : Account) (said : Said) → is_connected a.phase ≡ false → speak turn release a ≡ Ok said
     → of_frame frame_poll said.sent ≡ false

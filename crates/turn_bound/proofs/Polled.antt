@@ -1,16 +1,13 @@
 -- An end's polls become due once in a whole period, and so once in nineteen turns.
-use Rattle.std.proofs.Common.{◌≡◌, ℕ, ◌+◌, ◌-◌, ◌≤◌, min, Bool, true, false, cond, nat_lt, inl, inr, arith, refl, ap, Option, Some, None}
+use Rattle.std.proofs.Common.{◌≡◌, ℕ, ◌+◌, ◌-◌, ◌≤◌, min, Bool, true, false, cond, inl, inr, arith, refl, ap, Option}
 use Rattle.std.proofs.Common.{Ok, ◌&&◌, ◌∙◌, subst}
-use Rattle.link_account.proofs.Names.{Role, Outgoing, Sent, Account, Said, nr_of, ready_frame, speak_linked, frame_for, is_originator}
+use Rattle.link_account.proofs.Names.{Role, Outgoing, Sent, Account, Said, speak_linked, is_originator}
 use Rattle.link_account.proofs.Names.{Frame, Disc, Arrived, is_connected, trying, speak, speak_in, speak_releasing}
-use Rattle.link_run.proofs.Names.{Connected, Answer, Phase, Detecting, Negotiating, Establishing, Releasing, Closed, User, is_released}
-use Rattle.link_account.specs.Hear.{timer_after}
-use Rattle.link_account.specs.Speak.{running, u_try}
+use Rattle.link_run.proofs.Names.{Connected, Phase, Detecting, Negotiating, Establishing, Releasing, Closed, User, is_released}
+use Rattle.turn_bound.proofs.Names.{Steps, by-linked, by-tries, polling_at, steps-so, timer_after, tries-alike, u_try}
 use Rattle.turn_bound.proofs.Value.{Rates, AreRates, IsOf, Stands, arrived_weight, arrived_rnrs}
-use Rattle.link_account.proofs.SpeakWays.{Steps, steps-so, by-linked, polling_at, OnSaid, tries-alike, by-tries}
 use Rattle.turn_bound.proofs.MeetHear.{of_frame, is_begun, of_arrived}
-use Rattle.turn_bound.proofs.Taking.{frame_poll, timer_value, poll_value, TakesNumber, Takes, poll-most, takes}
-use Rattle.link_account.specs.declared.answer.Answer.TheVariants as answers
+use Rattle.turn_bound.proofs.Taking.{frame_poll, timer_value, poll_value, Takes, poll-most, takes}
 use Rattle.turn_bound.proofs.OneTurn.{Hearing}
 use Rattle.turn_bound.proofs.Meeting.{SaysSo, speaks-so}
 use Rattle.turn_bound.proofs.Pausing.{Goes, goes-on, says-unpolled, releases-unpolled}
@@ -31,15 +28,6 @@ heard-polls turn p a b t = grind (arith, heard-timer)
 -- what is said of a Connected account whose timers are done
 abbrev pub Rated : ℕ → Account → Said → Type 0
 Rated turn a said = poll_value (turn + 1) Connected said.account + polls said.sent ≤ poll_value (turn + 1) Connected a
-
-ready-polls : (busy pf : Bool) (nr : ℕ) → frame_poll (ready_frame busy false nr pf) ≡ false
-ready-polls b pf nr = grind (arith)
-
-ready-most : (busy pf : Bool) (nr : ℕ) → nineteen_if (frame_poll (ready_frame busy true nr pf)) ≤ 19
-ready-most busy pf nr = grind (arith)
-
-answer-rated : (turn : ℕ) (a b : Account) (d : Answer) → polls (frame_for d b) ≡ 0
-answer-rated turn a b d = grind (arith)
 
 steps-rated : (turn : ℕ) (special : Bool) (a : Account) → Steps (Rated turn a) turn special a
 steps-rated turn special a = grind (arith)

@@ -1,13 +1,11 @@
-use Rattle.std.proofs.Common.{◌≡◌, ℕ, ◌+◌, ◌-◌, ◌*◌, ◌%◌, ◌<◌, ◌≤◌, ◌&&◌, ◌||◌, not, Bool, true, false, cond, nat_eq, nat_lt, nat_le, List}
-use Rattle.std.proofs.Common.{[], ◌∷◌, length, arith, refl, sym, ◌∙◌, ap, subst, Option, Some, None}
+use Rattle.std.proofs.Common.{◌≡◌, ℕ, ◌+◌, ◌-◌, ◌*◌, ◌<◌, ◌≤◌, ◌&&◌, ◌||◌, not, Bool, true, false, cond, nat_lt, List}
+use Rattle.std.proofs.Common.{[], ◌∷◌, length, arith, refl, sym, ◌∙◌, ap, Option, Some, None}
 use Rattle.turn_bound.proofs.Truths.{and-two}
 use Rattle.link_account.proofs.Names.{is_some, AllByRecursion, nat_tests, meant, Outgoing, is_outstanding, advanced, resumed, Account}
 use Rattle.lapm_sender.specs.Numbers.{with_number, from_number}
-use Rattle.lapm_sender.specs.Outgoing.{gone_back, wait_ended, paused_at}
-use Rattle.link_account.specs.Hear.{timer_after, ends_wait}
-use Rattle.link_account.proofs.HearWays.{acked, acked_back}
+use Rattle.turn_bound.proofs.Names.{acked, acked_back, ends_wait, gone_back, paused_at, timer_after, wait_ended}
 use Rattle.turn_bound.proofs.Value.{Rates, AreRates, Ticks, left, is_waiting, IsChosen, Sends, is_free, ends, sender_value, paid, cond-le}
-use Rattle.turn_bound.proofs.Value.{stopped, left-some, ticks-later, ticks-now}
+use Rattle.turn_bound.proofs.Value.{stopped, left-some, ticks-now}
 
 -- whether hearing ended what the clock ran for
 abbrev pub ended : Outgoing → Outgoing → Bool
@@ -203,12 +201,6 @@ heard-wait_ended z before turn o timer n s low within polled = grind (arith)
 pub heard-resumed : (o new : Outgoing) → Heard o new → Heard o (resumed new)
 heard-resumed o new h = go new.paused refl
   where
-    counts : (advances out out' awaited awaited' paused : Bool) (c : ℕ) → paused ≡ true
-        → c ≡ cond advances 0 (cond (((awaited && not awaited') || (paused && false)) && not (out' || (awaited' || true))) 0 o.count)
-        → cond (out' || awaited') c 0 ≡ cond advances 0
-        (cond (((awaited && not awaited') || (paused && true)) && not (out' || (awaited' || false))) 0 o.count)
-    counts advances out out' awaited awaited' paused c e k = grind (arith)
-
     go : (b : Bool) → new.paused ≡ b
         → Heard o (cond b (record new { paused = false; count = cond (is_outstanding new || new.awaited) new.count 0 }) new)
     go b e = grind (arith)

@@ -1,11 +1,10 @@
 use Rattle.std.proofs.Common.{◌≡◌, ℕ, ◌+◌, ◌<◌, ◌≤◌, ◌&&◌, ◌||◌, not, max, Bool, true, false, cond, nat_eq, nat_lt, List, [], ◌∷◌, length}
 use Rattle.std.proofs.Common.{arith, refl, sym, ◌∙◌, ap, subst, Option, Some, None, ◌-◌, ◌*◌, ◌%◌, nat_le, ◌++◌, length-append}
 use Rattle.link_account.proofs.Names.{is_some, AllByRecursion, nat_tests, Outgoing, is_outstanding, next_number}
-use Rattle.lapm_sender.specs.Outgoing.{next_among, sent_among, after_next}
-use Rattle.link_account.specs.Speak.{running}
+use Rattle.turn_bound.proofs.Names.{OwnBreaks, after_answer, after_ask, after_brk, after_next, next_among, running, sent_among, ticked}
+use Rattle.turn_bound.proofs.Names.{waits}
 use Rattle.turn_bound.proofs.Value.{Rates, AreRates, Ticks, left, is_waiting, IsChosen, Sends, is_free, one_if, sender_value, tries_fit}
 use Rattle.turn_bound.proofs.Value.{ticks-later, all_weaker, Breaks, is_breaking, break_left, break_value, ends, paid}
-use Rattle.break_signals.specs.Breaks.{OwnBreaks, waits, after_ask, ticked, after_brk, after_answer}
 
 -- The turn goes on to the next one.
 

@@ -1,12 +1,12 @@
 use Rattle.std.proofs.Common.{◌≡◌, ℕ, zero, suc, ◌+◌, ◌<◌, ◌≤◌, ◌&&◌, ◌⊎◌, not, Bool, true, false, cond, nat_lt, nat_le, List, [], ◌∷◌}
-use Rattle.std.proofs.Common.{length, length-append, inl, inr, arith, refl, sym, ◌∙◌, ap, subst, Option, Some, None, ◌-◌, ◌*◌, ◌++◌}
-use Rattle.link_account.proofs.Names.{slice_get, nat_tests, Outgoing, wanted, with_piece, after_ask, Account, is_connected, wants}
-use Rattle.link_account.proofs.Names.{piece_size, after_offer, after_given, after_busy, Role, Originator, Answerer, OwnBreaks, waits}
+use Rattle.std.proofs.Common.{length, length-append, inl, inr, arith, refl, sym, ◌∙◌, ap, subst, Option, Some, None}
+use Rattle.link_account.proofs.Names.{slice_get, Outgoing, wanted, with_piece, after_ask, Account, is_connected, wants}
+use Rattle.link_account.proofs.Names.{piece_size, after_offer, after_given, after_busy, Role, OwnBreaks}
 use Rattle.link_run.proofs.Names.{User, BreakLine, delivered, piece_at, offered_at, offered_times, room_for, offered, is_busy, next_break}
-use Rattle.link_run.proofs.Names.{Phase, Detecting, Negotiating, Establishing, Connected, Releasing, Closed}
+use Rattle.link_run.proofs.Names.{Phase, Connected}
 use Rattle.turn_bound.proofs.Run.{served_account}
-use Rattle.link_run.specs.End.{asked, asked_at}
-use Rattle.turn_bound.proofs.Value.{Rates, AreRates, is_waiting, Sends, ends, worth, sender_value, is_breaking, time_left, try_left, value}
+use Rattle.turn_bound.proofs.Names.{asked, asked_at}
+use Rattle.turn_bound.proofs.Value.{Rates, AreRates, Sends, ends, sender_value, is_breaking, time_left, try_left, value}
 use Rattle.turn_bound.proofs.Value.{linked_lives, lives, Unlinked, IsAck, IsSilent, Linked, Tries, Stands}
 use Rattle.turn_bound.proofs.Sending.{offered-sends, ChangedWell, asked-well, same-breaks, ends-same}
 use Rattle.turn_bound.proofs.Sender.{ends-is}
@@ -343,9 +343,6 @@ served-connected z total breaks turn busy role a b y h e s = record {
     sender : sender_value z total turn b.outgoing b.wait.timer ≡ sender_value z total turn a.outgoing a.wait.timer
     sender = ap (λ r. sender_value z total turn b.outgoing r) timer ∙ ap (λ o. sender_value z total turn o a.wait.timer) s.longer.outgoing
 
-    waiting : is_waiting b.outgoing ≡ is_waiting a.outgoing
-    waiting = ap is_waiting s.longer.outgoing
-
     changed : (b.own_breaks ≡ a.own_breaks)
         ⊎ ((l : ℕ) × (b.own_breaks ≡ after_ask turn l a.own_breaks) × (length a.own_breaks.lengths < breaks)
         × (is_connected a.phase ≡ true)) → ChangedWell z breaks turn a.own_breaks b.own_breaks
@@ -373,7 +370,7 @@ serves-well z total breaks turn busy role p a b y h e s = go (is_connected p) re
         → (b.own_breaks ≡ a.own_breaks)
         ⊎ ((l : ℕ) × (b.own_breaks ≡ after_ask turn l a.own_breaks) × (length a.own_breaks.lengths < breaks)
         × (is_connected a.phase ≡ true)) → b.own_breaks ≡ a.own_breaks
-    dead c q1 = grind (arith)
+    dead c x = grind (arith)
 
     go : (c : Bool) → is_connected p ≡ c → ServesAs z total breaks turn role p a b
     go false c = grind (arith, dead, unserved)

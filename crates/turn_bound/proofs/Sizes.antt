@@ -1,17 +1,14 @@
-use Rattle.std.proofs.Common.{take, drop, ◌++◌, length-take, length-drop, ◌≡◌, ℕ, ◌-◌, ◌&&◌, not, Bool, true, false, cond, refl, sym, ap}
-use Rattle.std.proofs.Common.{subst, Some, None, Ok, ◌+◌, ◌*◌, List, [], ◌∷◌, ◌⊎◌, inl, inr, length, arith, ◌<◌, ◌≤◌, zero, suc, nat_lt}
+use Rattle.std.proofs.Common.{take, drop, length-take, length-drop, ◌≡◌, ℕ, Bool, ap}
+use Rattle.std.proofs.Common.{Ok, List, [], ◌∷◌, ◌⊎◌, length, arith, ◌<◌, ◌≤◌, zero, suc}
 use Rattle.std.proofs.Common.{length-append}
 use Rattle.turn_bound.proofs.Serving.{served-by}
-use Rattle.link_account.proofs.Names.{Outgoing, Arrived, Account, is_connected, wants, after_offer, hear, Said, speak, Role, Originator}
-use Rattle.link_account.proofs.Names.{Answerer, of}
-use Rattle.link_run.proofs.Names.{User, offered_at, offered_times, room_for, Link, Accounts, Turn, RunOf, arrival}
+use Rattle.link_account.proofs.Names.{Outgoing, Arrived, Account, wants, hear, Said, speak, Role}
+use Rattle.link_account.proofs.Names.{of}
+use Rattle.link_run.proofs.Names.{User, offered_at, offered_times, Link, Accounts, Turn, RunOf}
 use Rattle.link_run.proofs.Speaking.{speaks-pieces}
 use Rattle.turn_bound.proofs.Run.{served_account}
 use Rattle.turn_bound.proofs.CalmRuns.{said-speaks}
-use Rattle.link_run.specs.Run.{start}
 use Rattle.turn_bound.specs.Offered.{IsWithin}
-use Rattle.link_account.proofs.HearWays.{numbers-alike}
-use Rattle.link_account.proofs.HearWays as HearWays
 
 -- the segments and their length, as hearing leaves them
 abbrev pub SameCut : Account → Account → Type 0
@@ -59,7 +56,7 @@ end-within user turn arrived a mid released release said hears speaks h =
     (served-within user turn released mid (heard (cut-hears arrived turn a mid hears)))
   where
     heard : SameCut a mid → IsCut user.file mid
-    heard q0 = grind (arith, none-within, within-same)
+    heard x = grind (arith, none-within, within-same)
 
 pub within-run : (link : Link) (ts : List Turn) (ends : Accounts) (role : Role) → RunOf link ts ends
     → IsCut (of role link).user.file (of role ends)

@@ -1,16 +1,14 @@
-use Rattle.std.proofs.Common.{◌≡◌, ℕ, ◌+◌, ◌-◌, ◌*◌, ◌≤◌, ◌||◌, Bool, true, false, cond, nat_eq, length, arith, refl, sym, ◌∙◌, ap, subst}
+use Rattle.std.proofs.Common.{◌≡◌, ℕ, ◌+◌, ◌*◌, ◌≤◌, ◌||◌, Bool, true, false, cond, nat_eq, length, arith, refl, sym, ◌∙◌, ap, subst}
 use Rattle.std.proofs.Common.{Option, Some, None, Ok, ◌<◌, ◌&&◌, nat_le}
 use Rattle.link_account.proofs.Names.{nat_tests, Role, Originator, Answerer, Outgoing, next_number, BreakWord, OwnBreaks, ticked, Account}
-use Rattle.link_account.proofs.Names.{is_connected, is_originator, Said, may_send, speak_linked, Frame, trying, speak, speak_in}
-use Rattle.link_account.proofs.Names.{speak_releasing, is_some}
+use Rattle.link_account.proofs.Names.{is_connected, is_originator, Said, may_send, speak_linked, Frame, trying, speak}
+use Rattle.link_account.proofs.Names.{is_some}
 use Rattle.link_run.proofs.Names.{Setup, Phase, Connected, is_closed, Detecting, Negotiating, Establishing, Releasing}
-use Rattle.lapm_sender.specs.Outgoing.{after_next}
-use Rattle.break_signals.specs.Breaks.{after_brk}
-use Rattle.link_account.specs.Speak.{timer_expires, breaking, running, says_segment}
-use Rattle.link_account.proofs.SpeakWays.{AllSaid, Steps, steps-so, polling_at, Expired, ConnectedWays, by-linked, next-keeps}
-use Rattle.link_account.proofs.SpeakWays.{Tries as TryWays, linked-so, Ways, by-ways, answers_alone}
-use Rattle.turn_bound.proofs.Value.{Rates, AreRates, is_waiting, Sends, lasts, one_if, sender_value, Breaks, is_breaking, break_left, value}
-use Rattle.turn_bound.proofs.Value.{lives, IsOf, IsAck, IsSilent, LinkedIn, Linked, Stands, Runs, left, time_left, try_left, linked_lives}
+use Rattle.turn_bound.proofs.Names.{AllSaid, Expired, Steps, Ways, after_brk, after_next, answers_alone, breaking, by-linked, by-ways}
+use Rattle.turn_bound.proofs.Names.{linked-so, next-keeps, polling_at, running, says_segment, steps-so, timer_expires}
+use Rattle.link_account.proofs.SpeakWays.{ConnectedWays, Tries as TryWays}
+use Rattle.turn_bound.proofs.Value.{Rates, AreRates, is_waiting, Sends, lasts, sender_value, Breaks, is_breaking, break_left, value}
+use Rattle.turn_bound.proofs.Value.{lives, IsOf, IsAck, IsSilent, LinkedIn, Linked, Stands, Runs, left, try_left, linked_lives}
 use Rattle.turn_bound.proofs.Value.{Tries, tries_fit}
 use Rattle.turn_bound.proofs.Sending.{WaitedWell, waited-quiet, waited-expired, sent-well, TickedWell, ticked-well, brk-sent}
 use Rattle.link_account.specs.declared.owes.Owes.{Owes}
@@ -215,10 +213,6 @@ pub record SpeaksAs (z : Rates) (total breaks turn : ℕ) (role : Role) (p : Pha
   pub lengths : b.own_breaks.lengths ≡ a.own_breaks.lengths
   pub falls : value z total breaks (turn + 1) role q b + lasts z.room (lives turn role p a)
       (lives (turn + 1) role q b) ≤ value z total breaks turn role p a
-
-lasts-both : (k : ℕ) (w b w' b' : Bool) → (b ≡ false → b' ≡ false)
-    → lasts k (w || b) (w' || b') ≤ one_if w + cond w 0 (cond w' (k + 1) 0) + one_if b
-lasts-both k w b w' b' h = grind (arith)
 
 pub spoken-linked : (z : Rates) (total breaks turn : ℕ) (role : Role) (a : Account) (said : Said) → a.phase ≡ Connected
     → Spoke z total breaks turn role a said → SpeaksAs z total breaks turn role Connected a Connected said.account

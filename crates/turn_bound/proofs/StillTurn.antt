@@ -1,30 +1,23 @@
 use Rattle.std.proofs.Common.{◌≡◌, ℕ, ◌+◌, ◌%◌, ◌≤◌, ◌&&◌, ◌||◌, not, Bool, true, false, cond, nat_eq, nat_lt, List, arith, refl, sym, ◌∙◌}
-use Rattle.std.proofs.Common.{ap, Option, Some, None, Ok, ◌-◌, ◌<◌, [], ◌∷◌, ◌++◌, length, slice_index_or, subst, inl, inr, Err, nat_le}
+use Rattle.std.proofs.Common.{ap, Option, Some, None, Ok, ◌-◌, ◌<◌, [], ◌∷◌, ◌++◌, length, slice_index_or, subst, inl, inr}
 use Rattle.std.proofs.Common.{length-append}
 use Rattle.turn_bound.proofs.Truths.{neither-first, and-second, is-true, or-false-both, not-true}
 use Rattle.link_account.proofs.Names.{is_some, nat_tests, Role, Outgoing, is_outstanding, Incoming, after_kind, kind_of, offset, Took}
-use Rattle.link_account.proofs.Names.{InOrder, Kept, Repeat, Gap, OwnBreaks, after_answer, waits, Arrived, Account, hear, without_adp}
-use Rattle.link_account.proofs.Names.{next_number, BreakWord, Brk, Ack, is_originator, Said, frame_for, nr_of, may_send, ready_frame}
-use Rattle.link_account.proofs.Names.{AllByRecursion, wanted, after_ask, is_connected, after_break_asked, speak, speak_linked, ticked}
-use Rattle.link_run.proofs.Names.{Connected, Answer, User, BreakLine, is_busy, has_finished, next_break}
+use Rattle.link_account.proofs.Names.{OwnBreaks, after_answer, waits, Arrived, Account, hear, without_adp}
+use Rattle.link_account.proofs.Names.{next_number, BreakWord, Brk, is_originator, Said, frame_for, nr_of, may_send, ready_frame}
+use Rattle.link_account.proofs.Names.{wanted, after_ask, is_connected, speak, speak_linked, ticked}
+use Rattle.link_run.proofs.Names.{Connected, Answer, User, is_busy, has_finished, next_break}
 use Rattle.turn_bound.proofs.Value.{Rates, is_waiting, Sends, is_free, one_if, Linked, two_if, dues, frame_weight, word_weight}
-use Rattle.turn_bound.proofs.Value.{arrived_weight, AreRates, IsChosen, four_if, weight, IsAck, connected-is, linked_lives, IsOf, Stands}
+use Rattle.turn_bound.proofs.Value.{arrived_weight, AreRates, four_if, weight, connected-is, linked_lives, IsOf, Stands}
 use Rattle.turn_bound.proofs.Value.{Breaks, is_breaking}
 use Rattle.turn_bound.proofs.Sender.{Heard, meant-range, heard-advanced, heard-resumed, acked-heard}
-use Rattle.link_account.proofs.HearWays.{ConnectedWays, numbered_with, acked, by-linked}
-use Rattle.link_account.specs.declared.answer.Answer.TheVariants as answers
-use Rattle.lapm_sender.specs.Outgoing.{next_among, is_whole}
-use Rattle.lapm_receiver.specs.Held.{first_outside, missing_from}
+use Rattle.link_account.proofs.HearWays.{by-linked}
+use Rattle.turn_bound.proofs.Names.{AllSaid, ConnectedWays, Steps, acked, after_ack, break_waits, breaking, differs, is_done}
+use Rattle.turn_bound.proofs.Names.{is_ready, is_whole, numbered_with, says_segment, says_word, tells}
 use Rattle.lapm_receiver.specs.Incoming.{asks}
-use Rattle.break_signals.specs.declared.fault.BreakFault.TheVariants.{Number}
-use Rattle.link_account.specs.Speak.{says_segment, tells, differs, says_word, breaking}
 use Rattle.turn_bound.proofs.Sending.{sent-well}
-use Rattle.break_signals.specs.Breaks.{after_ack}
-use Rattle.link_account.proofs.SpeakWays.{AllSaid, Steps}
-use Rattle.link_account.specs.Account.{is_done, break_waits}
 use Rattle.turn_bound.proofs.Run.{served_account}
-use Rattle.link_run.specs.End.{asked_at, is_ready}
-use Rattle.turn_bound.proofs.Serving.{Served, serves-phase, serves-own, before_asking}
+use Rattle.turn_bound.proofs.Serving.{Served, serves-phase, serves-own}
 use Rattle.turn_bound.proofs.Speaking.{Spoke, spoke, untimed, linked-says, stopped}
 use Rattle.turn_bound.proofs.OneTurn.{Hearing, spoken-as}
 
@@ -32,9 +25,6 @@ use Rattle.turn_bound.proofs.OneTurn.{Hearing, spoken-as}
 free-same : (z : Rates) (total before turn : ℕ) (o new : Outgoing) (timer : Option ℕ) → Sends z before turn o timer → is_waiting o ≡ false
     → Heard o new → is_free total new ≡ is_free total o
 free-same z total before turn o new timer s e h = grind (arith, neither-first)
-
-or-two : (a b : Bool) → two_if (a || b) ≤ two_if a + two_if b
-or-two c b = grind (arith)
 
 take-rej : (k : Took) (n : ℕ) (info : List ℕ) (i : Incoming) → two_if (after_kind k n info i).rej ≤ two_if i.rej + 2
 take-rej k n info i = grind (arith)
@@ -46,9 +36,6 @@ pub record HeardStill (total more : ℕ) (a b : Account) : Type 0 where
   pub numbered : a.numbered ≡ true → b.numbered ≡ true
   pub phase : b.phase ≡ Connected
   pub own : waits a.own_breaks ≡ false → b.own_breaks ≡ a.own_breaks
-
-free-one : (f g s : Bool) → f ≡ g → one_if (f && not s) ≡ one_if (g && not s)
-free-one f g s e = rw e refl
 
 some-two : (b : Bool) → two_if true ≤ two_if b + 2
 some-two b = grind (arith)
@@ -402,9 +389,6 @@ finished {z} {total} {more} {user} {turn} {role} {a} {mid} s t own all dead none
 
     o : Outgoing
     o = b.outgoing
-
-    idle : nat_lt o.front o.high ≡ false
-    idle = (or-false-both (is_outstanding o) (o.awaited || o.paused) t.idle).0
 
     whole-front : o.front ≡ length o.pieces
     whole-front = let a1 = s.linked.sends.front_from in let a2 = s.linked.sends.from_high in let a3 = s.linked.sends.high_pieces in

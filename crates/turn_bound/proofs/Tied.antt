@@ -6,9 +6,8 @@ use Rattle.link_account.proofs.Names.{hear, Slot, arrives}
 use Rattle.link_run.proofs.Names.{is_released, Link, Accounts, Spoken, Turn, GoingTurn, RunOf, Crosses, Carries, IsCarried, sent_in}
 use Rattle.link_run.proofs.Names.{sent_ago}
 use Rattle.link_run.specs.Carried.{HasDelays, has_message}
-use Rattle.turn_bound.specs.Time.{KeepsTime}
+use Rattle.turn_bound.proofs.Names.{KeepsTime}
 use Rattle.turn_bound.proofs.Run.{arrival, left_on, slot_of, served_account, State, Keeps}
-use Rattle.lapm_frames.specs.declared.sent.Sent.TheVariants as slots
 use Rattle.lapm_frames.specs.declared.arrived.Arrived.TheVariants as arrivals
 use Rattle.link_run.specs.Run as runs
 use Rattle.turn_bound.proofs.Run as queued
@@ -43,7 +42,7 @@ part (suc n) role (t ∷ ts) = go (part n role ts)
     ago = ap (λ k. sent_in role (slice_get (t ∷ ts) k)) (less (suc n)) ∙ ap (λ k. sent_in role (slice_get ts k)) (sym (less n))
 
     go : Part n role ts → Part (suc n) role (t ∷ ts)
-    go q0 = grind (arith, length-append {A = Option Sent}, ago)
+    go x = grind (arith, length-append {A = Option Sent}, ago)
 
 -- what is on a line is what was sent in the last turns
 abbrev pub in_slot : Slot → Option Sent

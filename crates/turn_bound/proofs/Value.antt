@@ -8,7 +8,7 @@ use Rattle.std.proofs.Math.Nat.{mul-le-mul_left, mul-le-mul_right}
 use Rattle.link_run.proofs.Names.{Setup, Phase, Detecting, Negotiating, Establishing, Connected, Releasing, Closed}
 use Rattle.link_account.specs.Laws.{has_begun}
 use Rattle.xid_params.specs.declared.terms.Terms.{Terms}
-use Rattle.break_signals.specs.Breaks.{no_breaks}
+use Rattle.turn_bound.proofs.Names.{no_breaks}
 use Rattle.lapm_sender.specs.Outgoing as outgoing
 use Rattle.lapm_frames.specs.declared.sent.Sent.TheVariants as slots
 use Rattle.lapm_frames.specs.declared.arrived.Arrived.TheVariants as arrivals

@@ -6,16 +6,12 @@ use Rattle.link_account.proofs.Names.{nat_tests, Role, Originator, Answerer, is_
 use Rattle.link_account.proofs.Names.{trying, Said, speak, speak_in, speak_linked, speak_releasing}
 use Rattle.link_run.proofs.Names.{Phase, Detecting, Negotiating, Establishing, Connected, Releasing, Closed, User, is_busy, is_released}
 use Rattle.link_run.proofs.Names.{has_finished, Link, Accounts, Turn, RunOf, arrival, releases, IsCarried}
-use Rattle.lapm_sender.specs.Outgoing.{is_whole}
-use Rattle.link_account.specs.Account.{is_done}
-use Rattle.link_run.specs.Run.{finished_at, served_ends}
-use Rattle.turn_bound.specs.Time.{KeepsTime}
-use Rattle.turn_bound.specs.Advance.{NeverBusy}
+use Rattle.turn_bound.proofs.Names.{KeepsTime, NeverBusy, finished_at, is_whole, served_ends}
 use Rattle.turn_bound.proofs.Value.{Rates, rates, AreRates, IsOf, Linked, Stands, arrived_weight, arrived_rnrs, unlinked-of, connected-is}
 use Rattle.turn_bound.proofs.Run.{served_account}
 use Rattle.turn_bound.proofs.Speaking.{spoke}
 use Rattle.turn_bound.proofs.MeetHear.{is_begun, of_arrived}
-use Rattle.turn_bound.proofs.Taking.{frame_poll, TakesNumber, Takes, Closes, takes}
+use Rattle.turn_bound.proofs.Taking.{frame_poll, Takes, Closes, takes}
 use Rattle.turn_bound.proofs.Pausing.{goes-on, says-calm}
 use Rattle.turn_bound.proofs.Ending.{fits}
 use Rattle.turn_bound.proofs.Tied.{keeps, Tied, tied, link_of, turn_of, state_of}
@@ -91,11 +87,8 @@ module _ {z : Rates} {user : User} {turn : ℕ} {role : Role} {a : Account} {arr
           linked : Linked z turn turn role a
           linked = subst (λ q. Stands z turn turn role q a) e i.stands
 
-          number : TakesNumber turn a mid → IsWhole mid.outgoing
-          number q0 = grind (arith)
-
           by : Closes a mid ⊎ ((mid.phase ≡ Connected) × Takes turn (of_arrived frame_poll arrived) a mid) → IsWhole mid.outgoing
-          by q0 = grind (arith)
+          by x = grind (arith)
 
 -- An end that is told to release, of one that isn't: it was Connected, and told now.
 pub told-now : (z : Rates) (turn : ℕ) (role : Role) (release : Bool) (b : Account) (said : Said) → AreRates z → Spoken z turn role b said
