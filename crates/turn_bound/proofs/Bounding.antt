@@ -1,12 +1,11 @@
-use Rattle.std.proofs.Common.{◌≡◌, ℕ, ◌+◌, ◌-◌, ◌*◌, Bool, true, false, nat_eq, arith, sym, ◌∙◌, ap, subst, Err}
-use Rattle.std.proofs.Common.{◌⊎◌, ◌<◌, ◌≤◌, List, [], ◌∷◌, length, map}
-use Rattle.link_account.proofs.Names.{Role, Originator, Answerer, LinkFault, Account, is_connected, speak, Arrived}
-use Rattle.link_account.proofs.Names.{AllByRecursion, Outgoing, of}
+use Rattle.std.proofs.Common.{◌≡◌, ℕ, ◌+◌, ◌-◌, ◌*◌, Bool, true, false, nat_eq, arith, sym, ◌∙◌, ap, subst, Err, ◌⊎◌, ◌<◌, ◌≤◌, List, []}
+use Rattle.std.proofs.Common.{◌∷◌, length, map}
+use Rattle.link_account.proofs.Names.{Role, Originator, Answerer, LinkFault, Account, is_connected, speak, Arrived, AllByRecursion}
+use Rattle.link_account.proofs.Names.{Outgoing, of}
 use Rattle.link_run.proofs.Names.{Phase, Negotiating, Establishing, Releasing, User, served_at, releases}
 use Rattle.turn_bound.proofs.Value.{Rates, AreRates, Runs, IsOf, Tries, Stands}
 use Rattle.turn_bound.specs.Spent.{since, IsTimely, SpendsOnTime}
-use Rattle.turn_bound.proofs.Names.{AnswersAtOnce, Breaks, BusyLine, IsBroken}
-use Rattle.turn_bound.proofs.Names.{busy_turns, why-broken}
+use Rattle.turn_bound.proofs.Names.{AnswersAtOnce, Breaks, BusyLine, IsBroken, busy_turns, why-broken}
 use Rattle.turn_bound.proofs.OneTurn.{Hearing}
 use Rattle.std.proofs.Math.Nat.{mul-le-mul_right, mul-le-mul_left}
 use Rattle.turn_bound.specs.Offered.{HoldsFile, IsWithin, OffersWithin}

@@ -1,11 +1,11 @@
-use Rattle.std.proofs.Common.{◌≡◌, ℕ, ◌+◌, ◌*◌, ◌<◌, ◌≤◌, ◌&&◌, ◌||◌, Bool, true, false, cond, [], length, length-append}
-use Rattle.std.proofs.Common.{arith, refl, sym, ◌∙◌, ap, subst, None, Result, Ok, List, ◌++◌, ◌∷◌}
+use Rattle.std.proofs.Common.{◌≡◌, ℕ, ◌+◌, ◌*◌, ◌<◌, ◌≤◌, ◌&&◌, ◌||◌, Bool, true, false, cond, [], length, length-append, arith, refl, sym}
+use Rattle.std.proofs.Common.{◌∙◌, ap, subst, None, Result, Ok, List, ◌++◌, ◌∷◌}
 use Rattle.turn_bound.proofs.Truths.{neither-first, neither-second}
 use Rattle.link_account.proofs.Names.{Role, Originator, Answerer, Outgoing, wanted, Arrived, LinkFault, Account, is_connected}
 use Rattle.link_account.proofs.Names.{is_originator, Said, speak, Slot}
 use Rattle.link_run.proofs.Names.{Phase, Connected, User, is_busy, is_closed, is_released, has_finished}
-use Rattle.turn_bound.proofs.Value.{Rates, is_free, lasts, one_if, AreRates, value, linked_lives, lives, IsOf}
-use Rattle.turn_bound.proofs.Value.{Linked, Stands, dues, arrived_rnrs, kept}
+use Rattle.turn_bound.proofs.Value.{Rates, is_free, lasts, one_if, AreRates, value, linked_lives, lives, IsOf, Linked, Stands, dues}
+use Rattle.turn_bound.proofs.Value.{arrived_rnrs, kept}
 use Rattle.turn_bound.proofs.Names.{busy_left}
 use Rattle.turn_bound.proofs.Run.{served_account, Link, State, Turn, GoingTurn, arrival, left_on, slot_of, weights, rnrs_on, Totals}
 use Rattle.turn_bound.proofs.Run.{is_alive, stall, potential, AreTogether}

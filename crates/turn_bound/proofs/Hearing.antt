@@ -1,8 +1,8 @@
-use Rattle.std.proofs.Common.{◌≡◌, ℕ, ◌≤◌, Bool, true, false, List, arith, Some, ◌+◌, ◌-◌, ◌*◌, ◌<◌, ◌||◌}
-use Rattle.std.proofs.Common.{length, refl, subst, Option, sym, ◌∙◌, ap, Ok, inl, inr}
+use Rattle.std.proofs.Common.{◌≡◌, ℕ, ◌≤◌, Bool, true, false, List, arith, Some, ◌+◌, ◌-◌, ◌*◌, ◌<◌, ◌||◌, length, refl, subst, Option, sym}
+use Rattle.std.proofs.Common.{◌∙◌, ap, Ok, inl, inr}
 use Rattle.link_account.proofs.Names.{Offer, agree, offer_in, nat_tests, Role, Originator, Answerer, Outgoing, OwnBreaks, after_answer}
-use Rattle.link_account.proofs.Names.{Account, Frame, I, Rr, Rnr, Rej, Srej, Arrived, Incoming, Sabme, Disc, Ui, Ua, Xid}
-use Rattle.link_account.proofs.Names.{is_originator, other, hear, on_nothing, trying, owing}
+use Rattle.link_account.proofs.Names.{Account, Frame, I, Rr, Rnr, Rej, Srej, Arrived, Incoming, Sabme, Disc, Ui, Ua, Xid, is_originator}
+use Rattle.link_account.proofs.Names.{other, hear, on_nothing, trying, owing}
 use Rattle.xid_params.specs.Terms.{lowered, default_offer}
 use Rattle.xid_params.proofs.Allowed.{reads_allowed_always}
 use Rattle.link_run.proofs.Names.{Phase, Connected, Detecting, Negotiating, Establishing, Releasing, Closed}
@@ -11,8 +11,8 @@ use Rattle.turn_bound.proofs.Names.{no_breaks, numbered_with, on_xid_command, on
 use Rattle.turn_bound.proofs.Names.{timer_after, window_for}
 use Rattle.link_account.proofs.HearWays.{by-ways}
 use Rattle.turn_bound.proofs.Value.{frame_rnrs, value, lives, IsAck, IsSilent, Linked, Stands, Rates, AreRates, is_waiting, Sends, ends}
-use Rattle.turn_bound.proofs.Value.{Breaks, is_breaking, worth, break_left, time_left, linked_left, linked_lives, IsOf}
-use Rattle.turn_bound.proofs.Value.{Unlinked, Tries, phases_left, arrived_rnrs, tries_fit, left-some, ticks-now}
+use Rattle.turn_bound.proofs.Value.{Breaks, is_breaking, worth, break_left, time_left, linked_left, linked_lives, IsOf, Unlinked, Tries}
+use Rattle.turn_bound.proofs.Value.{phases_left, arrived_rnrs, tries_fit, left-some, ticks-now}
 use Rattle.turn_bound.proofs.Sender.{acked-heard, Heard, HeardWell, heard-well, heard-busy, meant-range, heard-advanced, heard-resumed}
 use Rattle.turn_bound.proofs.Sender.{heard-selected}
 use Rattle.turn_bound.proofs.Sending.{later-sends, later-breaks, ChangedWell, answered-well, ends-same, or-false}

@@ -1,6 +1,5 @@
 use Rattle.std.proofs.Common.{◌≡◌, ℕ, ◌≤◌, Bool, true, arith, refl, Result, Ok, Err}
-use Rattle.link_account.proofs.Names.{LinkFault, Account, is_connected, Said}
-use Rattle.link_account.proofs.Names.{speak}
+use Rattle.link_account.proofs.Names.{LinkFault, Account, is_connected, Said, speak}
 use Rattle.turn_bound.proofs.Value.{one_if, two_if, weight, rnrs}
 use Rattle.turn_bound.proofs.Names.{Ways, by-ways}
 

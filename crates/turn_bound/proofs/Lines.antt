@@ -1,5 +1,4 @@
-use Rattle.std.proofs.Common.{◌≡◌, ℕ, ◌+◌, ◌*◌, ◌≤◌, Bool, List, [], ◌∷◌}
-use Rattle.std.proofs.Common.{◌++◌, length, arith, refl}
+use Rattle.std.proofs.Common.{◌≡◌, ℕ, ◌+◌, ◌*◌, ◌≤◌, Bool, List, [], ◌∷◌, ◌++◌, length, arith, refl}
 use Rattle.link_account.proofs.Names.{AllByRecursion, Arrived, Account, Slot}
 use Rattle.link_run.proofs.Names.{is_busy}
 use Rattle.turn_bound.proofs.Value.{one_if, weight, rnrs, arrived_weight, arrived_rnrs, dues, two_if, four_if}

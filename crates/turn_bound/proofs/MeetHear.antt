@@ -1,7 +1,7 @@
 use Rattle.std.proofs.Common.{arith, ◌≡◌, ℕ, ◌&&◌, ◌||◌, not, Bool, true, false, refl, sym, ◌∙◌, ap, Option, Ok, inl, inr}
 use Rattle.turn_bound.proofs.Truths.{or-first, or-true}
-use Rattle.link_account.proofs.Names.{Originator, Answerer, Frame, Rr, Rnr, Rej, Outgoing, resumed, Arrived, Account}
-use Rattle.link_account.proofs.Names.{is_originator, hear, without_adp}
+use Rattle.link_account.proofs.Names.{Originator, Answerer, Frame, Rr, Rnr, Rej, Outgoing, resumed, Arrived, Account, is_originator, hear}
+use Rattle.link_account.proofs.Names.{without_adp}
 use Rattle.link_run.proofs.Names.{Phase, Detecting, Negotiating, Establishing, Connected, Answer, is_closed, is_released}
 use Rattle.turn_bound.proofs.Names.{acked, acked_back, ends_wait, numbers-alike}
 use Rattle.link_account.proofs.HearWays.{Ways, by-ways}

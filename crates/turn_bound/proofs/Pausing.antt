@@ -1,11 +1,10 @@
 -- Where no user is busy no end tells that it is, and none counts the other as busy.
 use Rattle.std.proofs.Common.{◌≡◌, ℕ, Bool, true, false, arith, refl, sym, ◌∙◌, ap, Option, Ok, inl, inr}
-use Rattle.link_account.proofs.Names.{Outgoing, Arrived, Account, is_connected, hear, on_nothing, trying, Said, speak}
-use Rattle.link_account.proofs.Names.{speak_releasing, Incoming}
+use Rattle.link_account.proofs.Names.{Outgoing, Arrived, Account, is_connected, hear, on_nothing, trying, Said, speak, speak_releasing}
+use Rattle.link_account.proofs.Names.{Incoming}
 use Rattle.link_run.proofs.Names.{Phase, Connected, Releasing, is_released}
 use Rattle.turn_bound.proofs.Value.{arrived_rnrs}
-use Rattle.turn_bound.proofs.Names.{Steps, acked, acked_back, by-tries, linked-alike, numbered_with, resumed-unpaused}
-use Rattle.turn_bound.proofs.Names.{retimed, tries-alike}
+use Rattle.turn_bound.proofs.Names.{Steps, acked, acked_back, by-tries, linked-alike, numbered_with, resumed-unpaused, retimed, tries-alike}
 use Rattle.turn_bound.proofs.MeetHear.{is_begun, of_frame}
 use Rattle.turn_bound.proofs.Taking.{frame_poll}
 use Rattle.link_account.proofs.HearWays as HearWays

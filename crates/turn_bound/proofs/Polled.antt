@@ -1,8 +1,7 @@
 -- An end's polls become due once in a whole period, and so once in nineteen turns.
-use Rattle.std.proofs.Common.{◌≡◌, ℕ, ◌+◌, ◌-◌, ◌≤◌, min, Bool, true, false, cond, inl, inr, arith, refl, ap, Option}
-use Rattle.std.proofs.Common.{Ok, ◌&&◌, ◌∙◌, subst}
-use Rattle.link_account.proofs.Names.{Role, Outgoing, Sent, Account, Said, speak_linked, is_originator}
-use Rattle.link_account.proofs.Names.{Frame, Disc, Arrived, is_connected, trying, speak, speak_in, speak_releasing}
+use Rattle.std.proofs.Common.{◌≡◌, ℕ, ◌+◌, ◌-◌, ◌≤◌, min, Bool, true, false, cond, inl, inr, arith, refl, ap, Option, Ok, ◌&&◌, ◌∙◌, subst}
+use Rattle.link_account.proofs.Names.{Role, Outgoing, Sent, Account, Said, speak_linked, is_originator, Frame, Disc, Arrived, is_connected}
+use Rattle.link_account.proofs.Names.{trying, speak, speak_in, speak_releasing}
 use Rattle.link_run.proofs.Names.{Connected, Phase, Detecting, Negotiating, Establishing, Releasing, Closed, User, is_released}
 use Rattle.turn_bound.proofs.Names.{Steps, by-linked, by-tries, polling_at, steps-so, timer_after, tries-alike, u_try}
 use Rattle.turn_bound.proofs.Value.{Rates, AreRates, IsOf, Stands, arrived_weight, arrived_rnrs}

@@ -1,5 +1,5 @@
-use Rattle.std.proofs.Common.{◌≡◌, ℕ, ◌+◌, ◌-◌, ◌*◌, ◌<◌, ◌≤◌, ◌&&◌, ◌||◌, not, Bool, true, false, cond, nat_lt, List}
-use Rattle.std.proofs.Common.{[], ◌∷◌, length, arith, refl, sym, ◌∙◌, ap, Option, Some, None}
+use Rattle.std.proofs.Common.{◌≡◌, ℕ, ◌+◌, ◌-◌, ◌*◌, ◌<◌, ◌≤◌, ◌&&◌, ◌||◌, not, Bool, true, false, cond, nat_lt, List, [], ◌∷◌, length}
+use Rattle.std.proofs.Common.{arith, refl, sym, ◌∙◌, ap, Option, Some, None}
 use Rattle.turn_bound.proofs.Truths.{and-two}
 use Rattle.link_account.proofs.Names.{is_some, AllByRecursion, nat_tests, meant, Outgoing, is_outstanding, advanced, resumed, Account}
 use Rattle.lapm_sender.specs.Numbers.{with_number, from_number}

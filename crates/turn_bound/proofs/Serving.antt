@@ -1,13 +1,13 @@
 use Rattle.std.proofs.Common.{◌≡◌, ℕ, zero, suc, ◌+◌, ◌<◌, ◌≤◌, ◌&&◌, ◌⊎◌, not, Bool, true, false, cond, nat_lt, nat_le, List, [], ◌∷◌}
 use Rattle.std.proofs.Common.{length, length-append, inl, inr, arith, refl, sym, ◌∙◌, ap, subst, Option, Some, None}
-use Rattle.link_account.proofs.Names.{slice_get, Outgoing, wanted, with_piece, after_ask, Account, is_connected, wants}
-use Rattle.link_account.proofs.Names.{piece_size, after_offer, after_given, after_busy, Role, OwnBreaks}
+use Rattle.link_account.proofs.Names.{slice_get, Outgoing, wanted, with_piece, after_ask, Account, is_connected, wants, piece_size}
+use Rattle.link_account.proofs.Names.{after_offer, after_given, after_busy, Role, OwnBreaks}
 use Rattle.link_run.proofs.Names.{User, BreakLine, delivered, piece_at, offered_at, offered_times, room_for, offered, is_busy, next_break}
 use Rattle.link_run.proofs.Names.{Phase, Connected}
 use Rattle.turn_bound.proofs.Run.{served_account}
 use Rattle.turn_bound.proofs.Names.{asked, asked_at}
-use Rattle.turn_bound.proofs.Value.{Rates, AreRates, Sends, ends, sender_value, is_breaking, time_left, try_left, value}
-use Rattle.turn_bound.proofs.Value.{linked_lives, lives, Unlinked, IsAck, IsSilent, Linked, Tries, Stands}
+use Rattle.turn_bound.proofs.Value.{Rates, AreRates, Sends, ends, sender_value, is_breaking, time_left, try_left, value, linked_lives}
+use Rattle.turn_bound.proofs.Value.{lives, Unlinked, IsAck, IsSilent, Linked, Tries, Stands}
 use Rattle.turn_bound.proofs.Sending.{offered-sends, ChangedWell, asked-well, same-breaks, ends-same}
 use Rattle.turn_bound.proofs.Sender.{ends-is}
 use Rattle.turn_bound.proofs.Hearing.{ends-both, same-unlinked}

@@ -1,9 +1,7 @@
-use Rattle.std.proofs.Common.{take, drop, length-take, length-drop, ◌≡◌, ℕ, Bool, ap}
-use Rattle.std.proofs.Common.{Ok, List, [], ◌∷◌, ◌⊎◌, length, arith, ◌<◌, ◌≤◌, zero, suc}
-use Rattle.std.proofs.Common.{length-append}
+use Rattle.std.proofs.Common.{take, drop, length-take, length-drop, ◌≡◌, ℕ, Bool, ap, Ok, List, [], ◌∷◌, ◌⊎◌, length, arith, ◌<◌, ◌≤◌, zero}
+use Rattle.std.proofs.Common.{suc, length-append}
 use Rattle.turn_bound.proofs.Serving.{served-by}
-use Rattle.link_account.proofs.Names.{Outgoing, Arrived, Account, wants, hear, Said, speak, Role}
-use Rattle.link_account.proofs.Names.{of}
+use Rattle.link_account.proofs.Names.{Outgoing, Arrived, Account, wants, hear, Said, speak, Role, of}
 use Rattle.link_run.proofs.Names.{User, offered_at, offered_times, Link, Accounts, Turn, RunOf}
 use Rattle.link_run.proofs.Speaking.{speaks-pieces}
 use Rattle.turn_bound.proofs.Run.{served_account}

@@ -1,15 +1,13 @@
 use Rattle.std.proofs.Common.{◌≡◌, ℕ, ◌+◌, ◌*◌, ◌≤◌, ◌||◌, Bool, true, false, cond, nat_eq, length, arith, refl, sym, ◌∙◌, ap, subst}
 use Rattle.std.proofs.Common.{Option, Some, None, Ok, ◌<◌, ◌&&◌, nat_le}
 use Rattle.link_account.proofs.Names.{nat_tests, Role, Originator, Answerer, Outgoing, next_number, BreakWord, OwnBreaks, ticked, Account}
-use Rattle.link_account.proofs.Names.{is_connected, is_originator, Said, may_send, speak_linked, Frame, trying, speak}
-use Rattle.link_account.proofs.Names.{is_some}
+use Rattle.link_account.proofs.Names.{is_connected, is_originator, Said, may_send, speak_linked, Frame, trying, speak, is_some}
 use Rattle.link_run.proofs.Names.{Setup, Phase, Connected, is_closed, Detecting, Negotiating, Establishing, Releasing}
 use Rattle.turn_bound.proofs.Names.{AllSaid, Expired, Steps, Ways, after_brk, after_next, answers_alone, breaking, by-linked, by-ways}
 use Rattle.turn_bound.proofs.Names.{linked-so, next-keeps, polling_at, running, says_segment, steps-so, timer_expires}
 use Rattle.link_account.proofs.SpeakWays.{ConnectedWays, Tries as TryWays}
-use Rattle.turn_bound.proofs.Value.{Rates, AreRates, is_waiting, Sends, lasts, sender_value, Breaks, is_breaking, break_left, value}
-use Rattle.turn_bound.proofs.Value.{lives, IsOf, IsAck, IsSilent, LinkedIn, Linked, Stands, Runs, left, try_left, linked_lives}
-use Rattle.turn_bound.proofs.Value.{Tries, tries_fit}
+use Rattle.turn_bound.proofs.Value.{Rates, AreRates, is_waiting, Sends, lasts, sender_value, Breaks, is_breaking, break_left, value, lives}
+use Rattle.turn_bound.proofs.Value.{IsOf, IsAck, IsSilent, LinkedIn, Linked, Stands, Runs, left, try_left, linked_lives, Tries, tries_fit}
 use Rattle.turn_bound.proofs.Sending.{WaitedWell, waited-quiet, waited-expired, sent-well, TickedWell, ticked-well, brk-sent}
 use Rattle.link_account.specs.declared.owes.Owes.{Owes}
 use Rattle.shared_terms.specs.Timer.{expires}

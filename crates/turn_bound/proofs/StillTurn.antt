@@ -1,19 +1,18 @@
 use Rattle.std.proofs.Common.{◌≡◌, ℕ, ◌+◌, ◌%◌, ◌≤◌, ◌&&◌, ◌||◌, not, Bool, true, false, cond, nat_eq, nat_lt, List, arith, refl, sym, ◌∙◌}
-use Rattle.std.proofs.Common.{ap, Option, Some, None, Ok, ◌-◌, ◌<◌, [], ◌∷◌, ◌++◌, length, slice_index_or, subst, inl, inr}
-use Rattle.std.proofs.Common.{length-append}
+use Rattle.std.proofs.Common.{ap, Option, Some, None, Ok, ◌-◌, ◌<◌, [], ◌∷◌, ◌++◌, length, slice_index_or, subst, inl, inr, length-append}
 use Rattle.turn_bound.proofs.Truths.{neither-first, and-second, is-true, or-false-both, not-true}
 use Rattle.link_account.proofs.Names.{is_some, nat_tests, Role, Outgoing, is_outstanding, Incoming, after_kind, kind_of, offset, Took}
-use Rattle.link_account.proofs.Names.{OwnBreaks, after_answer, waits, Arrived, Account, hear, without_adp}
-use Rattle.link_account.proofs.Names.{next_number, BreakWord, Brk, is_originator, Said, frame_for, nr_of, may_send, ready_frame}
-use Rattle.link_account.proofs.Names.{wanted, after_ask, is_connected, speak, speak_linked, ticked}
+use Rattle.link_account.proofs.Names.{OwnBreaks, after_answer, waits, Arrived, Account, hear, without_adp, next_number, BreakWord, Brk}
+use Rattle.link_account.proofs.Names.{is_originator, Said, frame_for, nr_of, may_send, ready_frame, wanted, after_ask, is_connected, speak}
+use Rattle.link_account.proofs.Names.{speak_linked, ticked}
 use Rattle.link_run.proofs.Names.{Connected, Answer, User, is_busy, has_finished, next_break}
 use Rattle.turn_bound.proofs.Value.{Rates, is_waiting, Sends, is_free, one_if, Linked, two_if, dues, frame_weight, word_weight}
-use Rattle.turn_bound.proofs.Value.{arrived_weight, AreRates, four_if, weight, connected-is, linked_lives, IsOf, Stands}
-use Rattle.turn_bound.proofs.Value.{Breaks, is_breaking}
+use Rattle.turn_bound.proofs.Value.{arrived_weight, AreRates, four_if, weight, connected-is, linked_lives, IsOf, Stands, Breaks}
+use Rattle.turn_bound.proofs.Value.{is_breaking}
 use Rattle.turn_bound.proofs.Sender.{Heard, meant-range, heard-advanced, heard-resumed, acked-heard}
 use Rattle.link_account.proofs.HearWays.{by-linked}
-use Rattle.turn_bound.proofs.Names.{AllSaid, ConnectedWays, Steps, acked, after_ack, break_waits, breaking, differs, is_done}
-use Rattle.turn_bound.proofs.Names.{is_ready, is_whole, numbered_with, says_segment, says_word, tells}
+use Rattle.turn_bound.proofs.Names.{AllSaid, ConnectedWays, Steps, acked, after_ack, break_waits, breaking, differs, is_done, is_ready}
+use Rattle.turn_bound.proofs.Names.{is_whole, numbered_with, says_segment, says_word, tells}
 use Rattle.lapm_receiver.specs.Incoming.{asks}
 use Rattle.turn_bound.proofs.Sending.{sent-well}
 use Rattle.turn_bound.proofs.Run.{served_account}

@@ -1,14 +1,12 @@
 -- What an end may be held up by before it sends a segment, as a number that each turn in which it is held up lowers by three, but for a
 -- poll
 -- that is heard in it. A poll of the other end has a value too: one becomes due in nineteen turns at most.
-use Rattle.std.proofs.Common.{ℕ, ◌+◌, ◌-◌, ◌≤◌, ◌&&◌, min, Bool, true, false, cond, arith, Option, Some, None, ◌≡◌, ◌<◌, ◌||◌, ◌⊎◌}
-use Rattle.std.proofs.Common.{List, inl, inr, refl, sym, ◌∙◌, ap, Ok}
-use Rattle.std.proofs.Common.{length-append}
+use Rattle.std.proofs.Common.{ℕ, ◌+◌, ◌-◌, ◌≤◌, ◌&&◌, min, Bool, true, false, cond, arith, Option, Some, None, ◌≡◌, ◌<◌, ◌||◌, ◌⊎◌, List}
+use Rattle.std.proofs.Common.{inl, inr, refl, sym, ◌∙◌, ap, Ok, length-append}
 use Rattle.turn_bound.proofs.Truths.{or-false}
 use Rattle.link_account.proofs.Names.{is_some, Frame, Rr, Rnr, Rej, Incoming, BreakWord, OwnBreaks, waits, Account, nat_tests, Role}
 use Rattle.link_account.proofs.Names.{Answerer, is_originator, I, meant, Outgoing, is_outstanding, advanced, after_kind, kind_of, offset}
-use Rattle.link_account.proofs.Names.{Took, after_answer, Arrived, hear, without_adp, after_take, on_nothing}
-use Rattle.link_account.proofs.Names.{after_ask}
+use Rattle.link_account.proofs.Names.{Took, after_answer, Arrived, hear, without_adp, after_take, on_nothing, after_ask}
 use Rattle.link_run.proofs.Names.{Phase, Connected, Releasing, Closed}
 use Rattle.lapm_sender.specs.Numbers.{with_number}
 use Rattle.turn_bound.proofs.Names.{ConnectedWays, Plain, numbered_with, timer_after}
