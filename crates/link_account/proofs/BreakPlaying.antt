@@ -1,23 +1,17 @@
 -- The breaks in a play of two ends of ours, whatever is lost.
 use Rattle.std.proofs.Common.{◌≡◌, ℕ, ◌-◌, ◌%◌, ◌<◌, ◌&&◌, Bool, true, false, cond, nat_le, List, [], ◌∷◌, ◌++◌, length, drop}
 use Rattle.std.proofs.Common.{slice_index_or, arith, refl, sym, ◌∙◌, ap, subst, Option, Some, None, Result, Ok, Err}
-use Rattle.link_account.proofs.Names.{is_some, false≢true, take-append-drop, append-nil, append_assoc, Role, Originator, Answerer, Frame, I}
-use Rattle.link_account.proofs.Names.{Rr, Rnr, Rej, Srej, Ua, Dm, Ui, next_expected, BreakWord, Brk, Ack, BreakFault, word_in, OwnBreaks}
-use Rattle.link_account.proofs.Names.{after_ask, ticked, Arrived, Sent, LinkFault, Account, fresh, is_connected, after_offer}
-use Rattle.link_account.proofs.Names.{after_break_asked, wants, piece_size, after_busy, hear, trying, Said, says, frame_for, ready_frame}
-use Rattle.link_account.proofs.Names.{nr_of, speak, Slot, Play, arrives, IsPrefixOf}
-use Rattle.lapm_receiver.specs.Incoming.{after_delivered}
+use Rattle.link_account.proofs.Names.{Account, Ack, Answer, Answerer, AnswersGiven, Arrived, BreakFault, BreakWord, Brk, Delivers, Dm}
+use Rattle.link_account.proofs.Names.{Event, Frame, GivesBreaksInOrder, Gives_break, Hears_nothing, I, IsBreakOf, IsPrefixOf, Is_asked}
+use Rattle.link_account.proofs.Names.{Is_busy, Is_lost, Is_offered, LinkFault, Originator, OwnBreaks, Pair, Passes, Play, Rej, Releasing}
+use Rattle.link_account.proofs.Names.{Rnr, Role, Rr, Said, SendsBreaksTaken, Sent, Side, Slot, Speaks, Srej, TheirBreaks, Ua, Ui, after_ack}
+use Rattle.link_account.proofs.Names.{after_ask, after_break_asked, after_brk, after_busy, after_delivered, after_delivery, after_offer}
+use Rattle.link_account.proofs.Names.{append-nil, append_assoc, arrives, false≢true, frame_for, fresh, goes_on, happens, happens_at, hear}
+use Rattle.link_account.proofs.Names.{heard, is_connected, is_lost, is_offered, is_some, next_expected, nr_of, own_due, passes, piece_size}
+use Rattle.link_account.proofs.Names.{play, play_of, played, ready_frame, role_of, says, says_word, seen_from, speak, spoken, start}
+use Rattle.link_account.proofs.Names.{take-append-drop, ticked, trying, wants, word_in}
 use Rattle.break_signals.specs.Words.{spelled, number_of}
 use Rattle.break_signals.proofs.Spelling.{is_read_back_always}
-use Rattle.break_signals.specs.Breaks.{TheirBreaks, own_due, after_brk, after_ack}
-use Rattle.link_account.specs.declared.phase.Phase.TheVariants.{Releasing}
-use Rattle.link_account.specs.declared.answer.Answer.{Answer}
-use Rattle.link_account.specs.Account.{after_delivery}
-use Rattle.link_account.specs.Speak.{says_word}
-use Rattle.link_account.specs.Play.{Side, Pair, Event, Speaks, Passes, Is_lost, Hears_nothing, Is_offered, Is_asked, Delivers, Gives_break}
-use Rattle.link_account.specs.Play.{seen_from, play_of, spoken, heard, passes, is_lost, is_offered, happens_at, role_of, goes_on, happens}
-use Rattle.link_account.specs.Play.{play, start, Is_busy}
-use Rattle.link_account.specs.Laws.{played, GivesBreaksInOrder, AnswersGiven, IsBreakOf, SendsBreaksTaken}
 use Rattle.link_account.proofs.SpeakWays.{OnSaid, Steps, Tries, tries-alike}
 use Rattle.link_account.proofs.Breaking.{BrkOn, AckOn, BreaksGo, Go, OnTicked, go-asked, go-ticked, go-brk, go-ack, go-brk-lost}
 use Rattle.link_account.proofs.Breaking.{go-ack-lost, go-brk-heard, go-ack-heard, IsPending}
@@ -324,8 +318,7 @@ spoken-pair q (Ok said) h w = w
 spoken-pair q (Err fault) h w = h
 
 heard_line : (r : Result Account LinkFault) (s : Side) → (heard r s).line ≡ s.line
-heard_line (Ok a) s = refl
-heard_line (Err fault) s = refl
+heard_line x s = grind (arith)
 
 passes-pair : (q : Pair) (turn : ℕ) (line : List Slot) → q.own.line ≡ line → PairGo q → PairGo (passes turn line q)
 passes-pair q turn [] e h = h

@@ -1,12 +1,12 @@
 -- The breaks of one end, what the other was given, and their words on both lines.
 use Rattle.std.proofs.Common.{◌≡◌, ℕ, ◌+◌, ◌-◌, ◌%◌, ◌<◌, ◌≤◌, ◌≢◌, ◌&&◌, not, Bool, true, false, cond, nat_eq, nat_lt, nat_le, List, []}
 use Rattle.std.proofs.Common.{◌∷◌, ◌++◌, length, take, slice_index_or, arith, length-append, refl, sym, ◌∙◌, ap, subst, Option, Some, None}
-use Rattle.link_account.proofs.Names.{false≢true, AllByRecursion, BreakWord, Brk, Ack, OwnBreaks, after_ask, ticked, after_answer}
+use Rattle.link_account.proofs.Names.{Ack, AllByRecursion, BreakWord, Brk, OwnBreaks, TheirBreaks, after_ack, after_answer, after_ask}
+use Rattle.link_account.proofs.Names.{after_break, after_brk, false≢true, ticked, with_given}
 use Rattle.std.proofs.lemmas.List.{take-append-le, take_more}
 use Rattle.std.proofs.lemmas.Grind.{common_steps}
-use borrow.Author.Tests.{ltb-true, eqb-true}
+use borrow.Author.Tests.{eqb-true}
 use Rattle.std.proofs.lemmas.Bool.{ltb-false, eqb-false}
-use Rattle.break_signals.specs.Breaks.{TheirBreaks, with_given, after_break, after_brk, after_ack}
 use Rattle.link_account.proofs.Flow.{all_weaker, all_both, all_snoc}
 
 -- a BRK and a BRKACK on the line, with the place of the break among those taken
@@ -125,10 +125,6 @@ go-asked b t brks acks turn l h = go (nat_lt b.answered (length b.lengths)) refl
     go false e false = h
 
 -- whether a BRK is due changes
-pub go-due : (b : OwnBreaks) (t : TheirBreaks) (brks : List BrkOn) (acks : List AckOn) (brk : Bool) → Go b t brks acks
-    → (brk ≡ true → b.answered < length b.lengths) → BreaksGo b.lengths b.answered brk t.lengths t.ack brks acks
-go-due b t brks acks brk h due = record { given_are = h.given_are; due = due; pending = h.pending; brks = h.brks; acks = h.acks }
-
 abbrev pub OnTicked : TheirBreaks → List BrkOn → List AckOn → Option OwnBreaks → Type 0
 OnTicked t brks acks None = Unit {0}
 OnTicked t brks acks (Some b) = Go b t brks acks
@@ -140,10 +136,7 @@ go-ticked b t brks acks turn period tries h =
   where
     go : (w : Bool) → nat_lt b.answered (length b.lengths) ≡ w → (r c : Bool)
         → OnTicked t brks acks (cond (w && r) (cond c None (Some (record b { brk = true; set = turn; count = b.count + 1 }))) (Some b))
-    go true e true true = tt
-    go true e true false = go-due b t brks acks true h (λ z. ltb-true b.answered (length b.lengths) e)
-    go true e false c = h
-    go false e r c = h
+    go x e r c = grind (arith)
 
 -- a BRK goes on the line
 pub go-brk : (b : OwnBreaks) (t : TheirBreaks) (brks : List BrkOn) (acks : List AckOn) → b.brk ≡ true → Go b t brks acks

@@ -1,16 +1,14 @@
 -- One direction of a link, seen from the parts of two accounts and the slots on their lines.
 use Rattle.std.proofs.Common.{◌≡◌, ℕ, zero, suc, ◌+◌, ◌-◌, ◌%◌, ◌<◌, ◌≤◌, ◌≢◌, ◌&&◌, max, Bool, true, false, cond, nat_eq, nat_lt, List, []}
 use Rattle.std.proofs.Common.{◌∷◌, ◌++◌, length, slice_index_or, arith, refl, sym, ◌∙◌, ap, subst, Option, Some, None, ◌||◌}
-use Rattle.link_account.proofs.Names.{nat_tests, append-nil, append_assoc, false≢true, AllByRecursion, I, Rr, Rnr, Rej, Srej, meant}
-use Rattle.link_account.proofs.Names.{Outgoing, advanced, next_number, Incoming, after_take, after_kind, kind_of, next_expected, InOrder}
-use Rattle.link_account.proofs.Names.{Kept, Repeat, Gap, Sent, Slot}
+use Rattle.link_account.proofs.Names.{AllByRecursion, Gap, I, InOrder, Incoming, Kept, Outgoing, Rej, Repeat, Rnr, Rr, Sent, Slot, Srej}
+use Rattle.link_account.proofs.Names.{advanced, after_kind, after_next, after_take, append-nil, append_assoc, asks, false≢true, from_number}
+use Rattle.link_account.proofs.Names.{gone_back, kind_of, meant, nat_tests, next_among, next_expected, next_number, selected, sent_among}
+use Rattle.link_account.proofs.Names.{wait_ended, with_number}
 use borrow.Author.Tests.{ltb-true, eqb-true}
 use Rattle.std.proofs.lemmas.Bool.{eqb-false}
 use Rattle.std.specs.List.{range_with_len}
-use Rattle.lapm_sender.specs.Numbers.{with_number, from_number}
-use Rattle.lapm_sender.specs.Outgoing.{selected, gone_back, wait_ended, next_among, sent_among, after_next}
 use Rattle.lapm_receiver.specs.Held.{Held, is_held, with_held, missing_from, first_outside, is_among}
-use Rattle.lapm_receiver.specs.Incoming.{asks}
 use Rattle.link_account.proofs.Flow.{Segment, Reply, Flow, Sound, IsChoice, IsAskable, IsRising, IsHeldRight, keeps-sent, keeps-told}
 use Rattle.link_account.proofs.Flow.{keeps-dropped, keeps-forgotten, keeps-acked, keeps-chosen, keeps-taken, keeps-kept, meant-found}
 use Rattle.link_account.proofs.Flow.{with_number-all, from_number-choices, all_weaker, rising-lower}

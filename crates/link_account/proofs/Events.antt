@@ -1,13 +1,11 @@
 -- What each event makes of a play in which neither end is broken; the first account and line are those of a role.
-use Rattle.std.proofs.Common.{◌≡◌, ℕ, ◌&&◌, Bool, true, cond, nat_le, List, [], ◌∷◌, ◌++◌, length, None, Ok, refl, ap}
+use Rattle.std.proofs.Common.{arith, ◌≡◌, ℕ, ◌&&◌, Bool, true, cond, nat_le, List, [], ◌∷◌, ◌++◌, length, None, Ok, refl, ap}
 use Rattle.std.specs.Prelude.{is_some}
-use Rattle.lapm_receiver.specs.Incoming.{next_expected}
+use Rattle.link_account.proofs.Names.{Account, Answerer, Delivers, Event, Gives_break, Hears_nothing, Is_asked, Is_busy, Is_lost}
+use Rattle.link_account.proofs.Names.{Is_offered, Originator, Passes, Play, Role, Said, Side, Slot, Speaks, after_break_asked, after_busy}
+use Rattle.link_account.proofs.Names.{after_delivery, after_given, after_offer, arrives, happens, hear, next_expected, piece_size, play}
+use Rattle.link_account.proofs.Names.{speak, wants}
 use Rattle.lapm_frames.specs.declared.arrived.Arrived.TheVariants as arrivals
-use Rattle.link_account.proofs.Names.{Role, Originator, Answerer, Account, Said, Slot, Play, arrives, hear, speak, wants, piece_size}
-use Rattle.link_account.proofs.Names.{after_given, after_offer, after_break_asked, after_busy}
-use Rattle.link_account.specs.Account.{after_delivery}
-use Rattle.link_account.specs.Play.{Side, Event, Speaks, Passes, Is_lost, Hears_nothing, Is_offered, Is_asked, Delivers, Gives_break}
-use Rattle.link_account.specs.Play.{Is_busy, spoken, heard, happens, play}
 
 -- both sides of a play, the first one that of the role
 abbrev pub sides : Role → Side → Side → Play
@@ -29,44 +27,36 @@ play-append (e ∷ es) fs p = play-append es fs (happens e p)
 
 pub hears-event : (role : Role) (turn : ℕ) (x b y : Account) (lx ly : List Slot) → hear turn arrivals.Nothing x ≡ Ok b
     → happens (Hears_nothing role turn) (at role x lx y ly) ≡ at role b lx y ly
-hears-event Originator turn x b y lx ly e = ap (λ r. sides Originator (heard r (side x lx)) (side y ly)) e
-hears-event Answerer turn x b y lx ly e = ap (λ r. sides Answerer (heard r (side x lx)) (side y ly)) e
+hears-event w turn x b y lx ly e = grind (arith)
 
 pub passes-event : (role : Role) (turn : ℕ) (x y b : Account) (slot : Slot) (rest ly : List Slot) → hear turn (arrives slot.sent) y ≡ Ok b
     → happens (Passes role turn) (at role x (slot ∷ rest) y ly) ≡ at role x rest b ly
-passes-event Originator turn x y b slot rest ly e = ap (λ r. sides Originator (side x rest) (heard r (side y ly))) e
-passes-event Answerer turn x y b slot rest ly e = ap (λ r. sides Answerer (side x rest) (heard r (side y ly))) e
+passes-event w turn x y b slot rest ly e = grind (arith)
 
 pub loses-event : (role : Role) (x y : Account) (slot : Slot) (rest ly : List Slot)
     → happens (Is_lost role) (at role x (slot ∷ rest) y ly) ≡ at role x rest y ly
-loses-event Originator x y slot rest ly = refl
-loses-event Answerer x y slot rest ly = refl
+loses-event w x y slot rest ly = grind (arith)
 
 pub speaks-event : (role : Role) (turn : ℕ) (release : Bool) (x y : Account) (lx ly : List Slot) (said : Said)
     → speak turn release x ≡ Ok said
     → happens (Speaks role turn release) (at role x lx y ly) ≡ at role said.account (lx ++ slot_of x said ∷ []) y ly
-speaks-event Originator turn release x y lx ly said e = ap (λ r. sides Originator (spoken r (side x lx)) (side y ly)) e
-speaks-event Answerer turn release x y lx ly said e = ap (λ r. sides Answerer (spoken r (side x lx)) (side y ly)) e
+speaks-event w turn release x y lx ly said e = grind (arith)
 
 pub gives-event : (role : Role) (x y : Account) (lx ly : List Slot)
     → happens (Gives_break role) (at role x lx y ly) ≡ at role (after_given x) lx y ly
-gives-event Originator x y lx ly = refl
-gives-event Answerer x y lx ly = refl
+gives-event w x y lx ly = grind (arith)
 
 pub delivers-event : (role : Role) (x y : Account) (lx ly : List Slot)
     → happens (Delivers role) (at role x lx y ly) ≡ at role (after_delivery x) lx y ly
-delivers-event Originator x y lx ly = refl
-delivers-event Answerer x y lx ly = refl
+delivers-event w x y lx ly = grind (arith)
 
 pub asked-event : (role : Role) (turn units : ℕ) (x y : Account) (lx ly : List Slot)
     → happens (Is_asked role turn units) (at role x lx y ly) ≡ at role (after_break_asked turn units x) lx y ly
-asked-event Originator turn units x y lx ly = refl
-asked-event Answerer turn units x y lx ly = refl
+asked-event w turn units x y lx ly = grind (arith)
 
 pub busy-event : (role : Role) (busy : Bool) (x y : Account) (lx ly : List Slot)
     → happens (Is_busy role busy) (at role x lx y ly) ≡ at role (after_busy busy x) lx y ly
-busy-event Originator busy x y lx ly = refl
-busy-event Answerer busy x y lx ly = refl
+busy-event w busy x y lx ly = grind (arith)
 
 pub offered-event : (role : Role) (piece : List ℕ) (x y : Account) (lx ly : List Slot)
     → (is_some (wants x) && nat_le (length piece) (piece_size x)) ≡ true

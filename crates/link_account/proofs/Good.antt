@@ -1,11 +1,8 @@
 -- What holds all through a play of two ends of ours.
 use Rattle.std.proofs.Common.{◌≡◌, ℕ, ◌≤◌, Bool, true, false, List, [], ◌∷◌, arith, ◌∙◌, Option, Some, None}
-use Rattle.link_account.proofs.Names.{AllByRecursion, Originator, Answerer, Sabme, Disc, Ua, Dm, Xid, Terms, agree, offer_in, written}
-use Rattle.link_account.proofs.Names.{Sent, Account, Slot}
-use Rattle.link_account.specs.declared.setup.Setup.{Setup}
-use Rattle.link_account.specs.declared.phase.Phase.{Phase}
-use Rattle.link_account.specs.declared.phase.Phase.TheVariants.{Detecting, Negotiating, Establishing, Connected, Releasing, Closed}
-use Rattle.link_account.specs.declared.answer.Answer.{Answer}
+use Rattle.link_account.proofs.Names.{Account, AllByRecursion, Answer, Answerer, Closed, Connected, Detecting, Disc, Dm, Establishing}
+use Rattle.link_account.proofs.Names.{Negotiating, Originator, Phase, Releasing, Sabme, Sent, Setup, Slot, Terms, Ua, Xid, agree, offer_in}
+use Rattle.link_account.proofs.Names.{written}
 use Rattle.link_account.proofs.Flow.{all_weaker}
 use Rattle.link_account.proofs.Ends.{Goes, back-forgotten, line-lost}
 use Rattle.link_account.proofs.Linked.{Linked, IsNumbered, IsLinked}
@@ -122,23 +119,14 @@ pub record Good (so sa : Setup) (o a : Account) (lo la : List Slot) : Type 0 whe
   pub flow_ao : Goes (terms_of so sa).window_a (terms_of so sa).srej a.outgoing o.incoming la lo
 
 pub from_o-later : (so : Setup) (k m : ℕ) (sent : Sent) (n told : ℕ) → k ≤ m → FromO so k sent n told → FromO so m sent n told
-from_o-later so k m (slots.Frame (Sabme pf)) n told e h = omega (arith, h)
-from_o-later so k m (slots.Frame (Disc pf)) n told e h = omega (arith, h)
-from_o-later so k m (slots.Frame (Xid true pf info)) n told e h = h
-from_o-later so k m sent n told e h = h
+from_o-later so k m sent n told e h = grind (arith)
 
 pub from_a-later : (sa : Setup) (k m k' m' : ℕ) (sent : Sent) (n told : ℕ) → k ≤ k' → m ≤ m' → FromA sa k m sent n told
     → FromA sa k' m' sent n told
-from_a-later sa k m k' m' (slots.Frame (Dm pf)) n told e f h = omega (arith, h)
-from_a-later sa k m k' m' (slots.Frame (Xid false pf info)) n told e f h = (h.0, omega (arith, h.1))
-from_a-later sa k m k' m' sent n told e f h = h
+from_a-later sa k m k' m' sent n told e f h = grind (arith)
 
 pub due-later : (k m k' m' : ℕ) (answer : Option Answer) → k ≤ k' → m ≤ m' → DueA k m answer → DueA k' m' answer
-due-later k m k' m' None e f h = tt
-due-later k m k' m' (Some answers.Adp) e f h = tt
-due-later k m k' m' (Some answers.Xid) e f h = omega (arith, h)
-due-later k m k' m' (Some (answers.Ua pf)) e f h = tt
-due-later k m k' m' (Some (answers.Dm pf)) e f h = omega (arith, h)
+due-later k m k' m' x e f h = grind (arith)
 
 -- the two ends as linked ends
 pub linked-o : (so sa : Setup) (o a : Account) (lo la : List Slot) → Good so sa o a lo la

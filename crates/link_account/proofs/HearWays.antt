@@ -1,28 +1,21 @@
 -- The ways in which an end hears: what holds of each way holds of all that it becomes. So a fact about what it becomes has one line for
 -- each way, and no case distinction over phases, frames and acknowledgements of its own.
-use Rattle.std.proofs.Common.{◌⊎◌, inl, inr, ◌≡◌, ℕ, ◌-◌, ◌&&◌, ◌||◌, Bool, true, false, cond, refl, sym, ap, subst, List, Option, Some}
-use Rattle.std.proofs.Common.{None, Result, Ok, Err}
-use Rattle.link_account.proofs.Names.{Role, Originator, Answerer, is_originator, LinkFault, NotDetected, Spent, Frame, I, Rr, Rnr, Rej}
-use Rattle.link_account.proofs.Names.{Srej, Sabme, Disc, Ua, Dm, Ui, Xid, Arrived, Offer, agree, offer_in, meant, Outgoing, is_outstanding}
-use Rattle.link_account.proofs.Names.{advanced, resumed, Incoming, after_take, BreakWord, Brk, Ack, BreakFault, word_in, after_answer}
-use Rattle.link_account.proofs.Names.{Account, is_connected, hear, on_frame, on_nothing, owing, trying}
+use Rattle.std.proofs.Common.{arith, ◌⊎◌, ◌≡◌, ℕ, ◌-◌, ◌&&◌, ◌||◌, Bool, true, false, cond, refl, sym, ap, subst, List, Option, Some, None}
+use Rattle.std.proofs.Common.{Result, Ok, Err}
+use Rattle.link_account.proofs.Names.{Account, Ack, Answerer, Arrived, BadAck, BreakFault, BreakWord, Brk, Closed, Connected, Detecting}
+use Rattle.link_account.proofs.Names.{Disc, Dm, Establishing, Frame, I, Incoming, LinkFault, Negotiating, NotDetected, Offer, Originator}
+use Rattle.link_account.proofs.Names.{Outgoing, PeerRefused, PeerReset, Phase, Rej, Releasing, Rnr, Role, Rr, Sabme, Spent, Srej, Ua, Ui}
+use Rattle.link_account.proofs.Names.{WantsAnswers, Xid, advanced, after_answer, after_break, after_take, agree, connected, ends_wait}
+use Rattle.link_account.proofs.Names.{gone_back, hear, hurrying, is_connected, is_originator, is_outstanding, meant, offer_in, on_connected}
+use Rattle.link_account.proofs.Names.{on_disc, on_frame, on_nothing, on_number, on_seen, on_word, on_xid_command, owing, paused_at, pausing}
+use Rattle.link_account.proofs.Names.{peer_reset, replying, resumed, taking, then_in, timer_after, trying, wait_ended, with_number, word_in}
 use Rattle.std.specs.Option.{option_map}
 use Rattle.lapm_frames.specs.declared.frame.Frame.TheVariants.{Frmr, Test}
 use Rattle.lapm_frames.specs.declared.seen.Seen.{Seen}
 use Rattle.lapm_frames.specs.declared.seen.Seen.TheVariants.{Odp, Adp}
 use Rattle.xid_params.specs.Terms.{default_offer}
-use Rattle.lapm_sender.specs.Numbers.{with_number}
-use Rattle.lapm_sender.specs.Outgoing.{gone_back, wait_ended, paused_at}
-use Rattle.break_signals.specs.Breaks.{after_break}
-use Rattle.link_account.specs.declared.phase.Phase.{Phase}
-use Rattle.link_account.specs.declared.phase.Phase.TheVariants.{Detecting, Negotiating, Establishing, Connected, Releasing, Closed}
-use Rattle.link_account.specs.Hear.{on_seen, on_pattern, on_connected, on_number, on_disc, on_word, then_in, timer_after, ends_wait}
-use Rattle.link_account.specs.Hear.{replying, taking, hurrying, pausing, peer_reset, connected, on_detecting, on_negotiating}
-use Rattle.link_account.specs.Hear.{on_establishing, on_releasing, on_closed, on_xid_command, on_xid_response}
 use Rattle.lapm_frames.specs.declared.arrived.Arrived.TheVariants as arrivals
 use Rattle.link_account.specs.declared.answer.Answer.TheVariants as answers
-use Rattle.link_account.specs.Laws.{WantsAnswers}
-use Rattle.shared_terms.specs.declared.fault.LinkFault.TheVariants.{BadAck, PeerReset, PeerRefused}
 
 -- an end that breaks as it hears doesn't break for want of answers
 abbrev pub IsRefusal : LinkFault → Type 0
@@ -205,74 +198,10 @@ module _ (P : Arrived → Account → Type 0) (turn : ℕ) (a : Account) (h : Ea
     where
       go : (m : Option Offer) → offer_in info ≡ m → hear turn (arrivals.Frame (Xid true pf info)) a ≡ Ok (on_xid_command m a)
           → P (arrivals.Frame (Xid true pf info)) (on_xid_command m a)
-      go None e f = h.ignores (arrivals.Frame (Xid true pf info)) f
-      go (Some offer) e f = h.xid p r pf info offer e
-
-  on-detecting : a.phase ≡ Detecting → (r : Role) → a.setup.role ≡ r → (frame : Frame)
-      → hear turn (arrivals.Frame frame) a ≡ on_detecting r frame turn a → OnFrame P frame (on_detecting r frame turn a)
-  on-detecting p Answerer r (Xid true pf info) e = commanded (inl p) r pf info e
-  on-detecting p Answerer r (Sabme pf) e = h.sabme_first p r pf
-  on-detecting p r q frame e = h.ignores (arrivals.Frame frame) e
-
-  on-negotiating : a.phase ≡ Negotiating → (r : Role) → a.setup.role ≡ r → (frame : Frame)
-      → hear turn (arrivals.Frame frame) a ≡ on_negotiating r frame turn a → OnFrame P frame (on_negotiating r frame turn a)
-  on-negotiating p Originator r (Xid false pf info) e = go (offer_in info) refl e
-    where
-      go : (m : Option Offer) → offer_in info ≡ m → hear turn (arrivals.Frame (Xid false pf info)) a ≡ Ok (on_xid_response m turn a)
-          → P (arrivals.Frame (Xid false pf info)) (on_xid_response m turn a)
-      go None e f = h.ignores (arrivals.Frame (Xid false pf info)) f
-      go (Some offer) e f = h.agrees p r pf info offer e
-  on-negotiating p Originator r (Dm pf) e = tt
-  on-negotiating p Answerer r (Xid true pf info) e = commanded (inr p) r pf info e
-  on-negotiating p Answerer r (Sabme pf) e = h.sabme p r pf
-  on-negotiating p Answerer r (Disc pf) e = h.disc (inl (p, r)) pf
-  on-negotiating p r q frame e = h.ignores (arrivals.Frame frame) e
-
-  on-establishing : a.phase ≡ Establishing → (frame : Frame) → hear turn (arrivals.Frame frame) a ≡ on_establishing frame turn a
-      → OnFrame P frame (on_establishing frame turn a)
-  on-establishing p (Ua true) e = h.ua p
-  on-establishing p (Dm true) e = tt
-  on-establishing p frame e = h.ignores (arrivals.Frame frame) e
-
-  on-releasing : a.phase ≡ Releasing → (frame : Frame) → hear turn (arrivals.Frame frame) a ≡ on_releasing frame a
-      → OnFrame P frame (on_releasing frame a)
-  on-releasing p (Ua true) e = h.closes p (Ua true) (inl refl)
-  on-releasing p (Dm true) e = h.closes p (Dm true) (inr refl)
-  on-releasing p frame e = h.ignores (arrivals.Frame frame) e
-
-  on-closed : a.phase ≡ Closed → (frame : Frame) → hear turn (arrivals.Frame frame) a ≡ on_closed frame a → OnFrame P frame
-      (on_closed frame a)
-  on-closed p (Disc pf) e = h.disc (inr p) pf
-  on-closed p frame e = h.ignores (arrivals.Frame frame) e
-
-  on-early : (p : Phase) → a.phase ≡ p → is_connected p ≡ false → (frame : Frame) → OnFrame P frame (on_frame p frame turn a)
-  on-early Detecting e c frame =
-      on-detecting e a.setup.role refl frame (ap (λ p. on_frame p frame turn a) e)
-  on-early Negotiating e c frame = on-negotiating e a.setup.role refl frame (ap (λ p. on_frame p frame turn a) e)
-  on-early Establishing e c frame = on-establishing e frame (ap (λ p. on_frame p frame turn a) e)
-  on-early Connected e c frame = cc
-  on-early Releasing e c frame = on-releasing e frame (ap (λ p. on_frame p frame turn a) e)
-  on-early Closed e c frame = on-closed e frame (ap (λ p. on_frame p frame turn a) e)
-
-  seen-early : (p : Phase) → a.phase ≡ p → is_connected p ≡ false → (seen : Seen) → P (arrivals.Pattern seen) (on_seen p seen turn a)
-  seen-early Detecting e c seen = go a.setup.role refl seen (ap (λ p. Ok (on_seen p seen turn a)) e)
-    where
-      go : (r : Role) → a.setup.role ≡ r → (s : Seen) → hear turn (arrivals.Pattern s) a ≡ Ok (on_pattern r s turn a)
-          → P (arrivals.Pattern s) (on_pattern r s turn a)
-      go Originator f Adp q = h.detects e f
-      go Originator f Odp q = h.ignores (arrivals.Pattern Odp) q
-      go Answerer f Odp q = h.detected e f
-      go Answerer f Adp q = h.ignores (arrivals.Pattern Adp) q
-  seen-early Negotiating e c seen = h.ignores (arrivals.Pattern seen) (ap (λ p. Ok (on_seen p seen turn a)) e)
-  seen-early Establishing e c seen = h.ignores (arrivals.Pattern seen) (ap (λ p. Ok (on_seen p seen turn a)) e)
-  seen-early Connected e c seen = cc
-  seen-early Releasing e c seen = h.ignores (arrivals.Pattern seen) (ap (λ p. Ok (on_seen p seen turn a)) e)
-  seen-early Closed e c seen = h.ignores (arrivals.Pattern seen) (ap (λ p. Ok (on_seen p seen turn a)) e)
+      go x e f = grind (arith)
 
   early : P arrivals.Nothing (on_nothing a) → (x : Arrived) → is_connected a.phase ≡ false → OnHeard (P x) (hear turn x a)
-  early nothing arrivals.Nothing c = nothing
-  early nothing (arrivals.Pattern seen) c = seen-early a.phase refl c seen
-  early nothing (arrivals.Frame frame) c = on-early a.phase refl c frame
+  early nothing x c = grind (arith)
 
   -- and an end in another phase
   pub by-early : P arrivals.Nothing (on_nothing a) → (x : Arrived) (mid : Account) → is_connected a.phase ≡ false → hear turn x a ≡ Ok mid
@@ -299,47 +228,11 @@ by-ways P turn a h x mid f = go a.phase refl
     go Closed e = by-early P turn a (h.early (ap is_connected e)) h.nothing x mid (ap is_connected e) f
 
 -- why an end breaks as it hears
-any-linked : (turn : ℕ) (a : Account) → ConnectedWays (λ x b. Unit {0}) turn a
-any-linked turn a = record {
-  pattern = λ seen. tt;
-  plain = λ frame p. tt;
-  numbers = record {
-    i = λ ns nr pf info n e. tt;
-    rr = λ command pf nr n final g e. tt;
-    rej = λ command pf nr n final g e. tt;
-    rnr = λ command pf nr n final g e. tt;
-    srej = λ command pf nr n g e. tt;
-  };
-  sabme = λ pf n r. tt;
-  disc = λ pf r. tt;
-  brk = λ command pf info number length_octet q. tt;
-  brkack = λ command pf info number length_octet q. tt;
-}
-
-any-early : (turn : ℕ) (a : Account) → EarlyWays (λ x b. Unit {0}) turn a
-any-early turn a = record {
-  ignores = λ x f. tt;
-  detects = λ p r. tt;
-  detected = λ p r. tt;
-  xid = λ p r pf info offer f. tt;
-  agrees = λ p r pf info offer f. tt;
-  sabme_first = λ p r pf. tt;
-  sabme = λ p r pf. tt;
-  ua = λ p. tt;
-  disc = λ p pf. tt;
-  closes = λ p frame f. tt;
-}
-
 pub refused : (turn : ℕ) (x : Arrived) (a : Account) (fault : LinkFault) → hear turn x a ≡ Err fault → IsRefusal fault
 refused turn x a fault f = subst (OnHeard (λ b. Unit {0})) f (go a.phase refl)
   where
     go : (p : Phase) → a.phase ≡ p → OnHeard (λ b. Unit {0}) (hear turn x a)
-    go Connected e = linked (λ x b. Unit {0}) turn a (any-linked turn a) tt x e
-    go Detecting e = early (λ x b. Unit {0}) turn a (any-early turn a) tt x (ap is_connected e)
-    go Negotiating e = early (λ x b. Unit {0}) turn a (any-early turn a) tt x (ap is_connected e)
-    go Establishing e = early (λ x b. Unit {0}) turn a (any-early turn a) tt x (ap is_connected e)
-    go Releasing e = early (λ x b. Unit {0}) turn a (any-early turn a) tt x (ap is_connected e)
-    go Closed e = early (λ x b. Unit {0}) turn a (any-early turn a) tt x (ap is_connected e)
+    go x e = grind (arith)
 
 -- so it doesn't break for want of answers
 pub breaks-not : (turn : ℕ) (arrived : Arrived) (a : Account) (fault : LinkFault) → hear turn arrived a ≡ Err fault
@@ -378,8 +271,7 @@ resumed-unpaused o = go o.paused refl
   where
     go : (b : Bool) → o.paused ≡ b
         → (cond b (record o { paused = false; count = cond (is_outstanding o || o.awaited) o.count 0 }) o).paused ≡ false
-    go true e = refl
-    go false e = e
+    go x e = grind (arith)
 
 pub acked-keeps : (final : Bool) (o : Outgoing) (n : ℕ) → NumberKeeps o (acked final o n)
 acked-keeps true o n = record { window = refl; size = refl; tries = refl; pieces = refl; ended = refl; high = refl }

@@ -1,17 +1,13 @@
 -- Hearing keeps a play good.
 use Rattle.std.proofs.Common.{◌≡◌, ℕ, ◌≤◌, ◌||◌, Bool, true, false, cond, List, ◌∷◌, arith, refl, sym, ◌∙◌, ap, subst, Option, Some, None}
 use Rattle.std.proofs.Common.{Result, Ok, Err}
-use Rattle.link_account.proofs.Names.{Role, Originator, Answerer, other, Frame, I, Rr, Rnr, Rej, Srej, Sabme, Disc, Ua, Dm, Xid, agree}
-use Rattle.link_account.proofs.Names.{offer_in, written, Sent, LinkFault, Account, is_originator, hear, on_frame, owing, trying, on_nothing}
-use Rattle.link_account.proofs.Names.{without_adp, Slot, arrives}
+use Rattle.link_account.proofs.Names.{Account, Answer, Answerer, Closed, Connected, Detecting, Disc, Dm, Establishing, Frame, I, LinkFault}
+use Rattle.link_account.proofs.Names.{Negotiating, Originator, Phase, Rej, Releasing, Rnr, Role, Rr, Sabme, Sent, Setup, Slot, Srej, Ua}
+use Rattle.link_account.proofs.Names.{Xid, agree, arrives, connected, hear, is_originator, offer_in, on_closed, on_connected, on_detecting}
+use Rattle.link_account.proofs.Names.{on_disc, on_establishing, on_frame, on_negotiating, on_nothing, on_pattern, on_releasing, on_sabme}
+use Rattle.link_account.proofs.Names.{on_seen, on_xid_command, on_xid_response, other, owing, peer_reset, trying, window_for, without_adp}
+use Rattle.link_account.proofs.Names.{written}
 use Rattle.lapm_frames.specs.declared.frame.Frame.TheVariants.{Frmr, Test}
-use Rattle.link_account.specs.declared.setup.Setup.{Setup}
-use Rattle.link_account.specs.declared.phase.Phase.{Phase}
-use Rattle.link_account.specs.declared.phase.Phase.TheVariants.{Detecting, Negotiating, Establishing, Connected, Releasing, Closed}
-use Rattle.link_account.specs.declared.answer.Answer.{Answer}
-use Rattle.link_account.specs.Account.{window_for}
-use Rattle.link_account.specs.Hear.{on_connected, on_detecting, on_negotiating, on_establishing, on_releasing, on_closed, on_xid_command}
-use Rattle.link_account.specs.Hear.{on_xid_response, on_sabme, peer_reset, on_disc, on_seen, on_pattern, connected}
 use Rattle.link_account.proofs.Ends.{Goes}
 use Rattle.link_account.proofs.Linked.{IsNumbered, IsLinked, HearsWell, hears-linked, counts_as_numbered}
 use Rattle.link_account.proofs.Good.{rank, DueA, IsFresh, PlaceO, PlaceA, NoSabme, terms_of, Good, linked-o, linked-a, lost-o, lost-a}
@@ -39,12 +35,7 @@ role-o : (so sa : Setup) (o a : Account) (lo la : List Slot) → Good so sa o a 
 role-o so sa o a lo la g = ap (λ s. s.role) g.setup_o ∙ g.deal.role_o
 
 counts-not : (frame : Frame) (b : Bool) → (IsNumbered (slots.Frame frame) → ⊥) → b ≡ false → counts_as_numbered frame b ≡ false
-counts-not (I ns nr pf info) b no_more e = absurd (no_more tt)
-counts-not (Rr command nr pf) b no_more e = absurd (no_more tt)
-counts-not (Rnr command nr pf) b no_more e = absurd (no_more tt)
-counts-not (Rej command nr pf) b no_more e = absurd (no_more tt)
-counts-not (Srej command nr pf) b no_more e = absurd (no_more tt)
-counts-not frame b no_more e = e
+counts-not frame b no_more e = grind (arith)
 
 counts-so : (P : Type 0) (frame : Frame) (b : Bool) → (IsNumbered (slots.Frame frame) → P) → (b ≡ true → P)
     → counts_as_numbered frame b ≡ true → P
@@ -127,8 +118,7 @@ module _ (so sa : Setup) (o a : Account) (lo la : List Slot) where
   a-detecting turn n told (Xid true pf info) h e =
       a-xid (left-o _ h) (omega (arith, ap rank e))
       (subst (λ p. PlaceA (terms_of so sa) p a) e h.place_a) info h.line_o.0
-  a-detecting turn n told (Sabme pf) h e = absurd (omega (arith, h.line_o.0, h.met (ap rank e)))
-  a-detecting turn n told frame h e = left-o _ h
+  a-detecting turn n told frame h e = grind (arith)
 
   a-negotiating : (turn n told : ℕ) (frame : Frame)
       → BeforeA (framed frame n told) → a.phase ≡ Negotiating → IsWellA (on_negotiating Answerer frame turn a)
@@ -163,12 +153,7 @@ module _ (so sa : Setup) (o a : Account) (lo la : List Slot) where
     where
       go : (b : Bool) → a.numbered ≡ b → (r : Role) → r ≡ Answerer
           → IsWellA (cond (b || is_originator r) (Err (peer_reset a)) (Ok (owing (answers.Ua pf) a)))
-      go true t r q = absurd (h.numbered t).0
-      go false t r q = subst (λ r. IsWellA (cond (is_originator r) (Err (peer_reset a)) (Ok (owing (answers.Ua pf) a)))) (sym q)
-          (let g = left-o _ h in
-          changed-a so sa o a lo la g (owing (answers.Ua pf) a) refl tt (omega arith)
-          (subst (λ p. PlaceA (terms_of so sa) p (owing (answers.Ua pf) a)) (sym e)
-          (subst (λ p. PlaceA (terms_of so sa) p a) e g.place_a)) (λ e. (g.early e).1) g.numbered g.flow_oa g.flow_ao)
+      go x t r q = grind (arith)
 
   a-disc : (n told : ℕ) (pf : Bool) → BeforeA (framed (Disc pf) n told) → a.phase ≡ Connected → IsWellA (on_disc Answerer pf a)
   a-disc n told pf h e =
@@ -225,8 +210,7 @@ module _ (so sa : Setup) (o a : Account) (lo la : List Slot) where
       (changed-a so sa o a lo la g (owing answers.Adp a) refl tt (omega arith)
       (subst (λ p. PlaceA (terms_of so sa) p (owing answers.Adp a)) (sym e) (subst (λ p. PlaceA (terms_of so sa) p a) e g.place_a))
       (λ e. (g.early e).1) g.numbered g.flow_oa g.flow_ao)
-  a-odp g turn Negotiating e = g
-  a-odp g turn p e = g
+  a-odp g turn p e = grind (arith)
 
   pub a-hears : (turn : ℕ) (sent : Sent) (n told : ℕ)
       → BeforeA (record { sent = sent; number = n; told = told }) → IsWellA (hear turn (arrives sent) a)
@@ -351,8 +335,7 @@ module _ (so sa : Setup) (o a : Account) (lo la : List Slot) where
       subst (λ r. Good so sa (on_pattern r seen.Adp turn o) a lo la) (sym (role-o so sa o a lo la g))
       (changed-o so sa o a lo la g (trying Negotiating turn o) refl refl (omega (arith, ap rank e))
       (subst (λ p. PlaceO (terms_of so sa) p o) e g.place_o) (λ z. omega arith) g.flow_oa g.flow_ao)
-  o-adp g turn Negotiating e = g
-  o-adp g turn p e = g
+  o-adp g turn p e = grind (arith)
 
   pub o-hears : (turn : ℕ) (sent : Sent) (n told : ℕ)
       → BeforeO (record { sent = sent; number = n; told = told }) → IsWellO (hear turn (arrives sent) o)

@@ -1,21 +1,15 @@
 -- A linked end hears: both flows go on.
-use Rattle.std.proofs.Common.{◌≡◌, ℕ, ◌%◌, ◌≤◌, ◌||◌, ◌&&◌, Bool, true, false, cond, List, [], ◌∷◌, ◌++◌, length, slice_index_or, refl, sym}
-use Rattle.std.proofs.Common.{◌∙◌, ap, subst, Option, Some, None, Result, Ok, Err}
-use Rattle.link_account.proofs.Names.{Frame, I, Rr, Rnr, Rej, Srej, Ui, meant, Outgoing, is_outstanding, resumed, advanced, next_number}
-use Rattle.link_account.proofs.Names.{Incoming, after_kind, kind_of, offset, next_expected, Took, InOrder, BreakWord}
-use Rattle.link_account.proofs.Names.{Brk, Ack, BreakFault, word_in, Sent, LinkFault, Account, is_originator, Said, says, may_send, nr_of}
-use Rattle.link_account.proofs.Names.{ready_frame, Slot}
+use Rattle.std.proofs.Common.{arith, ◌≡◌, ℕ, ◌%◌, ◌≤◌, ◌||◌, ◌&&◌, Bool, true, false, cond, List, [], ◌∷◌, ◌++◌, length, slice_index_or}
+use Rattle.std.proofs.Common.{refl, sym, ◌∙◌, ap, subst, Option, Some, None, Result, Ok, Err}
+use Rattle.link_account.proofs.Names.{Account, Ack, Answer, BreakFault, BreakWord, Brk, Frame, I, Incoming, LinkFault, Outgoing, Phase, Rej}
+use Rattle.link_account.proofs.Names.{Rnr, Rr, Said, Sent, Setup, Slot, Srej, Took, Ui, acknowledged, advanced, after_ack, after_asked}
+use Rattle.link_account.proofs.Names.{after_brk, after_kind, after_told, asks, ends_wait, gone_back, hurrying, is_originator}
+use Rattle.link_account.proofs.Names.{is_outstanding, kind_of, may_send, meant, next_expected, next_number, nr_of, offset, on_connected}
+use Rattle.link_account.proofs.Names.{on_i, on_number, on_ready, on_rej, on_rnr, on_srej, on_word, paused_at, pausing, ready_frame}
+use Rattle.link_account.proofs.Names.{rejected, replied, replying, resumed, says, says_frame, says_segment, says_word, taking, telling}
+use Rattle.link_account.proofs.Names.{tells, then_in, timer_after, wait_ended, word_in}
 use Rattle.std.specs.Option.{option_map}
-use Rattle.lapm_sender.specs.Outgoing.{paused_at, acknowledged, rejected, replied, gone_back, wait_ended}
-use Rattle.lapm_receiver.specs.Incoming.{asks, after_asked, after_told}
 use Rattle.break_signals.specs.Words.{spelled}
-use Rattle.break_signals.specs.Breaks.{after_brk, after_ack}
-use Rattle.link_account.specs.declared.setup.Setup.{Setup}
-use Rattle.link_account.specs.declared.phase.Phase.{Phase}
-use Rattle.link_account.specs.declared.answer.Answer.{Answer}
-use Rattle.link_account.specs.Hear.{on_connected, on_i, on_ready, on_rej, on_srej, on_number, on_word, then_in, replying, hurrying, taking}
-use Rattle.link_account.specs.Hear.{ends_wait, timer_after, on_rnr, pausing}
-use Rattle.link_account.specs.Speak.{says_frame, says_segment, says_word, telling, tells}
 use Rattle.link_account.proofs.Flow.{IsAskable}
 use Rattle.link_account.proofs.SpeakWays.{AllSaid, Answers, Steps, next-keeps}
 use Rattle.link_account.proofs.Ends.{segment_of, asked_of, Goes, back-forgotten, ack-found, back-advanced, back-rejected, back-replied}
@@ -81,8 +75,7 @@ HearsWell wo wi srej a po pi line rest numbered (Ok b) = Linked wo wi srej b po 
 
 take-window : (k : Took) (o : ℕ) (info : List ℕ) (i : Incoming)
     → ((after_kind k o info i).window ≡ i.window) × ((after_kind k o info i).srej ≡ i.srej)
-take-window InOrder o info i = (refl, refl)
-take-window p o info i = (refl, refl)
+take-window p o info i = grind (arith)
 
 resumed-goes : (w : ℕ) (srej : Bool) (o : Outgoing) (i : Incoming) (line back : List Slot) (b : Bool) (count : ℕ)
     → Goes w srej o i line back → Goes w srej (cond b (record o { paused = false; count = count }) o) i line back
@@ -260,8 +253,7 @@ pub record SaysWell (wo wi : ℕ) (srej : Bool) (a : Account) (po : Outgoing) (p
 -- asking changes neither what is taken nor what is held
 asked-taken : (i : Incoming) (n : ℕ) (b : Bool)
     → (cond b (record i { asked = i.asked ++ n ∷ [] }) (record i { rej = false })).taken ≡ i.taken
-asked-taken i n true = refl
-asked-taken i n false = refl
+asked-taken i n x = grind (arith)
 
 module _ (wo wi : ℕ) (srej : Bool) (a : Account) (po : Outgoing) (pi : Incoming) (line back : List Slot)
     (h : Linked wo wi srej a po pi line back) where
@@ -321,8 +313,7 @@ module _ (wo wi : ℕ) (srej : Bool) (a : Account) (po : Outgoing) (pi : Incomin
   }
     where
       allowed : (b : Bool) → cond b (next_number a.outgoing) None ≡ Some n → next_number a.outgoing ≡ Some n
-      allowed true e = e
-      allowed false e = cc
+      allowed x e = grind (arith)
 
   word : (n : ℕ) (word : BreakWord) (b : Account) → Linked wo wi srej b po pi line back → b.incoming ≡ a.incoming → Same a b
       → b.numbered ≡ a.numbered → Says (says_word n word b)

@@ -1,5 +1,6 @@
 -- What the proofs about ends and runs name of the crates below, and of this one.
-pub use Rattle.break_signals.specs.Breaks.{OwnBreaks, after_answer, after_ask, ticked, waits}
+pub use Rattle.break_signals.specs.Breaks.{OwnBreaks, TheirBreaks, after_ack, after_answer, after_ask, after_break, after_brk, own_due}
+pub use Rattle.break_signals.specs.Breaks.{ticked, waits, with_given}
 pub use Rattle.break_signals.specs.Words.{word_in}
 pub use Rattle.break_signals.specs.declared.fault.BreakFault.{BreakFault}
 pub use Rattle.break_signals.specs.declared.word.BreakWord.{BreakWord}
@@ -11,23 +12,41 @@ pub use Rattle.lapm_frames.specs.declared.frame.Frame.TheVariants.{Disc, Dm, I, 
 pub use Rattle.lapm_frames.specs.declared.heard.Heard.{Heard}
 pub use Rattle.lapm_frames.specs.declared.heard.Heard.TheVariants.{Chance, Lost, Nothing, Passed}
 pub use Rattle.lapm_frames.specs.declared.sent.Sent.{Sent}
-pub use Rattle.lapm_receiver.specs.Incoming.{Incoming, KeepsTaken, after_kind, after_take, kind_of, next_expected, offset}
+pub use Rattle.lapm_receiver.specs.Incoming.{Incoming, KeepsTaken, after_asked, after_delivered, after_kind, after_take, after_told, asks}
+pub use Rattle.lapm_receiver.specs.Incoming.{kind_of, next_expected, offset}
 pub use Rattle.lapm_receiver.specs.declared.took.Took.{Took}
 pub use Rattle.lapm_receiver.specs.declared.took.Took.TheVariants.{Gap, InOrder, Kept, Repeat}
 pub use Rattle.lapm_sender.specs.Meant.{meant}
-pub use Rattle.lapm_sender.specs.Outgoing.{Outgoing, advanced, is_outstanding, next_number, resumed, wanted, with_piece}
-pub use Rattle.link_account.specs.Account.{Account, after_break_asked, after_busy, after_given, after_offer, check_of, fresh, is_connected}
-pub use Rattle.link_account.specs.Account.{piece_size, wants}
-pub use Rattle.link_account.specs.Hear.{hear, on_frame, on_nothing, owing, trying, without_adp}
-pub use Rattle.link_account.specs.Laws.{MayPlay}
-pub use Rattle.link_account.specs.Play.{Play, Slot, arrives}
-pub use Rattle.link_account.specs.Speak.{Said, frame_for, may_send, nr_of, ready_frame, says, speak, speak_in, speak_linked}
-pub use Rattle.link_account.specs.Speak.{speak_releasing, spent, steps}
-pub use Rattle.shared_terms.specs.Prefix.{IsPrefixOf}
+pub use Rattle.lapm_sender.specs.Numbers.{from_number, with_number}
+pub use Rattle.lapm_sender.specs.Outgoing.{Outgoing, acknowledged, advanced, after_next, expired, gone_back, is_outstanding, next_among}
+pub use Rattle.lapm_sender.specs.Outgoing.{next_number, paused_at, rejected, replied, resumed, selected, sent_among, wait_ended, wanted}
+pub use Rattle.lapm_sender.specs.Outgoing.{with_piece}
+pub use Rattle.link_account.specs.Account.{Account, Wait, after_break_asked, after_busy, after_delivery, after_given, after_offer, check_of}
+pub use Rattle.link_account.specs.Account.{fresh, is_connected, piece_size, wants, window_for}
+pub use Rattle.link_account.specs.Hear.{connected, ends_wait, hear, hurrying, on_closed, on_connected, on_detecting, on_disc}
+pub use Rattle.link_account.specs.Hear.{on_establishing, on_frame, on_i, on_negotiating, on_nothing, on_number, on_pattern, on_ready}
+pub use Rattle.link_account.specs.Hear.{on_rej, on_releasing, on_rnr, on_sabme, on_seen, on_srej, on_word, on_xid_command, on_xid_response}
+pub use Rattle.link_account.specs.Hear.{owing, pausing, peer_reset, replying, taking, then_in, timer_after, trying, without_adp}
+pub use Rattle.link_account.specs.Laws.{AcknowledgesTaken, AgreesOnSrej, AnswersGiven, BreaksForWantAlone, GivesBreaksInOrder, IsBreakOf}
+pub use Rattle.link_account.specs.Laws.{IsInRange, IsTakenBy, KnownByNumber, MayPlay, ReceivesAsAgreed, SaysNumbers, SendsBreaksTaken}
+pub use Rattle.link_account.specs.Laws.{SendsInRange, SendsWhatWasOffered, TakesByNumber, TakesInOrder, WantsAnswers, has_begun, played}
+pub use Rattle.link_account.specs.Play.{Delivers, Event, Gives_break, Hears_nothing, Is_asked, Is_busy, Is_lost, Is_offered, Pair, Passes}
+pub use Rattle.link_account.specs.Play.{Play, Side, Slot, Speaks, arrives, goes_on, happens, happens_at, heard, is_lost, is_offered, passes}
+pub use Rattle.link_account.specs.Play.{play, play_of, role_of, seen_from, spoken, start}
+pub use Rattle.link_account.specs.Speak.{Said, after_timers, answering, breaking, else_says, frame_for, has_news, may_send, nr_of, polling}
+pub use Rattle.link_account.specs.Speak.{ready_frame, says, says_asking, says_break, says_frame, says_own, says_segment, says_word, speak}
+pub use Rattle.link_account.specs.Speak.{speak_detecting, speak_in, speak_linked, speak_negotiating, speak_releasing, spent, step1, step2}
+pub use Rattle.link_account.specs.Speak.{step3, step4, step5, step6, step7, step8, steps, telling, tells, then_tries, timer_expires}
+pub use Rattle.link_account.specs.Speak.{tries_frame, trying_again, u_try, where_says}
+pub use Rattle.link_account.specs.declared.answer.Answer.{Answer}
+pub use Rattle.link_account.specs.declared.phase.Phase.{Phase}
+pub use Rattle.link_account.specs.declared.phase.Phase.TheVariants.{Closed, Connected, Detecting, Establishing, Negotiating, Releasing}
+pub use Rattle.link_account.specs.declared.setup.Setup.{Setup}
 pub use Rattle.shared_terms.specs.Both.{Both, of}
+pub use Rattle.shared_terms.specs.Prefix.{IsPrefixOf}
 pub use Rattle.shared_terms.specs.Role.{is_originator, other}
 pub use Rattle.shared_terms.specs.declared.fault.LinkFault.{LinkFault}
-pub use Rattle.shared_terms.specs.declared.fault.LinkFault.TheVariants.{NotDetected, Spent}
+pub use Rattle.shared_terms.specs.declared.fault.LinkFault.TheVariants.{BadAck, NotDetected, PeerRefused, PeerReset, Spent}
 pub use Rattle.shared_terms.specs.declared.role.Role.{Role}
 pub use Rattle.shared_terms.specs.declared.role.Role.TheVariants.{Answerer, Originator}
 pub use Rattle.std.proofs.lemmas.Bool.{cases_lt, false≢true}

@@ -1,9 +1,7 @@
 -- Whatever an end sends can be heard: its numbers are below 128.
 use Rattle.std.proofs.Common.{ℕ, Bool, true, false, arith}
-use Rattle.link_account.proofs.Names.{Account, Said, frame_for, ready_frame, nr_of, arrives}
-use Rattle.link_account.specs.declared.answer.Answer.{Answer}
+use Rattle.link_account.proofs.Names.{Account, Answer, Said, SaysNumbers, arrives, frame_for, nr_of, ready_frame}
 use Rattle.link_account.specs.Numbers.{HasNumbers, IsNumbered}
-use Rattle.link_account.specs.Laws.{SaysNumbers}
 use Rattle.link_account.proofs.SpeakWays.{Steps, Ways, by-ways, linked-alike, tries-alike}
 use Rattle.link_account.specs.declared.answer.Answer.TheVariants as answers
 

@@ -2,22 +2,16 @@
 -- way, and no case distinction over phases, timers and steps of its own.
 use Rattle.std.proofs.Common.{◌⊎◌, inl, inr, arith, ◌≡◌, ℕ, ◌+◌, ◌-◌, ◌*◌, ◌%◌, ◌&&◌, Bool, true, false, cond, nat_eq, nat_le, length, refl}
 use Rattle.std.proofs.Common.{Option, Some, None, Result, Ok, Err, List, [], ◌∷◌, sym, ◌∙◌, ap, subst}
-use Rattle.link_account.proofs.Names.{nat_tests, Role, Originator, Answerer, is_originator, LinkFault, NotDetected, Frame, Rej, Srej, Sabme}
-use Rattle.link_account.proofs.Names.{Disc, Xid, Sent, written, Outgoing, BreakWord, OwnBreaks, ticked, waits, Account, is_connected}
-use Rattle.link_account.proofs.Names.{trying, Said, says, frame_for, nr_of, may_send, steps, speak_linked, spent, speak_releasing, speak}
-use Rattle.link_account.proofs.Names.{speak_in}
+use Rattle.link_account.proofs.Names.{Account, Answer, Answerer, BreakWord, Closed, Connected, Detecting, Disc, Establishing, Frame}
+use Rattle.link_account.proofs.Names.{LinkFault, Negotiating, NotDetected, Originator, Outgoing, OwnBreaks, Phase, Rej, Releasing, Role}
+use Rattle.link_account.proofs.Names.{Sabme, Said, Sent, Srej, Wait, Xid, after_ack, after_asked, after_brk, after_next, after_timers}
+use Rattle.link_account.proofs.Names.{answering, asks, breaking, else_says, expired, frame_for, has_news, is_connected, is_originator}
+use Rattle.link_account.proofs.Names.{may_send, nat_tests, nr_of, own_due, polling, says, says_asking, says_break, says_frame, says_own}
+use Rattle.link_account.proofs.Names.{says_segment, says_word, sent_among, speak, speak_detecting, speak_in, speak_linked}
+use Rattle.link_account.proofs.Names.{speak_negotiating, speak_releasing, spent, step1, step2, step3, step4, step5, step6, step7, step8}
+use Rattle.link_account.proofs.Names.{steps, telling, tells, then_tries, ticked, timer_expires, tries_frame, trying, trying_again, u_try}
+use Rattle.link_account.proofs.Names.{waits, where_says, written}
 use Rattle.shared_terms.specs.Timer.{expires}
-use Rattle.lapm_sender.specs.Outgoing.{expired, after_next, sent_among}
-use Rattle.lapm_receiver.specs.Incoming.{asks, after_asked}
-use Rattle.break_signals.specs.Breaks.{own_due, after_brk, after_ack}
-use Rattle.link_account.specs.declared.phase.Phase.{Phase}
-use Rattle.link_account.specs.declared.phase.Phase.TheVariants.{Detecting, Negotiating, Establishing, Connected, Releasing, Closed}
-use Rattle.link_account.specs.declared.answer.Answer.{Answer}
-use Rattle.link_account.specs.Account.{Wait}
-use Rattle.link_account.specs.Speak.{says_frame, says_segment, says_word, says_own, says_break, says_asking, telling, answering, else_says}
-use Rattle.link_account.specs.Speak.{where_says, tells, has_news, step1, step2, step3, step4, step5, step6, step7, step8, timer_expires}
-use Rattle.link_account.specs.Speak.{polling, breaking, then_tries, after_timers, tries_frame, trying_again, u_try, speak_detecting}
-use Rattle.link_account.specs.Speak.{speak_negotiating}
 use Rattle.lapm_frames.specs.declared.sent.Sent.TheVariants as slots
 
 abbrev pub AllSaid : (Said → Type 0) → Option Said → Type 0
@@ -107,16 +101,13 @@ steps-so P Q turn special a f h = record {
 
 module _ (P : Said → Type 0) (turn : ℕ) (special : Bool) (a : Account) (h : Steps P turn special a) where
   answered : (o : Option Answer) → a.owes.answer ≡ o → AllSaid P (answering o a)
-  answered None e = tt
-  answered (Some d) e = h.answers d e
+  answered x e = grind (arith)
 
   sends : Before a → (a.wait.urgent ≡ true) ⊎ NoWord special a → (o : Option ℕ) → may_send a ≡ o → AllSaid P (says_segment turn o a)
-  sends k u None e = tt
-  sends k u (Some n) e = h.segment k u n e
+  sends k u x e = grind (arith)
 
   urgent : Before a → (b : Bool) → a.wait.urgent ≡ b → AllSaid P (cond b (says_segment turn (may_send a) a) None)
-  urgent k true e = sends k (inl e) (may_send a) refl
-  urgent k false e = tt
+  urgent k x e = grind (arith)
 
   words : Before a → (s : Bool) → special ≡ s → (o : Option BreakWord) → a.their_breaks.ack ≡ o → AllSaid P (cond s None (says_break o a))
   words k true e o f = tt
@@ -129,28 +120,20 @@ module _ (P : Said → Type 0) (turn : ℕ) (special : Bool) (a : Account) (h : 
 
   asked : Before a → NoWord special a → a.owes.busy ≡ false → (srej s : Bool) → a.incoming.srej ≡ srej → special ≡ s → (o : Option ℕ)
       → asks a.incoming ≡ o → AllSaid P (says_asking srej s o a)
-  asked k w y srej s q e None f = tt
-  asked k w y false s q e (Some n) f = h.rej k w n (record { kind = q; busy = y; number = f })
-  asked k w y true true q e (Some n) f = tt
-  asked k w y true false q e (Some n) f = h.srej k w e n (record { kind = q; busy = y; number = f })
+  asked k w y srej s q e x f = grind (arith)
 
   news : Before a → NoWord special a → (n busy : Bool) → has_news a ≡ n → a.owes.busy ≡ busy
       → AllSaid P (cond n (Some (tells false false a)) (cond busy None (says_asking a.incoming.srej special (asks a.incoming) a)))
-  news k w true busy e y = h.tell k w (inl e)
-  news k w false true e y = tt
-  news k w false false e y = asked k w y a.incoming.srej special refl refl (asks a.incoming) refl
+  news k w x busy e y = grind (arith)
 
   not-said : (b : Bool) (said : Said) → where_says b said ≡ None → b ≡ false
-  not-said true said e = cc
-  not-said false said e = refl
+  not-said x said e = grind (arith)
 
   no-answer : (o : Option Answer) → answering o a ≡ None → o ≡ None
-  no-answer None e = refl
-  no-answer (Some d) e = cc
+  no-answer x e = grind (arith)
 
   no-segment : (o : Option ℕ) → says_segment turn o a ≡ None → o ≡ None
-  no-segment None e = refl
-  no-segment (Some n) e = cc
+  no-segment x e = grind (arith)
 
   no-word : (s : Bool) → special ≡ s → (o : Option BreakWord) → a.their_breaks.ack ≡ o → cond s None (says_break o a) ≡ None
       → NoWord special a
@@ -292,10 +275,7 @@ by-tries P turn frame a h =
         → (d : Bool) → a.wait.try ≡ d
         → OnSaid P (cond b (cond c (Err (spent turn a)) (Ok (tries_frame frame (trying_again turn a))))
         (Ok (else_says (where_says d (says_frame frame (record a { wait = record a.wait { try = false } }))) (says slots.Flags a))))
-    go true x true n d e = tt
-    go true x false n d e = h.again x n
-    go false x c n true e = h.sent x e
-    go false x c n false e = h.flags x e
+    go y x c n d e = grind (arith)
 
 -- an end sends nothing but the answers that it owes: an answerer that isn't Connected yet, and an end that is closed
 abbrev pub answers_alone : Phase → Role → Bool
@@ -305,8 +285,7 @@ answers_alone Closed role = true
 answers_alone p role = false
 
 pub answers-unconnected : (p : Phase) (role : Role) → answers_alone p role ≡ true → is_connected p ≡ false
-answers-unconnected Connected role e = cc
-answers-unconnected p role e = refl
+answers-unconnected p role e = grind (arith)
 
 -- All ways of an end, by its phase.
 pub record Ways (P : Said → Type 0) (turn : ℕ) (release : Bool) (a : Account) : Type 0 where
@@ -327,8 +306,7 @@ module _ (P : Said → Type 0) (turn : ℕ) (release : Bool) (a : Account) (h : 
   due slot alone idle = go a.owes.answer refl
     where
       go : (o : Option Answer) → a.owes.answer ≡ o → P (else_says (answering o a) (says slot a))
-      go None e = idle e
-      go (Some d) e = h.answers alone d e
+      go x e = grind (arith)
 
   detects : a.phase ≡ Detecting → (r : Role) → a.setup.role ≡ r → OnSaid P (speak_detecting r turn a)
   detects e Originator f = go (nat_le ((a.setup.tries + 1) * a.setup.period) turn) refl
@@ -339,8 +317,7 @@ module _ (P : Said → Type 0) (turn : ℕ) (release : Bool) (a : Account) (h : 
   detects e Answerer f = due slots.Mark (rw (e, f) refl) (h.mark e f)
 
   negotiates : a.phase ≡ Negotiating → (r : Role) → a.setup.role ≡ r → OnSaid P (speak_negotiating r turn a)
-  negotiates e Originator f = by-tries P turn _ a (h.xid e f)
-  negotiates e Answerer f = let alone : answers_alone a.phase a.setup.role ≡ true = rw (e, f) refl in due slots.Flags alone (h.flags alone)
+  negotiates e x f = grind (arith)
 
   connects : a.phase ≡ Connected → (b : Bool) → (release && is_originator a.setup.role) ≡ b
       → OnSaid P (cond b (speak_releasing turn (trying Releasing turn a)) (speak_linked turn a))
@@ -403,10 +380,7 @@ module _ (turn : ℕ) (release : Bool) (a : Account) where
           → (y : Bool) → nat_eq a.own_breaks.count a.setup.tries ≡ y
           → Broken (after_timers turn a.special (breaking turn (cond (w && x)
           (cond y None (Some (record a.own_breaks { brk = true; set = turn; count = a.own_breaks.count + 1 }))) (Some a.own_breaks)) b))
-      go false w x d y n = tt
-      go true w false d y n = tt
-      go true w true d true n = Spends (BreakEnds p w d n) e
-      go true w true d false n = tt
+      go v w x d y n = grind (arith)
 
   linked-broken : a.phase ≡ Connected → (m : Option ℕ) → a.wait.timer ≡ m → Broken (after_timers turn a.special (then_tries turn
       (cond (timer_expires turn a m) (polling turn (expired a.outgoing) a) (Ok a))))
@@ -426,14 +400,8 @@ module _ (turn : ℕ) (release : Bool) (a : Account) where
   phase-broken : (p : Phase) → a.phase ≡ p → Broken (speak_in p turn release a)
   phase-broken Detecting e = go a.setup.role refl
     where
-      late : a.setup.role ≡ Originator → (b : Bool) → nat_le ((a.setup.tries + 1) * a.setup.period) turn ≡ b
-          → Broken (cond b (Err NotDetected) (Ok (says slots.Odp a)))
-      late r true l = Undetected e r l refl
-      late r false l = tt
-
       go : (r : Role) → a.setup.role ≡ r → Broken (speak_detecting r turn a)
-      go Originator f = late f _ refl
-      go Answerer f = tt
+      go x f = grind (arith)
   phase-broken Negotiating e = go a.setup.role refl
     where
       go : (r : Role) → a.setup.role ≡ r → Broken (speak_negotiating r turn a)

@@ -1,15 +1,10 @@
 -- Speaking keeps a play good.
 use Rattle.std.proofs.Common.{◌≡◌, ℕ, ◌≤◌, ◌&&◌, Bool, true, false, List, [], ◌∷◌, ◌++◌, length, arith, refl, sym, ◌∙◌, ap, subst, Option}
 use Rattle.std.proofs.Common.{Some, None, Result, Ok, Err, ◌⊎◌, inl, inr}
-use Rattle.link_account.proofs.Names.{false≢true, Frame, Sabme, Disc, Ua, Dm, Xid, written, Outgoing, Incoming, next_expected, Role}
-use Rattle.link_account.proofs.Names.{Originator, Answerer, OwnBreaks, Sent, LinkFault, NotDetected, Spent, Account, is_originator, trying}
-use Rattle.link_account.proofs.Names.{Said, says, frame_for, speak, Slot}
-use Rattle.shared_terms.specs.declared.fault.LinkFault.TheVariants.{BadAck, PeerReset, PeerRefused}
-use Rattle.link_account.specs.declared.setup.Setup.{Setup}
-use Rattle.link_account.specs.declared.phase.Phase.{Phase}
-use Rattle.link_account.specs.declared.phase.Phase.TheVariants.{Detecting, Negotiating, Establishing, Connected, Releasing, Closed}
-use Rattle.link_account.specs.declared.answer.Answer.{Answer}
-use Rattle.link_account.specs.Account.{Wait}
+use Rattle.link_account.proofs.Names.{Account, Answer, Answerer, BadAck, Closed, Connected, Detecting, Disc, Dm, Establishing, Frame}
+use Rattle.link_account.proofs.Names.{Incoming, LinkFault, Negotiating, NotDetected, Originator, Outgoing, OwnBreaks, PeerRefused}
+use Rattle.link_account.proofs.Names.{PeerReset, Phase, Releasing, Role, Sabme, Said, Sent, Setup, Slot, Spent, Ua, Wait, Xid, false≢true}
+use Rattle.link_account.proofs.Names.{frame_for, is_originator, next_expected, says, speak, trying, written}
 use Rattle.link_account.proofs.Flow.{IsAskable, all_snoc}
 use Rattle.link_account.proofs.Ends.{segment_of, asked_of, Goes, line-quiet, back-told}
 use Rattle.link_account.proofs.Linked.{Linked, Same, IsNumbered, IsLinked, SaysWell, steps-well}
@@ -133,8 +128,7 @@ quiet-o so sa o a lo la h sent none unasked from sabme unnumbered =
     (askable (asked_of sent 0) unasked))
   where
     askable : (m : Option ℕ) → m ≡ None → IsAskable (length o.incoming.taken) a.outgoing.high m
-    askable None e = tt
-    askable (Some m) e = cc
+    askable x e = grind (arith)
 
 o-waits : (so sa : Setup) (o a : Account) (lo la : List Slot) → Good so sa o a lo la → (w : Wait)
     → Good so sa (record o { wait = w }) a lo la
@@ -280,8 +274,7 @@ quiet-a so sa o a lo la h sent none unasked from =
     (record { sent = sent; number = 0; told = next_expected a.incoming }) none h.flow_ao)
   where
     askable : (m : Option ℕ) → m ≡ None → IsAskable (length a.incoming.taken) o.outgoing.high m
-    askable None e = tt
-    askable (Some m) e = cc
+    askable x e = grind (arith)
 
 -- nothing is due any more
 a-answered : (so sa : Setup) (o a : Account) (lo la : List Slot) → Good so sa o a lo la
@@ -377,9 +370,7 @@ a-ways so sa o a lo la g turn release = record {
     never r = let wrong : Answerer ≡ Originator = sym (ap (λ s. s.role) g.setup_a ∙ g.deal.role_a) ∙ r in cc
 
     originator : (r : Role) (b : Bool) → (b && is_originator r) ≡ true → r ≡ Originator
-    originator Originator b e = refl
-    originator Answerer true e = cc
-    originator Answerer false e = cc
+    originator x b e = grind (arith)
 
 pub a-speaks : (so sa : Setup) (o a : Account) (lo la : List Slot) → Good so sa o a lo la → (turn : ℕ) (release : Bool)
     → OnSaid (SaidA so sa (next_expected a.incoming) o lo la) (speak turn release a)

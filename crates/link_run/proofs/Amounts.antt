@@ -1,16 +1,13 @@
 -- How many segments an end has sent, and which of them go again, is counted by the numbers modulo 128 as by the meant ones.
-use Rattle.std.proofs.Common.{◌≡◌, ◌≢◌, inl, inr, ℕ, zero, suc, ◌+◌, ◌%◌, ◌≤◌, ◌||◌, max, Bool, true, false, cond, nat_eq, nat_lt, List, []}
-use Rattle.std.proofs.Common.{◌∷◌, ◌++◌, length, arith, refl, sym, ◌∙◌, ap, subst, Option, Some, None, Ok}
-use Rattle.link_account.proofs.Names.{false≢true, nat_tests, Role, Originator, Answerer, of, ReadsAllowed, Frame, I, Outgoing, with_piece}
-use Rattle.link_account.proofs.Names.{KeepsTaken, Sent, Account, wants, piece_size, after_given, MayPlay, Said}
-use Rattle.link_run.proofs.Names.{User, delivered, piece_at}
-use Rattle.link_run.proofs.Names.{offered_at, offered_times, room_for, served, is_released, Link, Accounts, Spoken, Turn, arrival}
-use Rattle.link_run.proofs.Names.{GoingTurn, start, said_at, served_at, releases, Carries, RunsOver}
-use Rattle.link_account.specs.Laws.{IsInRange, SendsInOrder, SendsInRange}
-use Rattle.link_run.specs.Laws.{IsPlayed}
+use Rattle.std.proofs.Common.{◌≡◌, ◌≢◌, ℕ, zero, suc, ◌+◌, ◌%◌, ◌≤◌, ◌||◌, max, Bool, true, false, cond, nat_eq, nat_lt, List, [], ◌∷◌}
+use Rattle.std.proofs.Common.{◌++◌, length, arith, refl, sym, ◌∙◌, ap, subst, Option, Some, None, Ok}
+use Rattle.link_account.proofs.Names.{false≢true, nat_tests, Role, of, ReadsAllowed, Frame, Outgoing, with_piece, KeepsTaken, Sent, Account}
+use Rattle.link_account.proofs.Names.{wants, MayPlay, Said}
+use Rattle.link_run.proofs.Names.{Accounts, Carries, GoingTurn, IsInRange, IsPlayed, Link, RunsOver, SendsInOrder, SendsInRange, Spoken}
+use Rattle.link_run.proofs.Names.{Turn, User, arrival, offered_at, offered_times, said_at, served, start}
 use Rattle.link_run.specs.Counts.{number_in, segment_number, is_number, numbers_sent, repeated, sequence_number, sequence_in, sequence_of}
 use Rattle.link_run.specs.Counts.{next_count, again_in, CountsByNumber, SentBelowHigh}
-use Rattle.link_run.proofs.Keeping.{GoesOn, hears, not-begun}
+use Rattle.link_run.proofs.Keeping.{GoesOn, hears}
 use Rattle.link_run.proofs.Serving.{served-alone}
 use Rattle.link_run.proofs.Running.{runs_are_plays, hearings_are_plays}
 use Rattle.link_run.proofs.Numbering.{SentAs, Alike, sends-as}
@@ -23,12 +20,10 @@ listed n None = []
 listed n (Some ns) = n ∷ []
 
 framed : (n : ℕ) (frame : Frame) → number_in n (slots.Frame frame) ≡ listed n (sequence_number frame)
-framed n (I ns nr pf info) = refl
-framed n frame = refl
+framed n frame = grind (arith)
 
 numbers-are : (n : ℕ) (sent : Sent) → number_in n sent ≡ listed n (sequence_in sent)
-numbers-are n (slots.Frame frame) = framed n frame
-numbers-are n sent = refl
+numbers-are n sent = grind (arith)
 
 -- serving sends nothing
 piece-alike : (p : List ℕ) (o : Outgoing) → (IsInRange o → IsInRange (with_piece p o)) × ((with_piece p o).high ≡ o.high)
@@ -41,48 +36,25 @@ offered-alike (suc n) file a = go (wants a) (offered-alike n file (offered_at fi
   where
     go : (w : Option ℕ) → Alike (offered_at file a w) (offered_times n file (offered_at file a w))
         → Alike a (offered_times n file (offered_at file a w))
-    go None h = h
-    go (Some m) h =
-        let k = piece-alike (piece_at (piece_size a) file m) a.outgoing in
-        record { range = λ r. h.range (k.0 r); high = h.high ∙ k.1 }
+    go w h = grind (arith, piece-alike)
 
 served-alike : (u : User) (turn : ℕ) (released : Bool) (a : Account) → Alike a (served u turn released a).account
-served-alike u turn released a =
-    let x = after_given (delivered a) in
-    let h = offered-alike (room_for x) u.file x in
-    let is : (served u turn released a).account.outgoing ≡ (offered_times (room_for x) u.file x).outgoing =
-    ap (λ (b : Account). b.outgoing) (served-alone u turn released a) in
-    let out : x.outgoing ≡ a.outgoing = delivered-out a in
-    record {
-      range = λ r. subst IsInRange (sym is) (h.range (subst IsInRange (sym out) r));
-      high = ap (λ o. o.high) is ∙ h.high ∙ ap (λ o. o.high) out;
-    }
+served-alike u turn released a = grind (arith, offered-alike, served-alone, delivered-out)
 
 -- hearing sends nothing
 heard-high : (a b : Account) → SendsInOrder a → GoesOn a b → b.outgoing.high ≡ a.outgoing.high
-heard-high a b s (inl g) = g.high
-heard-high a b s (inr g) = ap (λ o. o.high) g.outgoing_is ∙ sym (s.unsent (not-begun a.phase g.was))
+heard-high a b s x = grind (arith)
 
 -- both ends of a play
 both-in-order : SendsInRange → (link : Link) → MayPlay link.orig.setup link.answ.setup → (ends : Accounts)
     (line : Role → List (Option Spoken))
     → IsPlayed link ends line → (r : Role) → SendsInOrder (of r ends)
-both-in-order sends link m ends line p Originator =
-    subst SendsInOrder (p.is_at Originator).account_is (sends link.orig.setup link.answ.setup p.events m).0
-both-in-order sends link m ends line p Answerer =
-    subst SendsInOrder (p.is_at Answerer).account_is (sends link.orig.setup link.answ.setup p.events m).1
+both-in-order sends link m ends line p r = grind (arith)
 
 -- what an end sends in a turn
 said-sends : (link : Link) (turn : ℕ) (mid : Accounts) (r : Role) (said : Said) → IsInRange (of r mid).outgoing
     → said_at link turn mid r ≡ Ok said → SentAs (sequence_in said.sent) said.number (of r mid).outgoing.high said.account.outgoing.high
-said-sends link turn mid Originator said h e =
-    let k = served-alike link.orig.user turn (is_released mid.orig.phase) mid.orig in
-    subst (λ n. SentAs (sequence_in said.sent) said.number n said.account.outgoing.high) k.high
-    (sends-as turn (releases link turn mid) (served_at link turn mid Originator).account said (k.range h) e)
-said-sends link turn mid Answerer said h e =
-    let k = served-alike link.answ.user turn (is_released mid.orig.phase) mid.answ in
-    subst (λ n. SentAs (sequence_in said.sent) said.number n said.account.outgoing.high) k.high
-    (sends-as turn false (served_at link turn mid Answerer).account said (k.range h) e)
+said-sends link turn mid r said h e = grind (arith, served-alike, sends-as)
 
 -- what is sent after these numbers
 pub record Goes (numbers : List ℕ) (old : ℕ) (slot : Option Spoken) (new : ℕ) : Type 0 where
@@ -181,8 +153,7 @@ pub sent_below_high : ReadsAllowed → KeepsTaken → SendsInRange → SentBelow
 sent_below_high reads keeps sends link delay [] ends v r n = none r ∙ ap (λ (e : Accounts). nat_lt n (of r e).outgoing.high) (sym v.run)
   where
     none : (r : Role) → false ≡ nat_lt n (of r (start link)).outgoing.high
-    none Originator = grind (arith, nat_tests)
-    none Answerer = grind (arith, nat_tests)
+    none x = grind (arith)
 sent_below_high reads keeps sends link delay (t ∷ ts) ends v r n =
     let before : RunsOver link delay ts v.run.0 =
     record { may_play = v.may_play; delays = v.delays; carried = v.carried.1; run = v.run.1 } in

@@ -5,9 +5,7 @@ use Rattle.link_account.proofs.Names.{false≢true, nat_tests, append_assoc, All
 use Rattle.link_account.proofs.Names.{after_take, next_expected, Took, InOrder, Kept, Repeat, Gap}
 use borrow.Author.Tests.{eqb-true}
 use Rattle.std.specs.List.{concat}
-use Rattle.lapm_receiver.specs.Held.{Held, is_held, with_held, run_from, rest_from}
-use Rattle.lapm_receiver.specs.Incoming.{kind_at}
-use Rattle.link_account.specs.Laws.{IsTakenBy}
+use Rattle.link_run.proofs.Names.{Held, IsTakenBy, is_held, kind_at, rest_from, run_from, with_held}
 use Rattle.link_run.specs.Taken.{Segment, is_among, beyond, missing_from, missing, keeping, info_of, infos_from, octets_in}
 
 -- what is held rises from a number on
@@ -16,11 +14,7 @@ Rises low [] = Unit {0}
 Rises low (h ∷ hs) = (low ≤ h.number) × Rises (h.number + 1) hs
 
 same-not : (m n : ℕ) → m ≢ n → nat_eq m n ≡ false
-same-not m n h = go (nat_eq m n) refl
-  where
-    go : (b : Bool) → nat_eq m n ≡ b → b ≡ false
-    go true e = absurd (h (eqb-true m n e))
-    go false e = refl
+same-not m n h = grind (arith)
 
 same-is : (m n : ℕ) → m ≡ n → nat_eq m n ≡ true
 same-is m n e = grind (arith, nat_tests)
@@ -40,17 +34,9 @@ run-held : (r k : ℕ) (hs : List Held) → r ≤ k → k < r + length (run_from
 run-held r k [] low high = absurd (omega (arith, low, high))
 run-held r k (x ∷ hs) low high = go (nat_eq x.number r) refl (run-held (r + 1) k hs) high
   where
-    inner : x.number ≡ r → k < r + (length (run_from (r + 1) hs) + 1)
-        → (r + 1 ≤ k → k < r + 1 + length (run_from (r + 1) hs) → is_held k hs ≡ true) → (c : Bool) → nat_eq x.number k ≡ c
-        → (c || is_held k hs) ≡ true
-    inner e h ih true z = refl
-    inner e h ih false z = let n : r ≢ k = (λ q. false≢true (sym z ∙ same-is x.number k (e ∙ q))) in
-        ih (omega (arith, n, low)) (omega (arith, h))
-
     go : (b : Bool) → nat_eq x.number r ≡ b → (r + 1 ≤ k → k < r + 1 + length (run_from (r + 1) hs) → is_held k hs ≡ true)
         → k < r + length (cond b (x.info ∷ run_from (r + 1) hs) []) → (nat_eq x.number k || is_held k hs) ≡ true
-    go true e ih h = inner (eqb-true x.number r e) (omega (arith, h)) ih (nat_eq x.number k) refl
-    go false e ih h = absurd (omega (arith, low, h))
+    go x e ih h = grind (arith)
 
 run-stops : (r : ℕ) (hs : List Held) → Rises r hs → is_held (r + length (run_from r hs)) hs ≡ false
 run-stops r [] h = refl
@@ -78,11 +64,7 @@ rest-held r k (x ∷ hs) h = go (nat_eq x.number r) refl (rest-held (r + 1) k hs
     go : (b : Bool) → nat_eq x.number r ≡ b → (r + 1 + length (run_from (r + 1) hs) ≤ k → is_held k (rest_from (r + 1) hs) ≡ is_held k hs)
         → r + length (cond b (x.info ∷ run_from (r + 1) hs) []) ≤ k
         → is_held k (cond b (rest_from (r + 1) hs) (x ∷ hs)) ≡ (nat_eq x.number k || is_held k hs)
-    go true e ih l =
-        let at = eqb-true x.number r e in
-        let not-here : nat_eq x.number k ≡ false = same-not x.number k (λ z. omega (arith, z, at, l)) in
-        ih (omega (arith, l)) ∙ sym (ap (λ b. b || is_held k hs) not-here)
-    go false e ih l = refl
+    go b e ih l = grind (arith, eqb-true, same-not)
 
 rest-rises : (r : ℕ) (hs : List Held) → Rises r hs → Rises (r + length (run_from r hs) + 1) (rest_from r hs)
 rest-rises r [] h = tt
@@ -90,78 +72,53 @@ rest-rises r (x ∷ hs) h = go (nat_eq x.number r) refl (rest-rises (r + 1) hs)
   where
     go : (b : Bool) → nat_eq x.number r ≡ b → (Rises (r + 1) hs → Rises (r + 1 + length (run_from (r + 1) hs) + 1) (rest_from (r + 1) hs))
         → Rises (r + length (cond b (x.info ∷ run_from (r + 1) hs) []) + 1) (cond b (rest_from (r + 1) hs) (x ∷ hs))
-    go true e ih =
-        let at = eqb-true x.number r e in
-        let rest : Rises (r + 1) hs = rises-low (x.number + 1) (r + 1) hs (omega (arith, at)) h.1 in
-        rises-low (r + 1 + length (run_from (r + 1) hs) + 1) (r + length (x.info ∷ run_from (r + 1) hs) + 1) (rest_from (r + 1) hs)
-        (omega arith) (ih rest)
-    go false e ih =
-        let other : x.number ≢ r = (λ z. false≢true (sym e ∙ same-is x.number r z)) in
-        (omega (arith, other, h.0), h.1)
+    go b e ih = grind (arith, eqb-true, rises-low, same-is)
 
 -- one more is held
 with-held : (s : Held) (k : ℕ) (hs : List Held) → is_held k (with_held s hs) ≡ (nat_eq s.number k || is_held k hs)
 with-held s k [] = refl
 with-held s k (x ∷ hs) = go (nat_lt s.number x.number) (with-held s k hs)
   where
-    swap : (a b c : Bool) → (a || (b || c)) ≡ (b || (a || c))
-    swap true true c = refl
-    swap true false c = refl
-    swap false b c = refl
-
     go : (b : Bool) → is_held k (with_held s hs) ≡ (nat_eq s.number k || is_held k hs)
         → is_held k (cond b (s ∷ x ∷ hs) (x ∷ with_held s hs)) ≡ (nat_eq s.number k || (nat_eq x.number k || is_held k hs))
-    go true ih = refl
-    go false ih = ap (λ b. nat_eq x.number k || b) ih ∙ swap (nat_eq x.number k) (nat_eq s.number k) (is_held k hs)
+    go x ih = grind (arith)
 
 or-false : (b c : Bool) → (b || c) ≡ false → (b ≡ false) × (c ≡ false)
-or-false true c e = absurd (false≢true (sym e))
-or-false false c e = (refl, e)
+or-false x c e = grind (arith)
 
 with-rises : (low : ℕ) (s : Held) (hs : List Held) → Rises low hs → low ≤ s.number → is_held s.number hs ≡ false
     → Rises low (with_held s hs)
 with-rises low s [] r l n = (l, tt)
 with-rises low s (x ∷ hs) r l n = go (nat_lt s.number x.number) refl (with-rises (x.number + 1) s hs r.1)
   where
-    parts : (nat_eq x.number s.number ≡ false) × (is_held s.number hs ≡ false)
-    parts = or-false (nat_eq x.number s.number) (is_held s.number hs) n
-
     go : (b : Bool) → nat_lt s.number x.number ≡ b
         → (x.number + 1 ≤ s.number → is_held s.number hs ≡ false → Rises (x.number + 1) (with_held s hs))
         → Rises low (cond b (s ∷ x ∷ hs) (x ∷ with_held s hs))
-    go true e ih = let less : s.number < x.number = grind (arith, nat_tests) in (l, (omega (arith, less), r.1))
-    go false e ih =
-        let other : x.number ≢ s.number = (λ z. false≢true (sym parts.0 ∙ same-is x.number s.number z)) in
-        let not-less : x.number ≤ s.number = grind (arith, nat_tests) in
-        (r.0, ih (omega (arith, other, not-less)) parts.1)
+    go b e ih = grind (arith, same-is)
 
 -- one more is kept
 among-more : (n : ℕ) (ss : List Segment) (s : Segment) → is_among n (ss ++ s ∷ []) ≡ (is_among n ss || nat_eq s.number n)
 among-more n [] s = or-last (nat_eq s.number n)
   where
     or-last : (b : Bool) → (b || false) ≡ b
-    or-last true = refl
-    or-last false = refl
+    or-last x = grind (arith)
 among-more n (x ∷ ss) s =
     ap (λ b. nat_eq x.number n || b) (among-more n ss s) ∙ sym (assoc (nat_eq x.number n) (is_among n ss) (nat_eq s.number n))
   where
     assoc : (a b c : Bool) → ((a || b) || c) ≡ (a || (b || c))
-    assoc true b c = refl
-    assoc false b c = refl
+    assoc x b c = grind (arith)
 
 pub or-true-left : (b c : Bool) → b ≡ true → (b || c) ≡ true
 or-true-left b c e = ap (λ z. z || c) e
 
 pub or-true-right : (b c : Bool) → c ≡ true → (b || c) ≡ true
-or-true-right true c e = refl
-or-true-right false c e = e
+or-true-right x c e = grind (arith)
 
 or-both-false : (b c : Bool) → b ≡ false → c ≡ false → (b || c) ≡ false
 or-both-false b c e f = ap (λ z. z || c) e ∙ f
 
 or-right-false : (b c : Bool) → c ≡ false → (b || c) ≡ b
-or-right-false true c e = refl
-or-right-false false c e = e
+or-right-false x c e = grind (arith)
 
 among-beyond : (n : ℕ) (ss : List Segment) → is_among n ss ≡ true → n < beyond ss
 among-beyond n [] e = absurd (false≢true e)
@@ -169,8 +126,7 @@ among-beyond n (s ∷ ss) e = go (nat_eq s.number n) refl (among-beyond n ss) e
   where
     go : (b : Bool) → nat_eq s.number n ≡ b → (is_among n ss ≡ true → n < beyond ss) → (b || is_among n ss) ≡ true
         → n < max (s.number + 1) (beyond ss)
-    go true z ih h = let at = eqb-true s.number n z in omega (arith, at)
-    go false z ih h = let less = ih h in omega (arith, less)
+    go b z ih h = grind (arith, eqb-true)
 
 missing-at : (fuel n r : ℕ) (ss : List Segment) → n ≤ r → ((k : ℕ) → n ≤ k → k < r → is_among k ss ≡ true) → is_among r ss ≡ false
     → r ≤ n + fuel → missing_from fuel n ss ≡ r
@@ -179,14 +135,7 @@ missing-at (suc fuel) n r ss low all stop high =
     go (is_among n ss) refl (λ l. missing-at fuel (n + 1) r ss l (λ k m h. all k (omega (arith, m)) h) stop (omega (arith, high)))
   where
     go : (b : Bool) → is_among n ss ≡ b → (n + 1 ≤ r → missing_from fuel (n + 1) ss ≡ r) → cond b (missing_from fuel (n + 1) ss) n ≡ r
-    go true e ih =
-        let other : n ≢ r = (λ z. false≢true (sym stop ∙ ap (λ k. is_among k ss) (sym z) ∙ e)) in
-        ih (omega (arith, low, other))
-    go false e ih = at-end (nat_lt n r) refl
-      where
-        at-end : (c : Bool) → nat_lt n r ≡ c → n ≡ r
-        at-end true z = absurd (false≢true (sym e ∙ all n (omega arith) (grind (arith, nat_tests))))
-        at-end false z = let h : r ≤ n = grind (arith, nat_tests) in omega (arith, low, h)
+    go b e ih = grind (arith)
 
 -- what is kept of what passed, and what a receiver's part has: how many it took, what it holds, and whether it asks by SREJ
 pub record TracksIn (ss : List Segment) (r : ℕ) (held : List Held) (srej : Bool) : Type 0 where
@@ -207,12 +156,7 @@ pub as-tracks : (ss : List Segment) (r r' : ℕ) (held held' : List Held) (srej 
 as-tracks ss r r' held held' srej srej' p q e t = rw (p, q, e) t
 
 pub missing-is : (ss : List Segment) (r : ℕ) (held : List Held) (srej : Bool) → TracksIn ss r held srej → missing ss ≡ r
-missing-is ss r held srej t =
-    missing-at (beyond ss) 0 r ss (omega arith) (λ k l h. t.below k h) t.next (high r (λ k h. among-beyond k ss (t.below k h)))
-  where
-    high : (q : ℕ) → ((k : ℕ) → k < q → k < beyond ss) → q ≤ 0 + beyond ss
-    high zero f = omega arith
-    high (suc q) f = let h = f q (omega arith) in omega (arith, h)
+missing-is ss r held srej t = grind (arith, missing-at, among-beyond)
 
 -- a segment that comes again changes nothing
 pub keeping-again : (srej : Bool) (ss : List Segment) (s : Segment) → is_among s.number ss ≡ true → keeping srej ss s ≡ ss
@@ -220,13 +164,11 @@ keeping-again srej ss s e = ap (λ b. cond b ss (cond (srej || nat_eq s.number (
 
 keeping-new : (srej : Bool) (ss : List Segment) (s : Segment) → is_among s.number ss ≡ false → (srej || nat_eq s.number (missing ss)) ≡ true
     → keeping srej ss s ≡ ss ++ s ∷ []
-keeping-new srej ss s e f =
-    ap (λ b. cond b ss (cond (srej || nat_eq s.number (missing ss)) (ss ++ s ∷ []) ss)) e ∙ ap (λ b. cond b (ss ++ s ∷ []) ss) f
+keeping-new srej ss s e f = grind (arith)
 
 keeping-none : (srej : Bool) (ss : List Segment) (s : Segment) → is_among s.number ss ≡ false
     → (srej || nat_eq s.number (missing ss)) ≡ false → keeping srej ss s ≡ ss
-keeping-none srej ss s e f =
-    ap (λ b. cond b ss (cond (srej || nat_eq s.number (missing ss)) (ss ++ s ∷ []) ss)) e ∙ ap (λ b. cond b (ss ++ s ∷ []) ss) f
+keeping-none srej ss s e f = grind (arith)
 
 pub record SameTaken (i j : Incoming) : Type 0 where
   pub taken : j.taken ≡ i.taken
@@ -235,9 +177,7 @@ pub record SameTaken (i j : Incoming) : Type 0 where
 
 idle-kind : (kind : Took) (o : ℕ) (info : List ℕ) (i : Incoming) → (kind ≡ InOrder → ⊥) → (kind ≡ Kept → ⊥)
     → SameTaken i (after_kind kind o info i)
-idle-kind InOrder o info i h k = absurd (h refl)
-idle-kind Kept o info i h k = absurd (k refl)
-idle-kind p o info i h k = record { taken = refl; held = refl; srej = refl }
+idle-kind p o info i h k = grind (arith)
 
 pub same-tracks : (ss : List Segment) (i j : Incoming) → SameTaken i j → Tracks ss i → Tracks ss j
 same-tracks ss i j e t = as-tracks ss (length i.taken) (length j.taken) i.held j.held i.srej j.srej (ap length e.taken) e.held e.srej t
@@ -284,42 +224,15 @@ kept-later ss r held s srej on t h not = record {
 }
   where
     or-swap : (a b : Bool) → (a || b) ≡ (b || a)
-    or-swap true true = refl
-    or-swap true false = refl
-    or-swap false true = refl
-    or-swap false false = refl
+    or-swap x y = grind (arith)
 
 -- what a segment is to a receiver's part, by how far its number is ahead
 not-kept : (i : Incoming) (o : ℕ) → i.srej ≡ false → kind_at i o ≡ Kept → ⊥
-not-kept i o e k = go (nat_eq o 0) (nat_lt o i.window) i.srej (is_held (next_expected i + o) i.held) e k
-  where
-    number : Took → ℕ
-    number InOrder = 0
-    number Kept = 1
-    number Repeat = 2
-    number Gap = 3
-
-    go : (a b c d : Bool) → c ≡ false → cond a InOrder (cond b (cond c (cond d Repeat Kept) Gap) Repeat) ≡ Kept → ⊥
-    go true b c d z k = omega (arith, ap number k)
-    go false true true d z k = false≢true (sym z)
-    go false true false d z k = omega (arith, ap number k)
-    go false false c d z k = omega (arith, ap number k)
+not-kept i o e k = grind (arith)
 
 kind-ahead : (i : Incoming) (o : ℕ) → 1 ≤ o → o < i.window → i.srej ≡ true
     → kind_at i o ≡ cond (is_held (next_expected i + o) i.held) Repeat Kept
-kind-ahead i o some near on =
-    go (nat_eq o 0) (nat_lt o i.window) i.srej (same-not o 0 (λ z. omega (arith, z, some))) (grind (arith, nat_tests)) on
-  where
-    d : Took
-    d = cond (is_held (next_expected i + o) i.held) Repeat Kept
-
-    go : (a b c : Bool) → a ≡ false → b ≡ true → c ≡ true
-        → cond a InOrder (cond b (cond c (cond (is_held (next_expected i + o) i.held) Repeat Kept) Gap) Repeat) ≡ cond
-        (is_held (next_expected i + o) i.held) Repeat Kept
-    go false true true x y z = refl
-    go true b c x y z = absurd (false≢true (sym x))
-    go false false c x y z = absurd (false≢true y)
-    go false true false x y z = absurd (false≢true z)
+kind-ahead i o some near on = grind (arith, same-not)
 
 ahead : (i : Incoming) (n : ℕ) → next_expected i ≤ n → n < next_expected i + 128 → offset i (n % 128) ≡ n - next_expected i
 ahead i n low high = omega (arith, low, high)
@@ -331,14 +244,9 @@ pub one-comes : (srej : Bool) (ss : List Segment) (i : Incoming) (s : Segment) (
 one-comes srej ss i s ns t on by spelled near width =
     go (nat_lt s.number (length i.taken)) refl (nat_eq s.number (length i.taken)) refl i.srej refl
   where
-    r : ℕ
-    r = length i.taken
-
     still : (s.number ≢ length i.taken) → (kind_of ns i ≡ Kept → ⊥) → keeping srej ss s ≡ ss
         → Tracks (keeping srej ss s) (after_take ns s.info i)
-    still other not-k same =
-        subst (λ l. Tracks l (after_take ns s.info i)) (sym same)
-        (same-tracks ss i (after_take ns s.info i) (idle-kind (kind_of ns i) (offset i ns) s.info i (λ z. other (by.0 z)) not-k) t)
+    still other not-k same = grind (arith, same-tracks, idle-kind)
 
     later-held : length i.taken < s.number → i.srej ≡ true → (b : Bool) → is_held s.number i.held ≡ b
         → Tracks (keeping srej ss s) (after_take ns s.info i)
@@ -348,9 +256,7 @@ one-comes srej ss i s ns t on by spelled near width =
         off = ap (offset i) spelled ∙ ahead i s.number (omega (arith, less)) (omega (arith, near, width))
 
         kind-is : kind_of ns i ≡ Repeat
-        kind-is = kind-ahead i (offset i ns) (omega (arith, off, less)) (omega (arith, off, less, near)) sr
-            ∙ ap (λ m. cond (is_held m i.held) Repeat Kept)
-            (let z : length i.taken + offset i ns ≡ s.number = omega (arith, off, less) in z) ∙ ap (λ b. cond b Repeat Kept) h
+        kind-is = grind (arith, kind-ahead, off)
 
         number : Took → ℕ
         number InOrder = 0
@@ -419,8 +325,7 @@ info-right pieces n (s ∷ ss) h e = go (nat_eq s.number n) refl (info-right pie
   where
     go : (b : Bool) → nat_eq s.number n ≡ b → (is_among n ss ≡ true → info_of n ss ≡ slice_index_or pieces n [])
         → (b || is_among n ss) ≡ true → cond b s.info (info_of n ss) ≡ slice_index_or pieces n []
-    go true z ih k = h.0.1 ∙ ap (λ m. slice_index_or pieces m []) (eqb-true s.number n z)
-    go false z ih k = ih k
+    go b z ih k = grind (arith, eqb-true)
 
 -- the first of a list from a place on
 infos-are : (taken rest : List (List ℕ)) (ss : List Segment) (n : ℕ) (done : List (List ℕ)) → length done ≡ n

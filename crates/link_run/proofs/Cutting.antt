@@ -1,26 +1,20 @@
 -- The segments that an end was offered are its user's file, cut at the agreed length.
-use Rattle.std.proofs.Common.{◌≡◌, inl, inr, ℕ, zero, suc, ◌+◌, ◌*◌, ◌<◌, ◌≤◌, ◌&&◌, not, Bool, true, false, cond, nat_lt, List, [], ◌∷◌}
-use Rattle.std.proofs.Common.{◌++◌, length, take, drop, arith, length-append, refl, sym, ◌∙◌, ap, subst, Option, Some, None}
-use Rattle.link_account.proofs.Names.{false≢true, nat_tests, append-nil, append_assoc, take-append-drop, is_some, Terms, IsAllowed, Role}
-use Rattle.link_account.proofs.Names.{Originator, Answerer, Outgoing, wanted, with_piece, Account, fresh, is_connected, wants, piece_size}
-use Rattle.link_account.proofs.Names.{after_given, after_busy, IsPrefixOf}
-use Rattle.link_run.proofs.Names.{Setup, Phase, Connected, User, delivered}
-use Rattle.link_run.proofs.Names.{piece_at, offered_at, offered_times, room_for, offered, is_busy, served}
+use Rattle.std.proofs.Common.{◌≡◌, inl, inr, ℕ, zero, suc, ◌+◌, ◌*◌, ◌<◌, ◌≤◌, Bool, true, false, cond, List, [], ◌∷◌, ◌++◌, length, take}
+use Rattle.std.proofs.Common.{drop, arith, length-append, refl, sym, ◌∙◌, ap, subst, Option, Some, None}
+use Rattle.link_account.proofs.Names.{false≢true, nat_tests, append-nil, append_assoc, take-append-drop, Terms, IsAllowed, Role, Outgoing}
+use Rattle.link_account.proofs.Names.{with_piece, Account, fresh, is_connected, wants, piece_size, after_given, after_busy, IsPrefixOf}
+use Rattle.link_run.proofs.Names.{IsCut, IsOffered, Phase, Setup, User, delivered, is_busy, offered, offered_at, offered_times, piece_at}
+use Rattle.link_run.proofs.Names.{room_for, served, size_for}
 use Rattle.std.proofs.Math.Seq.{take-add}
 use Rattle.std.proofs.lemmas.List.{take_all, length-take, length-drop}
 use Rattle.std.proofs.lemmas.List.Folds.{concat-append}
 use Rattle.std.specs.List.{concat}
-use Rattle.std.specs.Prelude.{unwrap_or}
-use Rattle.link_account.specs.Account.{size_for}
-use Rattle.link_run.specs.Reading.{IsCut, IsOffered}
 use Rattle.link_run.proofs.Keeping.{Books, stage, AreTerms, GoesOn}
-use Rattle.link_run.proofs.Speaking.{Ledger, Speaks, Keeps_on, Releases}
+use Rattle.link_run.proofs.Speaking.{Speaks}
 use Rattle.link_run.proofs.Serving.{asks-alone, busy-alone}
 
 pub none-cut : (file : List ℕ) (size : ℕ) → IsCut file size [] false
-none-cut file size =
-    let none : 0 ≡ size * 0 = omega arith in
-    record { begins = ap (λ n. take n file) none; whole = λ e. absurd (false≢true e); more = λ e. omega (arith, none) }
+none-cut file size = grind (arith)
 
 short-take : (n : ℕ) (xs : List ℕ) → length (take n xs) < n → length xs ≤ n
 short-take n xs h = omega (arith, h, length-take n xs)
@@ -60,24 +54,20 @@ next-cut file o (x ∷ xs) some h e =
     }
 
 pub fresh-cuts : (file : List ℕ) (setup : Setup) → IsAllowed setup.offer → IsOffered file (fresh setup)
-fresh-cuts file setup h =
-    record { allowed = h; terms = (omega arith, omega arith); size = λ z. absurd (false≢true z); cut = none-cut file 0 }
+fresh-cuts file setup h = grind (arith)
 
 pub as-cut : (file : List ℕ) (s s' : ℕ) (ps ps' : List (List ℕ)) (e e' : Bool) → s' ≡ s → ps' ≡ ps → e' ≡ e → IsCut file s ps e
     → IsCut file s' ps' e'
 as-cut file s s' ps ps' e e' p q r h = rw (p, q, r) h
 
 size-of : (r : Role) (t : Terms) → AreTerms t → 1 ≤ size_for r t
-size-of Originator t h = h.0
-size-of Answerer t h = h.1
+size-of x t h = grind (arith)
 
 pub linked-stage : (p : Phase) → is_connected p ≡ true → stage p ≡ 1
-linked-stage Connected e = refl
-linked-stage p e = absurd (false≢true e)
+linked-stage p e = grind (arith)
 
 stage-linked : (p : Phase) → stage p ≡ 1 → is_connected p ≡ true
-stage-linked Connected e = refl
-stage-linked p e = absurd (omega (arith, e))
+stage-linked p e = grind (arith)
 
 pub heard-cuts : (file : List ℕ) (a b : Account) → IsOffered file a → GoesOn a b → IsOffered file b
 heard-cuts file a b h (inl s) = record {
@@ -89,8 +79,7 @@ heard-cuts file a b h (inl s) = record {
 }
   where
     go : (n m : ℕ) → n ≤ m → m ≡ 1 → (n ≡ 0 → m ≡ 0) → n ≡ 1
-    go zero m l z f = absurd (omega (arith, z, f refl))
-    go (suc n) m l z f = omega (arith, l, z)
+    go n m l z f = grind (arith)
 
     linked : stage b.phase ≡ 1 → stage a.phase ≡ 1
     linked z = go (stage a.phase) (stage b.phase) s.later z s.before
@@ -104,39 +93,18 @@ heard-cuts file a b h (inr e) =
           (none-cut file (size_for b.setup.role b.terms));
     }
 
-wanted-is : (o : Outgoing) (n : ℕ) → wanted o ≡ Some n → n ≡ length o.pieces
-wanted-is o n e = go (not o.ended && nat_lt (length o.pieces) (o.front + o.window)) e
-  where
-    some : {x y : ℕ} → Some x ≡ Some y → y ≡ x
-    some z = sym (ap (λ v. unwrap_or v 0) z)
-
-    none : {x : ℕ} → None ≡ Some x → ⊥
-    none z = false≢true (ap is_some z)
-
-    go : (b : Bool) → cond b (Some (length o.pieces)) None ≡ Some n → n ≡ length o.pieces
-    go true z = some z
-    go false z = absurd (none z)
-
 pub record Wants (a : Account) (n : ℕ) : Type 0 where
   pub linked : is_connected a.phase ≡ true
   pub number : n ≡ length a.outgoing.pieces
 
 pub wants-are : (a : Account) (n : ℕ) → wants a ≡ Some n → Wants a n
-wants-are a n e = go (is_connected a.phase) refl e
-  where
-    none : {x : ℕ} → None ≡ Some x → ⊥
-    none z = false≢true (ap is_some z)
-
-    go : (b : Bool) → is_connected a.phase ≡ b → cond b (wanted a.outgoing) None ≡ Some n → Wants a n
-    go true k z = record { linked = k; number = wanted-is a.outgoing n z }
-    go false k z = absurd (none z)
+wants-are a n e = grind (arith)
 
 pub piece-size-is : (a : Account) → is_connected a.phase ≡ true → piece_size a ≡ a.outgoing.size
 piece-size-is a e = ap (λ b. cond b a.outgoing.size 0) e
 
 pub piece-sizes : (p : List ℕ) (o : Outgoing) → (with_piece p o).size ≡ o.size
-piece-sizes [] o = refl
-piece-sizes (x ∷ xs) o = refl
+piece-sizes x o = grind (arith)
 
 pub offered-cuts-at : (file : List ℕ) (a : Account) (w : Option ℕ) → wants a ≡ w → IsOffered file a → IsOffered file (offered_at file a w)
 offered-cuts-at file a None e h = h
@@ -160,11 +128,7 @@ offered-cuts zero file a h = h
 offered-cuts (suc n) file a h = offered-cuts n file (offered_at file a (wants a)) (offered-cuts-at file a (wants a) refl h)
 
 pub delivered-cuts : (file : List ℕ) (a : Account) → IsOffered file a → IsOffered file (delivered a)
-delivered-cuts file a h = go (is_connected a.phase)
-  where
-    go : (b : Bool) → IsOffered file (cond b (record a { incoming = record a.incoming { given = length a.incoming.taken } }) a)
-    go true = record { allowed = h.allowed; terms = h.terms; size = h.size; cut = h.cut }
-    go false = h
+delivered-cuts file a h = grind (arith)
 
 pub served-cuts : (u : User) (turn : ℕ) (released : Bool) (a : Account) → IsOffered u.file a
     → IsOffered u.file (served u turn released a).account
@@ -180,18 +144,7 @@ served-cuts u turn released a h =
     (record { allowed = b.allowed; terms = b.terms; size = b.size; cut = b.cut })
 
 pub spoken-cuts : (file : List ℕ) (release : Bool) (a b : Account) → IsOffered file a → Speaks release a b → IsOffered file b
-spoken-cuts file release a b h (Keeps_on e) = record {
-  allowed = subst (λ (l : Ledger). IsAllowed l.books.setup.offer) (sym e) h.allowed;
-  terms = subst (λ (l : Ledger). AreTerms l.terms) (sym e) h.terms;
-  size = λ z. subst (λ (l : Ledger). 1 ≤ l.size) (sym e) (h.size (sym (ap (λ (l : Ledger). is_connected l.phase) e) ∙ z));
-  cut = subst (λ (l : Ledger). IsCut file l.size l.books.pieces l.books.ended) (sym e) h.cut;
-}
-spoken-cuts file release a b h (Releases on role linked e k) = record {
-  allowed = subst (λ (l : Ledger). IsAllowed l.books.setup.offer) (sym e) h.allowed;
-  terms = subst (λ (l : Ledger). AreTerms l.terms) (sym e) h.terms;
-  size = λ z. subst (λ (l : Ledger). 1 ≤ l.size) (sym e) (h.size (ap is_connected linked));
-  cut = subst (λ (l : Ledger). IsCut file l.size l.books.pieces l.books.ended) (sym e) h.cut;
-}
+spoken-cuts file release a b h x = grind (arith)
 
 -- segments that begin those that were offered begin the file
 pub begins-file : (file : List ℕ) (a : Account) (taken : List (List ℕ)) → IsOffered file a → IsPrefixOf taken a.outgoing.pieces

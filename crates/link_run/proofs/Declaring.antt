@@ -1,9 +1,9 @@
 -- What an end says by U frames, and in which phase: its own offer, its commands with P = 1, and the answers that it owes.
-use Rattle.std.proofs.Common.{◌≡◌, ◌⊎◌, inl, inr, ℕ, Bool, true, false, refl, Option, Some, None, Ok}
+use Rattle.std.proofs.Common.{arith, ◌≡◌, ◌⊎◌, inl, inr, ℕ, Bool, true, false, refl, Option, Some, None, Ok}
 use Rattle.link_account.proofs.Names.{Originator, Frame, Sabme, Disc, Ua, Xid, written, Sent, Account, Said, speak, frame_for, ready_frame}
 use Rattle.link_account.proofs.Names.{trying}
-use Rattle.link_run.proofs.Names.{Setup, Phase, Negotiating, Establishing, Releasing, Answer}
-use Rattle.link_account.proofs.SpeakWays.{Tries, Ways, by-ways, linked-alike, tries-alike}
+use Rattle.link_run.proofs.Names.{Answer, Establishing, Negotiating, Phase, Releasing, Setup, Tries, Ways, by-ways, linked-alike}
+use Rattle.link_run.proofs.Names.{tries-alike}
 use Rattle.lapm_frames.specs.declared.sent.Sent.TheVariants as slots
 use Rattle.link_account.specs.declared.answer.Answer.TheVariants as answers
 
@@ -33,10 +33,7 @@ module _ (a : Account) where
   P = Declares a.phase a
 
   own-answer : (d : Answer) (p : Phase) (b : Account) → b.setup.offer ≡ a.setup.offer → OwnSent a.setup (Some d) p (frame_for d b)
-  own-answer answers.Adp p b e = tt
-  own-answer answers.Xid p b e = (rw e refl, refl)
-  own-answer (answers.Ua pf) p b e = refl
-  own-answer (answers.Dm pf) p b e = tt
+  own-answer x p b e = grind (arith)
 
   answer : (d : Answer) (b : Account) (left : Option Answer) → b.setup.offer ≡ a.setup.offer → a.owes.answer ≡ Some d
       → OwnSent a.setup a.owes.answer a.phase (frame_for d b)
@@ -44,8 +41,7 @@ module _ (a : Account) where
 
   ready : (s : Setup) (due : Option Answer) (p : Phase) (busy command pf : Bool) (nr : ℕ) → OwnFrame s due p
       (ready_frame busy command nr pf)
-  ready s due p true command pf nr = tt
-  ready s due p false command pf nr = tt
+  ready s due p busy command pf nr = grind (arith)
 
   plain : {said : Said} → OwnSent a.setup a.owes.answer a.phase said.sent → said.account.owes.answer ≡ a.owes.answer → P said
   plain own e = record { own = own; left = inl e }

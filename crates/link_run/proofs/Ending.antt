@@ -1,15 +1,14 @@
 -- What holds once the originator was told to release, and in the end.
-use Rattle.std.proofs.Common.{◌≡◌, inl, inr, ℕ, ◌≤◌, Bool, true, false, cond, List, [], ◌∷◌, length, refl, sym, ◌∙◌, ap, subst, Option}
-use Rattle.link_account.proofs.Names.{Role, Originator, Answerer, of, IsPrefixOf, IsAllowed, ReadsAllowed, KeepsTaken, Account, fresh}
-use Rattle.link_account.proofs.Names.{is_connected, Play, MayPlay}
-use Rattle.link_run.proofs.Names.{delivered, served, is_released, Link, Accounts, Turn, arrival, Hears, RunOf, served_at}
-use Rattle.link_account.specs.Laws.{TakesInOrder, AcknowledgesTaken, GivesBreaksInOrder, AnswersGiven}
-use Rattle.link_run.specs.Laws.{HoldPrefixes, TakesPrefixes, HearsPrefixes}
-use Rattle.link_run.proofs.Keeping.{Books, GoesOn, hears}
-use Rattle.link_run.proofs.Speaking.{Ledger, Speaks, Keeps_on, Releases}
+use Rattle.std.proofs.Common.{arith, ◌≡◌, ℕ, ◌≤◌, Bool, List, [], ◌∷◌, length, refl, sym, ◌∙◌, ap, subst, Option}
+use Rattle.link_account.proofs.Names.{Role, Originator, Answerer, of, IsPrefixOf, IsAllowed, ReadsAllowed, KeepsTaken, Account, fresh, Play}
+use Rattle.link_account.proofs.Names.{MayPlay}
+use Rattle.link_run.proofs.Names.{Accounts, AcknowledgesTaken, AnswersGiven, GivesBreaksInOrder, Hears, HearsPrefixes, HoldPrefixes}
+use Rattle.link_run.proofs.Names.{IsOffered, Link, RunOf, TakesInOrder, TakesPrefixes, Turn, arrival, delivered, is_released, served}
+use Rattle.link_run.proofs.Names.{served_at}
+use Rattle.link_run.proofs.Keeping.{GoesOn, hears}
+use Rattle.link_run.proofs.Speaking.{Speaks}
 use Rattle.link_run.proofs.Serving.{served-alone}
 use Rattle.link_run.proofs.Running.{Reaches, told, speaks-at, hearing-reaches, run-reaches}
-use Rattle.link_run.specs.Reading.{IsOffered}
 use Rattle.link_run.proofs.Cutting.{fresh-cuts, heard-cuts, served-cuts, spoken-cuts, begins-file}
 use Rattle.link_run.specs.Run as run
 
@@ -50,19 +49,13 @@ abbrev pub HasSetup : Link → Role → Account → Type 0
 HasSetup link r a = a.setup ≡ (of r link).setup
 
 heard-setup : (a b : Account) → GoesOn a b → b.setup ≡ a.setup
-heard-setup a b (inl s) = ap (λ (k : Books). k.setup) s.books_are
-heard-setup a b (inr e) = e.setup
+heard-setup a b x = grind (arith)
 
 spoken-setup : (release : Bool) (a b : Account) → Speaks release a b → b.setup ≡ a.setup
-spoken-setup release a b (Keeps_on e) = ap (λ (l : Ledger). l.books.setup) e
-spoken-setup release a b (Releases on role linked e k) = ap (λ (l : Ledger). l.books.setup) e
+spoken-setup release a b x = grind (arith)
 
 delivered-setup : (a : Account) → (delivered a).setup ≡ a.setup
-delivered-setup a = go (is_connected a.phase)
-  where
-    go : (b : Bool) → (cond b (record a { incoming = record a.incoming { given = length a.incoming.taken } }) a).setup ≡ a.setup
-    go true = refl
-    go false = refl
+delivered-setup a = grind (arith)
 
 pub setups-kept : (link : Link) → IsKept (HasSetup link) link
 setups-kept link = record {

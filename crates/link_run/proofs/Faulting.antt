@@ -1,19 +1,13 @@
 -- No end breaks as it hears, and as it speaks it breaks for want of answers alone.
-use Rattle.std.proofs.Common.{◌≡◌, ℕ, ◌-◌, true, false, List, [], ◌∷◌, ◌++◌, length, map, refl, sym, ap, subst, Option, Some, None, Result}
+use Rattle.std.proofs.Common.{arith, ◌≡◌, ℕ, ◌-◌, true, List, [], ◌∷◌, ◌++◌, length, map, refl, sym, ap, subst, Option, Some, None, Result}
 use Rattle.std.proofs.Common.{Ok, Err, slice_get}
 use Rattle.link_account.proofs.Names.{false≢true, Role, Originator, Answerer, ReadsAllowed, KeepsTaken, LinkFault, Account, hear, Slot}
 use Rattle.link_account.proofs.Names.{Play, arrives, MayPlay, Heard, Nothing, Passed, Lost, Chance, of}
-use Rattle.link_run.proofs.Names.{Link, Turn, arrival, served_at, releases, sent_in, Crosses}
+use Rattle.link_run.proofs.Names.{BreaksForWantAlone, BrokenForWant, Crosses, HearingsAreWell, Link, Passes, Sixteen, Turn, WantsAnswers}
+use Rattle.link_run.proofs.Names.{arrival, at, breaks-not, happens, on_line, sent_in, side, sides, told_by_play, told_by_turn}
 use Rattle.std.specs.Prelude.{is_ok}
-use Rattle.frame_check.specs.declared.check.Check.TheVariants.{Sixteen}
-use Rattle.link_account.specs.Play.{Passes, heard, happens}
-use Rattle.link_account.specs.Laws.{WantsAnswers, BreaksForWantAlone}
-use Rattle.link_run.specs.Carried.{on_line}
-use Rattle.link_run.specs.Laws.{told_by_play, told_by_turn, HearingsAreWell, BrokenForWant}
-use Rattle.link_account.proofs.HearWays.{breaks-not}
 use Rattle.link_run.proofs.Speaking.{breaks-for-want}
 use Rattle.link_run.proofs.Playing.{Leads, then-leads, one, made, next-first, head-of, none-is-some, told-slot}
-use Rattle.link_account.proofs.Events.{sides, side, at}
 use Rattle.link_run.proofs.Running.{begun, Reaches, lines, run-reaches}
 use Rattle.link_run.specs.Run as run
 
@@ -24,14 +18,12 @@ broken role x lx y ly fault = sides role (side x lx) (record (side y ly) { fault
 passes-breaks : (role : Role) (turn : ℕ) (x y : Account) (slot : Slot) (rest ly : List Slot) (fault : LinkFault)
     → hear turn (arrives slot.sent) y ≡ Err fault
     → happens (Passes role turn) (at role x (slot ∷ rest) y ly) ≡ broken role x rest y ly fault
-passes-breaks Originator turn x y slot rest ly fault e = ap (λ r. sides Originator (side x rest) (heard r (side y ly))) e
-passes-breaks Answerer turn x y slot rest ly fault e = ap (λ r. sides Answerer (side x rest) (heard r (side y ly))) e
+passes-breaks w turn x y slot rest ly fault e = grind (arith)
 
 wants-of : (role : Role) (x y : Account) (lx ly : List Slot) (fault : LinkFault)
     → WantsAnswers (broken role x lx y ly fault).originator.fault × WantsAnswers (broken role x lx y ly fault).answerer.fault
     → WantsAnswers (Some fault)
-wants-of Originator x y lx ly fault h = h.1
-wants-of Answerer x y lx ly fault h = h.0
+wants-of role x y lx ly fault h = grind (arith)
 
 pub well-heard : (reads : ReadsAllowed) (keeps : KeepsTaken) (law : BreaksForWantAlone) (link : Link)
     → MayPlay link.orig.setup link.answ.setup
@@ -74,7 +66,4 @@ hearings_are_well reads keeps law link delay ts ends t v n role = at-role role
         (hear (length ts) (arrival t.answ.heard) ends.answ) refl
 
 pub broken_for_want : BrokenForWant
-broken_for_want link ts before t mid Originator fault h =
-    breaks-for-want (length ts) (releases link (length ts) mid) (served_at link (length ts) mid Originator).account fault h.broken
-broken_for_want link ts before t mid Answerer fault h =
-    breaks-for-want (length ts) false (served_at link (length ts) mid Answerer).account fault h.broken.1
+broken_for_want link ts before t mid x fault h = grind (arith, breaks-for-want)

@@ -1,23 +1,16 @@
 -- Once the originator was told to release, nothing of both files or of any break is left; so done means whole.
-use Rattle.std.proofs.Common.{◌≡◌, inl, inr, ℕ, zero, suc, ◌+◌, ◌≤◌, ◌&&◌, ◌||◌, not, Bool, true, false, cond, nat_eq, nat_lt, List, []}
-use Rattle.std.proofs.Common.{◌∷◌, ◌++◌, length, arith, length-append, refl, sym, ◌∙◌, ap, subst, Option, Some, None, Ok}
-use Rattle.link_account.proofs.Names.{false≢true, nat_tests, append-nil, IsPrefixOf, Role, Originator, Answerer, of, ReadsAllowed, Outgoing}
-use Rattle.link_account.proofs.Names.{KeepsTaken, OwnBreaks, waits, Account, is_connected, wants, after_given, after_busy, Said, MayPlay}
-use Rattle.link_run.proofs.Names.{Setup, Phase, Releasing, Closed, User, delivered}
-use Rattle.link_run.proofs.Names.{offered_at, offered_times, room_for, is_busy, served, is_released, is_closed, has_finished, next_break}
-use Rattle.link_run.proofs.Names.{Link, Accounts, Turn, arrival, Hears, RunOf, served_at, releases, said_at, IsCarried}
+use Rattle.std.proofs.Common.{◌≡◌, ℕ, zero, suc, ◌≤◌, ◌&&◌, ◌||◌, not, Bool, true, false, List, [], ◌∷◌, ◌++◌, length, arith, length-append}
+use Rattle.std.proofs.Common.{refl, sym, ◌∙◌, ap, subst, Option, None, Ok}
+use Rattle.link_account.proofs.Names.{append-nil, IsPrefixOf, Role, Originator, Answerer, of, ReadsAllowed, Outgoing, KeepsTaken, Account}
+use Rattle.link_account.proofs.Names.{is_connected, wants, after_given, after_busy, Said, MayPlay}
+use Rattle.link_run.proofs.Names.{Accounts, DoneIsWhole, HasDelays, Hears, HoldWhole, IsCarried, Link, Phase, RunOf, Setup, Turn, User}
+use Rattle.link_run.proofs.Names.{arrival, at, delivered, finished_at, has_finished, is_busy, is_closed, is_released, offered_at}
+use Rattle.link_run.proofs.Names.{offered_times, releases, room_for, said_at, served, served_at, served_ends}
 use Rattle.std.specs.List.{concat}
-use Rattle.lapm_sender.specs.Outgoing.{is_whole}
-use Rattle.link_account.specs.Account.{is_done, break_waits}
-use Rattle.link_run.specs.End.{is_ready}
-use Rattle.link_run.specs.Run.{finished_at, served_ends}
-use Rattle.link_run.specs.Carried.{HasDelays}
-use Rattle.link_run.specs.Laws.{HoldWhole, DoneIsWhole}
-use Rattle.link_run.proofs.Keeping.{Books, stage, GoesOn, hears, Standing, standing, stands-heard}
+use Rattle.link_run.proofs.Keeping.{stage, GoesOn, hears, standing, stands-heard}
 use Rattle.link_run.proofs.Speaking.{Ledger, Speaks, Keeps_on, Releases, stands-spoken}
 use Rattle.link_run.proofs.Serving.{Waiting, served-alone, busy-alone}
 use Rattle.link_run.proofs.Playing.{then-leads, serves}
-use Rattle.link_account.proofs.Events.{at}
 use Rattle.link_run.proofs.Running.{begun, Reaches, speaks-at, run-handed, hearing-waits, hearing-reaches, run-reaches}
 use Rattle.link_run.proofs.Cutting.{linked-stage}
 use Rattle.link_run.proofs.Ending.{AtBoth, kept-heard, kept-run, HasSetup, setups-kept, HasCut, cuts-kept, Facts, PlayLaws, facts}
@@ -25,13 +18,10 @@ use Rattle.link_run.proofs.Ending.{allowed-both}
 use Rattle.link_run.specs.Run as run
 
 both-true : (b c : Bool) → (b && c) ≡ true → (b ≡ true) × (c ≡ true)
-both-true true c e = (refl, e)
-both-true false c e = absurd (false≢true e)
+both-true x c e = grind (arith)
 
 neither : (b c : Bool) → not (b || c) ≡ true → (b ≡ false) × (c ≡ false)
-neither true c e = absurd (false≢true e)
-neither false true e = absurd (false≢true e)
-neither false false e = (refl, refl)
+neither x c e = grind (arith)
 
 -- an end that has finished
 pub record Finished (a : Account) : Type 0 where
@@ -41,17 +31,7 @@ pub record Finished (a : Account) : Type 0 where
   pub answered : length a.own_breaks.lengths ≤ a.own_breaks.answered
 
 finished : (u : User) (turn : ℕ) (a : Account) → has_finished u turn a ≡ true → Finished a
-finished u turn a e =
-    let h = both-true (is_done a) (not (break_waits a || is_ready turn (next_break u.breaks a))) e in
-    let n = neither (break_waits a) (is_ready turn (next_break u.breaks a)) h.1 in
-    go (is_connected a.phase) refl h.0 n.0
-  where
-    go : (b : Bool) → is_connected a.phase ≡ b → cond b (is_whole a.outgoing) false ≡ true → cond b (waits a.own_breaks) false ≡ false
-        → Finished a
-    go true k d w =
-        let p = both-true a.outgoing.ended (nat_eq a.outgoing.front (length a.outgoing.pieces)) d in
-        record { linked = k; ended = p.0; front = grind (arith, nat_tests); answered = grind (arith, nat_tests) }
-    go false k d w = absurd (false≢true d)
+finished u turn a e = grind (arith, both-true, neither)
 
 -- what holds of both ends from then on
 pub record Over (o a : Account) : Type 0 where
@@ -71,33 +51,13 @@ pub record SameLeft (a b : Account) : Type 0 where
   pub lengths : b.own_breaks.lengths ≡ a.own_breaks.lengths
 
 still-over : (o p a b : Account) → Over o a → standing p ≡ standing o → SameLeft a b → Over p b
-still-over o p a b h s l = record {
-  o_ended = subst (λ (z : Standing). z.outgoing.ended ≡ true) (sym s) h.o_ended;
-  o_front = subst (λ (z : Standing). z.outgoing.front ≡ length z.outgoing.pieces) (sym s) h.o_front;
-  o_breaks = subst (λ (z : Standing). length z.own_breaks.lengths ≤ z.own_breaks.answered) (sym s) h.o_breaks;
-  a_linked = l.linked h.a_linked;
-  a_ended = l.ended ∙ h.a_ended;
-  a_taken = omega (arith, h.a_taken, ap length l.pieces, ap (λ (z : Standing). length z.incoming.taken) s);
-  a_breaks = omega (arith, h.a_breaks, ap length l.lengths, ap (λ (z : Standing). length z.their_breaks.lengths) s);
-}
+still-over o p a b h s l = grind (arith)
 
 heard-left : (a b : Account) → 1 ≤ stage a.phase → GoesOn a b → SameLeft a b
-heard-left a b linked (inl s) = record {
-  linked = λ h. omega (arith, h, s.later);
-  ended = ap (λ (k : Books). k.ended) s.books_are;
-  pieces = ap (λ (k : Books). k.pieces) s.books_are;
-  lengths = ap (λ (k : Books). k.lengths) s.books_are;
-}
-heard-left a b linked (inr e) = absurd (omega (arith, linked, e.was))
+heard-left a b linked x = grind (arith)
 
 spoken-left : (a b : Account) → Speaks false a b → SameLeft a b
-spoken-left a b (Keeps_on e) = record {
-  linked = λ h. omega (arith, h, ap (λ (l : Ledger). stage l.phase) e);
-  ended = ap (λ (l : Ledger). l.books.ended) e;
-  pieces = ap (λ (l : Ledger). l.books.pieces) e;
-  lengths = ap (λ (l : Ledger). l.books.lengths) e;
-}
-spoken-left a b (Releases on role linked e k) = absurd (false≢true on)
+spoken-left a b x = grind (arith)
 
 -- nothing is offered once the file has ended
 pub offers-none : (n : ℕ) (file : List ℕ) (a : Account) → wants a ≡ None → offered_times n file a ≡ a
@@ -105,14 +65,7 @@ offers-none zero file a e = refl
 offers-none (suc n) file a e = ap (λ w. offered_times n file (offered_at file a w)) e ∙ offers-none n file a e
 
 pub ended-wants : (a : Account) → a.outgoing.ended ≡ true → wants a ≡ None
-ended-wants a e = go (is_connected a.phase) a.outgoing.ended e
-  where
-    go : (b c : Bool) → c ≡ true
-        → cond b (cond (not c && nat_lt (length a.outgoing.pieces) (a.outgoing.front + a.outgoing.window))
-        (Some (length a.outgoing.pieces)) None) None ≡ None
-    go true true e = refl
-    go true false e = absurd (false≢true e)
-    go false c e = refl
+ended-wants a e = grind (arith)
 
 -- serving an end whose file has ended, once the originator was told to release
 pub record Idles (a b : Account) : Type 0 where
@@ -123,11 +76,7 @@ pub record Idles (a b : Account) : Type 0 where
   pub phase : b.phase ≡ a.phase
 
 given-idles : (a : Account) → Idles a (after_given (delivered a))
-given-idles a = go (is_connected a.phase)
-  where
-    go : (b : Bool) → Idles a (after_given (cond b (record a { incoming = record a.incoming { given = length a.incoming.taken } }) a))
-    go true = record { outgoing = refl; taken = refl; own = refl; theirs = refl; phase = refl }
-    go false = record { outgoing = refl; taken = refl; own = refl; theirs = refl; phase = refl }
+given-idles a = grind (arith)
 
 served-idles : (u : User) (turn : ℕ) (a : Account) → a.outgoing.ended ≡ true → Idles a (served u turn true a).account
 served-idles u turn a e =
@@ -140,25 +89,9 @@ served-idles u turn a e =
     subst (λ c. Idles a (after_busy busy c))
     (sym (offers-none (room_for b) u.file b (ended-wants b (ap (λ (o : Outgoing). o.ended) g.outgoing ∙ e)))) k
 
-idles-left : (a b : Account) → Idles a b → SameLeft a b
-idles-left a b i = record {
-  linked = λ h. omega (arith, h, ap stage i.phase);
-  ended = ap (λ (o : Outgoing). o.ended) i.outgoing;
-  pieces = ap (λ (o : Outgoing). o.pieces) i.outgoing;
-  lengths = ap (λ (o : OwnBreaks). o.lengths) i.own;
-}
-
 -- of the originator, what is delivered isn't part of what stands
 idles-over : (o p a b : Account) → Over o a → Idles o p → Idles a b → Over p b
-idles-over o p a b h i l = record {
-  o_ended = ap (λ (z : Outgoing). z.ended) i.outgoing ∙ h.o_ended;
-  o_front = ap (λ (z : Outgoing). z.front) i.outgoing ∙ h.o_front ∙ sym (ap (λ (z : Outgoing). length z.pieces) i.outgoing);
-  o_breaks = omega (arith, h.o_breaks, ap (λ (z : OwnBreaks). length z.lengths) i.own, ap (λ (z : OwnBreaks). z.answered) i.own);
-  a_linked = (idles-left a b l).linked h.a_linked;
-  a_ended = (idles-left a b l).ended ∙ h.a_ended;
-  a_taken = omega (arith, h.a_taken, ap length (idles-left a b l).pieces, ap length i.taken);
-  a_breaks = omega (arith, h.a_breaks, ap length (idles-left a b l).lengths, ap (λ z. length z.lengths) i.theirs);
-}
+idles-over o p a b h i l = grind (arith)
 
 over-heard : (reads : ReadsAllowed) (keeps : KeepsTaken) (turn : ℕ) (before : Accounts) (t : Turn) (mid : Accounts)
     → 2 ≤ stage before.orig.phase
@@ -192,9 +125,7 @@ served-reaches link turn mid line p w =
 
 -- where the originator is released
 released-at : (p : Phase) → is_closed p ≡ false → 2 ≤ stage p → is_released p ≡ true
-released-at Releasing e h = refl
-released-at Closed e h = refl
-released-at p e h = absurd (omega (arith, h))
+released-at p e h = grind (arith)
 
 over-going : (link : Link) (turn : ℕ) (mid : Accounts) (o a : Said) → is_closed mid.orig.phase ≡ false
     → (2 ≤ stage mid.orig.phase → Over mid.orig mid.answ)
@@ -221,11 +152,7 @@ over-going link turn mid o a going h f e (Keeps_on k) l two =
     (stands-spoken turn (releases link turn mid) s.orig o before e) (spoken-left s.answ a.account l)
   where
     delivered-phase : (x : Account) → (delivered x).phase ≡ x.phase
-    delivered-phase x = go (is_connected x.phase)
-      where
-        go : (b : Bool) → (cond b (record x { incoming = record x.incoming { given = length x.incoming.taken } }) x).phase ≡ x.phase
-        go true = refl
-        go false = refl
+    delivered-phase x = grind (arith)
 over-going link turn mid o a going h f e (Releases on role linked k stand) l two =
     let s = both_served link turn mid in
     let both = both-true (finished_at link turn (served_ends link turn mid) Originator)
@@ -267,12 +194,10 @@ over-run reads keeps laws link delay m some (t ∷ ts) ends c h two =
     (subst (λ (x : Account). 2 ≤ stage x.phase) ko.after_is two))
   where
     not-closed : (p : Phase) → is_closed p ≡ false → stage p ≤ 2
-    not-closed Closed e = absurd (false≢true (sym e))
-    not-closed p e = omega arith
+    not-closed p e = grind (arith)
 
     was-released : {x y : Account} → GoesOn x y → stage y.phase ≤ 2 → 2 ≤ stage y.phase → 2 ≤ stage x.phase
-    was-released (inl w) low high = omega (arith, w.unreleased (omega (arith, low, high)))
-    was-released (inr w) low high = absurd (omega (arith, ap stage w.is, high))
+    was-released x low high = grind (arith)
 
     same-ends : (e : Accounts) (x y : Account) → e.orig ≡ x → e.answ ≡ y → e ≡ record { orig = x; answ = y }
     same-ends e x y p q = ap (λ z. record { orig = z; answ = e.answ }) p ∙ ap (λ z. record { orig = x; answ = z }) q
@@ -298,8 +223,7 @@ whole link mid h f c Answerer = record {
 }
 
 closed-stage : (p : Phase) → is_closed p ≡ true → stage p ≡ 3
-closed-stage Closed e = refl
-closed-stage p e = absurd (false≢true e)
+closed-stage p e = grind (arith)
 
 pub done_is_whole : ReadsAllowed → KeepsTaken → PlayLaws → DoneIsWhole
 done_is_whole reads keeps laws link delay ts ends t mid v n k =
@@ -318,5 +242,4 @@ done_is_whole reads keeps laws link delay ts ends t mid v n k =
     (kept-heard reads keeps (HasCut link) link kept turn ends t mid (kept-run reads keeps (HasCut link) link kept ts ends v.run) k.hearing)
   where
     hung-up : {x y : Account} → GoesOn x y → stage y.phase ≡ 3 → x.setup.role ≡ Originator → 2 ≤ stage x.phase
-    hung-up (inl w) e r = w.hangs_up e r
-    hung-up (inr w) e r = absurd (omega (arith, ap stage w.is, e))
+    hung-up x e r = grind (arith)

@@ -1,13 +1,10 @@
 -- All through a run the frames that passed tell how far both ends are.
-use Rattle.std.proofs.Common.{◌≡◌, ◌≢◌, ◌⊎◌, inl, inr, ℕ, ◌≤◌, ◌||◌, Bool, true, false, cond, nat_le, List, [], ◌∷◌, length, arith, refl}
-use Rattle.std.proofs.Common.{sym, ◌∙◌, ap, subst, Option, Some, None, Ok}
-use Rattle.link_account.proofs.Names.{false≢true, nat_tests, Role, Originator, Answerer, is_originator, of, Frame, I, Rr, Rnr, Rej, Srej}
-use Rattle.link_account.proofs.Names.{Sabme, Disc, Ua, Xid, ReadsAllowed, ReadsWritten, KeepsTaken, Sent, Account, is_connected, hear, Said}
-use Rattle.link_account.proofs.Names.{MayPlay}
-use Rattle.link_run.proofs.Names.{Setup, Phase, Connected, Releasing, Closed, Answer, User, delivered}
-use Rattle.link_run.proofs.Names.{served, Link, Accounts, Turn, Spoken, spoken, arrival, Hears, RunOf, served_at, Carries, IsCarried}
-use Rattle.link_account.specs.Account.{first_terms}
-use Rattle.link_run.specs.Overheard.{has_passed, is_xid, opens}
+use Rattle.std.proofs.Common.{◌≡◌, ◌≢◌, ◌⊎◌, ℕ, ◌≤◌, ◌||◌, Bool, true, false, cond, nat_le, List, [], ◌∷◌, length, arith, refl, sym, ◌∙◌}
+use Rattle.std.proofs.Common.{ap, subst, Option, Some, None, Ok}
+use Rattle.link_account.proofs.Names.{Role, Originator, Answerer, of, Frame, ReadsAllowed, ReadsWritten, KeepsTaken, Sent, Account, hear}
+use Rattle.link_account.proofs.Names.{Said, MayPlay}
+use Rattle.link_run.proofs.Names.{Accounts, Answer, Carries, Hears, IsCarried, Link, Phase, Releasing, RunOf, Setup, Spoken, Turn, User}
+use Rattle.link_run.proofs.Names.{arrival, delivered, first_terms, has_passed, is_xid, opens, served, served_at, spoken}
 use Rattle.link_run.proofs.Keeping.{stage}
 use Rattle.link_run.proofs.Speaking.{Ledger, Speaks, Keeps_on, Releases}
 use Rattle.link_run.proofs.Serving.{served-alone}
@@ -41,9 +38,7 @@ pub record Known (so sa : Setup) (sent heard : List Turn) (o a : Course) : Type 
 -- one more turn was heard
 passed-more : (is : Frame → Bool) (role : Role) (t : Turn) (ts : List Turn) (n : Bool) (m : Bool) → has_passed is role ts ≡ n
     → m ≡ (brings is (arrival (of role t).heard) || n) → has_passed is role (t ∷ ts) ≡ m
-passed-more is role t ts n m h e =
-    ap (λ b. b || has_passed is role ts) (passed-brings is (of role t).heard) ∙ ap (λ b. brings is (arrival (of role t).heard) || b) h
-    ∙ sym e
+passed-more is role t ts n m h e = grind (arith, passed-brings)
 
 known-heard : (so sa : Setup) → Reads so sa → (delay : Role → ℕ) (ts : List Turn) (t : Turn) (turn : ℕ) (o a p b : Account)
     → so.role ≡ Originator → sa.role ≡ Answerer → o.setup ≡ so → a.setup ≡ sa → Known so sa ts ts (course o) (course a)
@@ -104,59 +99,29 @@ spoke release a said (Releases on role linked e k) d =
     }
 
 due_o-spoke : (x y : Option Answer) → (y ≡ x) ⊎ (y ≡ None) → DueO x → DueO y
-due_o-spoke x y (inl e) h = subst DueO (sym e) h
-due_o-spoke x y (inr e) h = subst DueO (sym e) tt
+due_o-spoke x y w h = grind (arith)
 
 due_a-spoke : (r m : ℕ) (x y : Option Answer) → (y ≡ x) ⊎ (y ≡ None) → DueA r m x → DueA r m y
-due_a-spoke r m x y (inl e) h = subst (DueA r m) (sym e) h
-due_a-spoke r m x y (inr e) h = subst (DueA r m) (sym e) tt
+due_a-spoke r m x y w h = grind (arith)
 
 stage-rank : (p : Phase) → 2 ≤ stage p → 4 ≤ rank p
-stage-rank Releasing h = omega arith
-stage-rank Closed h = omega arith
-stage-rank p h = absurd (omega (arith, h))
-
-pub linked-rank : (p : Phase) → stage p ≡ 1 → rank p ≡ 3
-linked-rank Connected h = refl
-linked-rank p h = absurd (omega (arith, h))
+stage-rank p h = grind (arith)
 
 -- what an originator says
 said-o : (so : Setup) (p : Phase) (answer : Option Answer) (s : ℕ) (frame : Frame) → OwnFrame so answer p frame → DueO answer → rank p ≤ s
     → (is_disc frame ≡ true → 4 ≤ s) → (is_counted frame ≡ true → stage p ≡ 1) → SentO so s frame
-said-o so p answer s (Xid true pf info) own d l disc c = (refl, own.0, omega (arith, l, ap rank own.1))
-said-o so p answer s (Xid false pf info) own d l disc c = absurd (subst DueO own.1 d)
-said-o so p answer s (Sabme pf) own d l disc c = (own.0, omega (arith, l, ap rank own.1))
-said-o so p answer s (Disc pf) own d l disc c = (own, disc refl)
-said-o so p answer s (I ns nr pf info) own d l disc c = omega (arith, l, linked-rank p (c refl))
-said-o so p answer s (Rr command nr pf) own d l disc c = omega (arith, l, linked-rank p (c refl))
-said-o so p answer s (Rnr command nr pf) own d l disc c = omega (arith, l, linked-rank p (c refl))
-said-o so p answer s (Rej command nr pf) own d l disc c = omega (arith, l, linked-rank p (c refl))
-said-o so p answer s (Srej command nr pf) own d l disc c = omega (arith, l, linked-rank p (c refl))
-said-o so p answer s frame own d l disc c = tt
+said-o so p answer s frame own d l disc c = grind (arith)
 
 -- what an answerer says
 said-a : (sa : Setup) (p : Phase) (answer : Option Answer) (r s : ℕ) (frame : Frame) → sa.role ≡ Answerer → OwnFrame sa answer p frame
     → DueA r (rank p) answer → r ≤ s → (is_counted frame ≡ true → stage p ≡ 1) → (3 ≤ rank p → 2 ≤ r) → SentA sa s (rank p) frame
-said-a sa p answer r s (Xid true pf info) role own d l c k = absurd (false≢true (ap is_originator (sym role ∙ own.2)))
-said-a sa p answer r s (Xid false pf info) role own d l c k = let due = subst (DueA r (rank p)) own.1 d in
-    (refl, own.0, omega (arith, l, due.0), due.1)
-said-a sa p answer r s (Ua pf) role own d l c k = let due = subst (DueA r (rank p)) own d in (due.0, omega (arith, l, due.1))
-said-a sa p answer r s (I ns nr pf info) role own d l c k = omega (arith, l, k (omega (arith, linked-rank p (c refl))))
-said-a sa p answer r s (Rr command nr pf) role own d l c k = omega (arith, l, k (omega (arith, linked-rank p (c refl))))
-said-a sa p answer r s (Rnr command nr pf) role own d l c k = omega (arith, l, k (omega (arith, linked-rank p (c refl))))
-said-a sa p answer r s (Rej command nr pf) role own d l c k = omega (arith, l, k (omega (arith, linked-rank p (c refl))))
-said-a sa p answer r s (Srej command nr pf) role own d l c k = omega (arith, l, k (omega (arith, linked-rank p (c refl))))
-said-a sa p answer r s frame role own d l c k = tt
+said-a sa p answer r s frame role own d l c k = grind (arith)
 
 if-said : (P : Frame → Type 0) (o : Option Spoken) (said : Said) → o ≡ Some (spoken said) → OnSent P said.sent → IfSent P o
 if-said P o said e h = subst (IfSent P) (sym e) h
 
 sent-by : (P : Frame → Type 0) (s : Sent) → ((frame : Frame) → s ≡ slots.Frame frame → P frame) → OnSent P s
-sent-by P slots.Mark h = tt
-sent-by P slots.Odp h = tt
-sent-by P slots.Adp h = tt
-sent-by P slots.Flags h = tt
-sent-by P (slots.Frame frame) h = h frame refl
+sent-by P s h = grind (arith)
 
 known-spoken : (so sa : Setup) (ts : List Turn) (t : Turn) (o a : Account) (release : Bool) (p b : Said)
     → Known so sa ts (t ∷ ts) (course o) (course a) → o.setup ≡ so → a.setup ≡ sa → sa.role ≡ Answerer
@@ -205,37 +170,17 @@ known-spoken so sa ts t o a release p b h eo ea role go ga wo wa dco dca so-sent
     }
   where
     same-phase : (x y : Account) → Speaks false x y → y.phase ≡ x.phase
-    same-phase x y (Keeps_on e) = ap (λ (l : Ledger). l.phase) e
-    same-phase x y (Releases on r linked e k) = absurd (false≢true on)
+    same-phase x y w = grind (arith)
 
     le-two : (m n : ℕ) → nat_le 2 m ≡ nat_le 2 n → 2 ≤ m → 2 ≤ n
-    le-two m n e l = at-least n (sym e ∙ reaches m l)
-      where
-        reaches : (k : ℕ) → 2 ≤ k → nat_le 2 k ≡ true
-        reaches k l = grind (arith, nat_tests)
-
-        at-least : (k : ℕ) → nat_le 2 k ≡ true → 2 ≤ k
-        at-least k e = grind (arith, nat_tests)
+    le-two m n e l = grind (arith)
 
 -- serving leaves this
 delivered-terms : (a : Account) → (delivered a).terms ≡ a.terms
-delivered-terms a = go (is_connected a.phase)
-  where
-    go : (b : Bool) → (cond b (record a { incoming = record a.incoming { given = length a.incoming.taken } }) a).terms ≡ a.terms
-    go true = refl
-    go false = refl
+delivered-terms a = grind (arith)
 
 pub course-served : (u : User) (turn : ℕ) (released : Bool) (a : Account) → course (served u turn released a).account ≡ course a
-course-served u turn released a =
-    let l = serving u turn released a in
-    let terms = ap (λ (b : Account). b.terms) (served-alone u turn released a) ∙ delivered-terms a in
-    same-course (course (served u turn released a).account) (course a) l.phase terms l.answer
-  where
-    same-course : (c d : Course) → c.phase ≡ d.phase → c.terms ≡ d.terms → c.answer ≡ d.answer → c ≡ d
-    same-course c d p q r =
-        ap (λ z. record { phase = z; terms = c.terms; answer = c.answer }) p
-        ∙ ap (λ z. record { phase = d.phase; terms = z; answer = c.answer }) q
-        ∙ ap (λ z. record { phase = d.phase; terms = d.terms; answer = z }) r
+course-served u turn released a = grind (arith, serving, served-alone, delivered-terms)
 
 abbrev pub KnownOf : Link → List Turn → List Turn → Accounts → Type 0
 KnownOf link sent heard ends = Known link.orig.setup link.answ.setup sent heard (course ends.orig) (course ends.answ)
@@ -298,6 +243,4 @@ known-run reads keeps written link delay p (t ∷ ts) ends c h =
     (sym ka.after_is) m)
   where
     setup-before : {s : Setup} (release : Bool) (x y e : Account) → e ≡ y → Speaks release x y → e.setup ≡ s → x.setup ≡ s
-    setup-before {s} release x y e q (Keeps_on l) w = sym (ap (λ (z : Ledger). z.books.setup) l) ∙ sym (ap (λ (v : Account). v.setup) q) ∙ w
-    setup-before {s} release x y e q (Releases on r linked l n) w =
-        sym (ap (λ (z : Ledger). z.books.setup) l) ∙ sym (ap (λ (v : Account). v.setup) q) ∙ w
+    setup-before {s} release x y e q v w = grind (arith)

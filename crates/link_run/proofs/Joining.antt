@@ -1,19 +1,19 @@
 -- How far both ends have come, by what each has sent: neither is sent numbered frames before it is Connected, and the answerer is closed
 -- only once
 -- the originator releases.
-use Rattle.std.proofs.Common.{◌≡◌, ◌≢◌, ◌⊎◌, inl, inr, ℕ, zero, suc, ◌-◌, ◌≤◌, ◌||◌, Bool, true, false, cond, List, [], ◌∷◌, length, arith}
-use Rattle.std.proofs.Common.{refl, sym, ◌∙◌, ap, subst, Option, Some, None, slice_get}
-use Rattle.link_account.proofs.Names.{false≢true, Role, Originator, Answerer, Frame, ReadsAllowed, KeepsTaken, Account, is_connected}
-use Rattle.link_account.proofs.Names.{after_busy, after_given, Said, MayPlay, Heard, Nothing, Passed, Lost, Chance, is_originator, of}
+use Rattle.std.proofs.Common.{◌≡◌, ◌≢◌, ◌⊎◌, inl, inr, ℕ, zero, suc, ◌-◌, ◌≤◌, ◌||◌, Bool, true, false, List, [], ◌∷◌, length, arith, refl}
+use Rattle.std.proofs.Common.{sym, ◌∙◌, ap, subst, Option, Some, None, slice_get}
+use Rattle.link_account.proofs.Names.{false≢true, Role, Originator, Answerer, Frame, ReadsAllowed, KeepsTaken, Account, after_busy}
+use Rattle.link_account.proofs.Names.{after_given, Said, MayPlay, Heard, of}
 use Rattle.link_run.proofs.Counting.{or-true-left, or-true-right}
 use Rattle.link_run.proofs.Names.{Setup, User, delivered, room_for, offered, is_busy, served, is_released, Link, Accounts, Turn, Spoken}
 use Rattle.link_run.proofs.Names.{spoken, arrival, Hears, RunOf, served_at, sent_in, sent_ago, Crosses, Carries, IsCarried}
 use Rattle.link_run.proofs.Keeping.{stage, GoesOn, hears}
-use Rattle.link_run.proofs.Speaking.{Ledger, Speaks, Keeps_on, Releases}
+use Rattle.link_run.proofs.Speaking.{Speaks}
 use Rattle.link_run.proofs.Serving.{served-alone, offers-alone}
 use Rattle.link_run.proofs.Running.{told, speaks-at}
 use Rattle.link_run.proofs.Ending.{HasSetup, setups-kept, kept-run}
-use Rattle.link_run.proofs.Meeting.{is_ua, is_disc, is_segment, is_counted, carries, brings, brings-carried, owes_ua, Told, is-told}
+use Rattle.link_run.proofs.Meeting.{is_ua, is_disc, is_segment, is_counted, carries, brings, owes_ua, Told, is-told}
 use Rattle.link_run.proofs.Saying.{Part, part, Says, is-said}
 
 -- whether a role sent such a frame in a turn, and in any of these turns
@@ -26,8 +26,7 @@ any_sent is role [] = false
 any_sent is role (t ∷ ts) = sent_is is (of role t).sent || any_sent is role ts
 
 or-either : (b c : Bool) → (b || c) ≡ true → (b ≡ true) ⊎ (c ≡ true)
-or-either true c e = inl refl
-or-either false c e = inr e
+or-either x c e = grind (arith)
 
 ago-any : (is : Frame → Bool) (role : Role) (k : ℕ) (ts : List Turn) → sent_is is (sent_in role (slice_get ts k)) ≡ true
     → any_sent is role ts ≡ true
@@ -36,11 +35,7 @@ ago-any is role zero (t ∷ ts) e = or-true-left (sent_is is (of role t).sent) (
 ago-any is role (suc k) (t ∷ ts) e = or-true-right (sent_is is (of role t).sent) (any_sent is role ts) (ago-any is role k ts e)
 
 brought : (is : Frame → Bool) (o : Option Spoken) (h : Heard) → Crosses o h → brings is (arrival h) ≡ true → sent_is is o ≡ true
-brought is o Nothing c e = absurd (false≢true e)
-brought is o (Lost s) c e = absurd (false≢true e)
-brought is o Chance c e = absurd (false≢true e)
-brought is None (Passed s) c e = absurd c
-brought is (Some slot) (Passed s) c e = ap (carries is) (sym c.0) ∙ (sym (brings-carried is s) ∙ e)
+brought is o x c e = grind (arith)
 
 pub came : (is : Frame → Bool) (delay : Role → ℕ) (role : Role) (ts : List Turn) (h : Heard) → Crosses (sent_ago (delay role) role ts) h
     → brings is (arrival h) ≡ true → any_sent is role ts ≡ true
@@ -59,12 +54,10 @@ pub record Met (ts : List Turn) (o a : Account) : Type 0 where
   pub never : stage a.phase ≢ 2
 
 later : (a b : Account) → GoesOn a b → stage a.phase ≤ stage b.phase
-later a b (inl s) = s.later
-later a b (inr e) = omega (arith, e.was)
+later a b x = grind (arith)
 
 still-never : (a b : Account) → GoesOn a b → stage a.phase ≢ 2 → stage b.phase ≢ 2
-still-never a b (inl s) h z = h (s.unreleased z)
-still-never a b (inr e) h z = omega (arith, ap stage e.is, z)
+still-never a b x h z = grind (arith)
 
 met-heard : (ts : List Turn) (o a p b : Account) (delay : Role → ℕ) (ho ha : Heard) → Met ts o a → o.setup.role ≡ Originator → GoesOn o p
     → GoesOn a b → Told o.phase (arrival ho) o p → Told a.phase (arrival ha) a b
@@ -89,8 +82,7 @@ met-heard ts o a p b delay ho ha m role go ga to ta co ca =
     up-by (suc n) e z = omega (arith, later a b ga, m.up (omega (arith, e)))
 
     due-by : (owes_ua a.owes.answer ≡ true) ⊎ (1 ≤ stage b.phase) → 1 ≤ stage b.phase
-    due-by (inl z) = omega (arith, m.due z, later a b ga)
-    due-by (inr z) = z
+    due-by x = grind (arith)
 
     counted-by : (a.numbered ≡ true) ⊎ (brings is_counted (arrival ha) ≡ true) → 1 ≤ stage p.phase
     counted-by (inl z) = omega (arith, m.counted z, later o p go)
@@ -99,8 +91,7 @@ met-heard ts o a p b delay ho ha m role go ga to ta co ca =
     hung-by : (n : ℕ) → stage a.phase ≡ n → stage b.phase ≡ 3 → 2 ≤ stage p.phase
     hung-by zero e z = omega (arith, later o p go, m.discs (came is_disc delay Originator ts ha ca (ta.hung (omega (arith, e)) z)))
     hung-by (suc zero) e z = omega (arith, later o p go, m.discs (came is_disc delay Originator ts ha ca (ta.hung (omega (arith, e)) z)))
-    hung-by (suc (suc zero)) e z = absurd (m.never e)
-    hung-by (suc (suc (suc n))) e z = omega (arith, later o p go, m.hung (omega (arith, e, z, later a b ga)))
+    hung-by n e z = grind (arith)
 
 -- serving leaves this as it is
 pub record Leaves (a b : Account) : Type 0 where
@@ -110,19 +101,11 @@ pub record Leaves (a b : Account) : Type 0 where
   pub setup : b.setup ≡ a.setup
 
 delivered-leaves : (a : Account) → Leaves a (delivered a)
-delivered-leaves a = each (is_connected a.phase)
-  where
-    each : (z : Bool) → Leaves a (cond z (record a { incoming = record a.incoming { given = length a.incoming.taken } }) a)
-    each true = record { phase = refl; answer = refl; part_is = refl; setup = refl }
-    each false = record { phase = refl; answer = refl; part_is = refl; setup = refl }
+delivered-leaves a = grind (arith)
 
 -- being told of a pause leaves what answer is due
 busy-answer : (busy : Bool) (a : Account) → (after_busy busy a).owes.answer ≡ a.owes.answer
-busy-answer busy a = each (is_connected a.phase)
-  where
-    each : (z : Bool) → (cond z (record a { owes = record a.owes { busy = busy } }) a).owes.answer ≡ a.owes.answer
-    each true = refl
-    each false = refl
+busy-answer busy a = grind (arith)
 
 pub serving : (u : User) (turn : ℕ) (released : Bool) (a : Account) → Leaves a (served u turn released a).account
 serving u turn released a =
@@ -133,16 +116,13 @@ serving u turn released a =
     subst (Leaves a) (sym (served-alone u turn released a)) (record { phase = d.phase; answer = due; part_is = d.part_is; setup = d.setup })
 
 later-spoken : (release : Bool) (a b : Account) → Speaks release a b → stage a.phase ≤ stage b.phase
-later-spoken release a b (Keeps_on e) = omega (arith, ap (λ (l : Ledger). stage l.phase) e)
-later-spoken release a b (Releases on role linked e k) = omega (arith, ap stage linked, ap (λ (l : Ledger). stage l.phase) e)
+later-spoken release a b x = grind (arith)
 
 same-spoken : (a b : Account) → Speaks false a b → stage b.phase ≡ stage a.phase
-same-spoken a b (Keeps_on e) = ap (λ (l : Ledger). stage l.phase) e
-same-spoken a b (Releases on role linked e k) = absurd (false≢true on)
+same-spoken a b x = grind (arith)
 
 pub linked-spoken : (release : Bool) (a b : Account) → Speaks release a b → 1 ≤ stage b.phase → 1 ≤ stage a.phase
-linked-spoken release a b (Keeps_on e) z = omega (arith, z, ap (λ (l : Ledger). stage l.phase) e)
-linked-spoken release a b (Releases on role linked e k) z = omega (arith, ap stage linked)
+linked-spoken release a b x z = grind (arith)
 
 met-spoken : (ts : List Turn) (t : Turn) (o a : Account) (release : Bool) (p b : Said) → Met ts o a → a.setup.role ≡ Answerer
     → Speaks release o p.account → Speaks false a b.account → Says o.phase o p → Says a.phase a b
@@ -163,36 +143,19 @@ met-spoken ts t o a release p b m role go ga to ta so sa =
     }
   where
     uas-by : (sent_is is_ua t.answ.sent ≡ true) ⊎ (any_sent is_ua Answerer ts ≡ true) → 1 ≤ stage a.phase
-    uas-by (inl z) = m.due (ta.ua (sym (ap (sent_is is_ua) sa) ∙ z))
-    uas-by (inr z) = m.uas z
+    uas-by x = grind (arith)
 
     froms-by : (sent_is is_counted t.orig.sent ≡ true) ⊎ (any_sent is_counted Originator ts ≡ true) → 1 ≤ stage p.account.phase
-    froms-by (inl z) = omega (arith, later-spoken release o p.account go, to.counted (sym (ap (sent_is is_counted) so) ∙ z))
-    froms-by (inr z) = omega (arith, later-spoken release o p.account go, m.froms z)
-
-    numbered-by : (is_originator a.setup.role || a.numbered) ≡ true → a.numbered ≡ true
-    numbered-by z = sym (ap (λ r. is_originator r || a.numbered) role) ∙ z
+    froms-by x = grind (arith)
 
     segments-by : (sent_is is_segment t.answ.sent ≡ true) ⊎ (any_sent is_segment Answerer ts ≡ true) → 1 ≤ stage o.phase
-    segments-by (inl z) = m.counted (numbered-by (ta.segment (sym (ap (sent_is is_segment) sa) ∙ z)))
-    segments-by (inr z) = m.segments z
+    segments-by x = grind (arith)
 
     discs-by : (sent_is is_disc t.orig.sent ≡ true) ⊎ (any_sent is_disc Originator ts ≡ true) → 2 ≤ stage p.account.phase
-    discs-by (inl z) = to.disc (sym (ap (sent_is is_disc) so) ∙ z)
-    discs-by (inr z) = omega (arith, later-spoken release o p.account go, m.discs z)
+    discs-by x = grind (arith)
 
 met-left : (ts : List Turn) (o a p b : Account) → Leaves o p → Leaves a b → Met ts o a → Met ts p b
-met-left ts o a p b l k m = record {
-  up = λ z. omega (arith, ap stage k.phase, m.up (omega (arith, ap stage l.phase, z)));
-  uas = λ z. omega (arith, ap stage k.phase, m.uas z);
-  due = λ z. omega (arith, ap stage k.phase, m.due (ap owes_ua (sym k.answer) ∙ z));
-  counted = λ z. omega (arith, ap stage l.phase, m.counted (sym (ap (λ (x : Part). x.numbered) k.part_is) ∙ z));
-  froms = λ z. omega (arith, ap stage l.phase, m.froms z);
-  segments = λ z. omega (arith, ap stage l.phase, m.segments z);
-  discs = λ z. omega (arith, ap stage l.phase, m.discs z);
-  hung = λ z. omega (arith, ap stage l.phase, m.hung (omega (arith, ap stage k.phase, z)));
-  never = λ z. m.never (omega (arith, ap stage k.phase, z));
-}
+met-left ts o a p b l k m = grind (arith)
 
 pub met-mid : (reads : ReadsAllowed) (keeps : KeepsTaken) (link : Link) (delay : Role → ℕ) (ts : List Turn) (before : Accounts) (t : Turn)
     (mid : Accounts) → MayPlay link.orig.setup link.answ.setup → RunOf link ts before → Met ts before.orig before.answ → Carries delay ts t
@@ -243,5 +206,4 @@ met-run reads keeps link delay p (t ∷ ts) ends c h =
     (subst (λ (x : Account). Met (t ∷ ts) ko.said.account x) (sym ka.after_is) m)
   where
     role-of : (e : Accounts) (x y : Account) → e.answ ≡ x → Speaks false y x → e.answ.setup.role ≡ Answerer → y.setup.role ≡ Answerer
-    role-of e x y q (Keeps_on z) w = sym (ap (λ (l : Ledger). l.books.setup.role) z) ∙ sym (ap (λ (v : Account). v.setup.role) q) ∙ w
-    role-of e x y q (Releases on r linked z n) w = absurd (false≢true on)
+    role-of e x y q v w = grind (arith)

@@ -1,19 +1,14 @@
 -- What an end keeps of its books as it hears and speaks.
-use Rattle.std.proofs.Common.{◌≡◌, ◌≢◌, ◌⊎◌, inl, inr, ℕ, ◌+◌, ◌%◌, ◌≤◌, ◌&&◌, Bool, true, false, cond, nat_eq, List, [], ◌∷◌, ◌++◌, length}
-use Rattle.std.proofs.Common.{arith, lit≤, refl, sym, ◌∙◌, ap, subst, Option, Some, None, Ok}
+use Rattle.std.proofs.Common.{◌≡◌, ◌≢◌, ◌⊎◌, inl, inr, ℕ, ◌≤◌, Bool, false, List, [], ◌∷◌, ◌++◌, length, arith, refl, sym, ◌∙◌, ap, subst}
+use Rattle.std.proofs.Common.{Option, Some, None, Ok}
 use Rattle.link_account.proofs.Names.{false≢true, append-nil, is_connected, Role, Originator, Answerer, Offer, Terms, agree, IsAllowed}
-use Rattle.link_account.proofs.Names.{ReadsAllowed}
-use Rattle.link_account.proofs.Names.{Outgoing, Incoming, after_take, after_kind, kind_of, offset, KeepsTaken, Took, InOrder}
-use Rattle.link_account.proofs.Names.{OwnBreaks, waits, after_answer, Arrived, Account, hear, on_nothing, owing, trying}
-use Rattle.link_account.proofs.Names.{is_originator}
-use Rattle.link_run.proofs.Names.{Setup, Phase, Detecting, Negotiating, Connected, Releasing, Closed}
+use Rattle.link_account.proofs.Names.{ReadsAllowed, Outgoing, Incoming, after_take, after_kind, kind_of, offset, KeepsTaken, Took}
+use Rattle.link_account.proofs.Names.{OwnBreaks, after_answer, Arrived, Account, hear, on_nothing, owing, trying, is_originator}
+use Rattle.link_run.proofs.Names.{Closed, Connected, Negotiating, NumberKeeps, Phase, Releasing, Setup, TheirBreaks, acked-keeps}
+use Rattle.link_run.proofs.Names.{acked_back-keeps, after_break, connected, gives, has_begun, numbered_with, paused-keeps, resumed-keeps}
+use Rattle.link_run.proofs.Names.{size_for, window_for, with_given}
 use Rattle.xid_params.specs.Terms.{default_offer}
-use Rattle.break_signals.specs.Breaks.{TheirBreaks, with_given, gives, after_break}
-use Rattle.link_account.specs.Account.{size_for, window_for}
-use Rattle.link_account.specs.Laws.{has_begun}
-use Rattle.link_account.specs.Hear.{connected}
-use Rattle.link_account.proofs.HearWays.{NumberKeeps, numbered_with, acked-keeps, acked_back-keeps, resumed-keeps, paused-keeps, Ways}
-use Rattle.link_account.proofs.HearWays.{by-ways}
+use Rattle.link_account.proofs.HearWays.{Ways, by-ways}
 use Rattle.lapm_sender.specs.Outgoing as outgoing
 use Rattle.lapm_receiver.specs.Incoming as incoming
 use Rattle.link_account.specs.declared.answer.Answer.TheVariants as answers
@@ -45,22 +40,16 @@ stage Closed = 3
 stage p = 0
 
 pub stage-high : (p : Phase) → stage p ≤ 3
-stage-high Detecting = omega arith
-stage-high p = omega arith
+stage-high p = grind (arith)
 
 pub linked-phase : (p : Phase) → stage p ≡ 1 → p ≡ Connected
-linked-phase Connected e = refl
-linked-phase p e = absurd (omega (arith, e))
+linked-phase p e = grind (arith)
 
 pub not-begun : (p : Phase) → stage p ≡ 0 → has_begun p ≡ false
-not-begun Connected e = absurd (omega (arith, e))
-not-begun Releasing e = absurd (omega (arith, e))
-not-begun Closed e = absurd (omega (arith, e))
-not-begun p e = refl
+not-begun p e = grind (arith)
 
 pub unlinked-stage : (p : Phase) → is_connected p ≡ false → stage p ≢ 1
-unlinked-stage Connected e = absurd (false≢true (sym e))
-unlinked-stage p e = λ z. omega (arith, z)
+unlinked-stage p e = grind (arith)
 
 abbrev pub AreTerms : Terms → Type 0
 AreTerms t = (1 ≤ t.len_o) × (1 ≤ t.len_a)
@@ -149,16 +138,7 @@ agreed : (o a : Offer) → IsAllowed o → IsAllowed a → AreTerms (agree o a)
 agreed o a h k = (omega (arith, h.tx_len_low, k.rx_len_low), omega (arith, k.tx_len_low, h.rx_len_low))
 
 allowed-default : IsAllowed default_offer
-allowed-default = record {
-  tx_len_low = lit≤ tt;
-  tx_len_high = lit≤ tt;
-  rx_len_low = lit≤ tt;
-  rx_len_high = lit≤ tt;
-  tx_window_low = lit≤ tt;
-  tx_window_high = lit≤ tt;
-  rx_window_low = lit≤ tt;
-  rx_window_high = lit≤ tt;
-}
+allowed-default = grind (arith)
 
 enters : (turn : ℕ) (a b : Account) → stage a.phase ≡ 0 → b.setup ≡ a.setup → b.own_breaks ≡ a.own_breaks → b.their_breaks ≡ a.their_breaks
     → b.breaks_told ≡ a.breaks_told → (IsAllowed a.setup.offer → AreTerms a.terms → AreTerms b.terms) → (f : Account → Account)
@@ -201,8 +181,7 @@ numbered a new timer reply urgent k = same a (numbered_with a new a.incoming tim
     (out-books a new.pieces new.ended k.pieces k.ended) (k.size, k.high) refl refl refl (λ o t. t)
 
 kind-given : (kind : Took) (o : ℕ) (info : List ℕ) (i : Incoming) → (after_kind kind o info i).given ≡ i.given
-kind-given InOrder o info i = refl
-kind-given p o info i = refl
+kind-given p o info i = grind (arith)
 
 take-books : (a : Account) (ps : List (List ℕ)) (e : Bool) (g : ℕ) → ps ≡ a.outgoing.pieces → e ≡ a.outgoing.ended → g ≡ a.incoming.given
     → record { setup = a.setup; pieces = ps; ended = e; given = g; told = a.breaks_told; lengths = a.own_breaks.lengths } ≡ books a
@@ -231,11 +210,7 @@ segment keeps ns info a new timer reply urgent e k =
     })
 
 answer-lengths : (turn number : ℕ) (b : OwnBreaks) → (after_answer turn number b).lengths ≡ b.lengths
-answer-lengths turn number b = go (waits b && nat_eq number (b.answered % 2))
-  where
-    go : (c : Bool) → (cond c (record b { answered = b.answered + 1; brk = false; count = 0; rest = turn + 8 }) b).lengths ≡ b.lengths
-    go true = refl
-    go false = refl
+answer-lengths turn number b = grind (arith)
 
 given-more : (o : Option ℕ) (lengths : List ℕ) → (more : List ℕ) × (with_given o lengths ≡ lengths ++ more) × (length more ≤ 1)
 given-more None lengths = ([], sym (append-nil lengths), omega arith)

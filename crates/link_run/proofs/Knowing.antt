@@ -1,16 +1,13 @@
 -- What is known of both ends by the frames that passed: who has heard an XID frame has agreed, and who has heard a UA or a SABME is
 -- Connected.
 use Rattle.std.proofs.Common.{inl, inr, ◌≡◌, ◌≢◌, ℕ, zero, suc, ◌-◌, ◌≤◌, ◌||◌, Bool, true, false, cond, nat_le, List, [], ◌∷◌, arith, refl}
-use Rattle.std.proofs.Common.{sym, ◌∙◌, ap, subst, Option, Some, None, Result, Ok, Err, slice_get}
+use Rattle.std.proofs.Common.{sym, ◌∙◌, ap, Option, Some, None, Result, Ok, Err, slice_get}
 use Rattle.link_account.proofs.Names.{false≢true, Role, Originator, Answerer, of, Frame, I, Rr, Rnr, Rej, Srej, Sabme, Disc, Ua, Xid, Terms}
-use Rattle.link_account.proofs.Names.{agree, offer_in, written, Arrived, Sent, Heard, Nothing, Passed, Lost, Chance, LinkFault}
-use Rattle.link_account.proofs.Names.{is_originator, Offer, Account, hear, on_frame, without_adp, arrives}
-use Rattle.link_run.proofs.Names.{Setup, Phase, Detecting, Negotiating, Establishing, Connected, Releasing, Closed, Answer, Spoken, Turn}
-use Rattle.link_run.proofs.Names.{arrival, sent_in, sent_ago, Crosses}
-use Rattle.link_account.specs.Account.{first_terms}
-use Rattle.link_account.specs.Hear.{on_detecting, on_negotiating, on_establishing, on_xid_command, on_xid_response}
-use Rattle.link_account.proofs.HearWays.{ConnectedWays, EarlyWays, by-ways, numbers-alike}
-use Rattle.link_run.specs.Overheard.{passes_in, is_xid, opens}
+use Rattle.link_account.proofs.Names.{agree, offer_in, written, Arrived, Sent, Heard, LinkFault, is_originator, Offer, Account, hear}
+use Rattle.link_account.proofs.Names.{without_adp, arrives}
+use Rattle.link_run.proofs.Names.{Answer, Closed, Connected, ConnectedWays, Crosses, Detecting, EarlyWays, Establishing, Negotiating, Phase}
+use Rattle.link_run.proofs.Names.{Releasing, Setup, Spoken, Turn, arrival, first_terms, is_xid, opens, passes_in, sent_ago, sent_in}
+use Rattle.link_account.proofs.HearWays.{by-ways}
 use Rattle.link_run.proofs.Meeting.{brings}
 use Rattle.lapm_frames.specs.declared.arrived.Arrived.TheVariants as arrivals
 use Rattle.lapm_frames.specs.declared.sent.Sent.TheVariants as slots
@@ -56,15 +53,7 @@ OnArrived P (arrivals.Pattern seen) = Unit {0}
 OnArrived P (arrivals.Frame frame) = P frame
 
 sent-weaker : (P Q : Frame → Type 0) → ((frame : Frame) → P frame → Q frame) → (o : Option Spoken) → IfSent P o → IfSent Q o
-sent-weaker P Q f None h = tt
-sent-weaker P Q f (Some slot) h = go slot.sent h
-  where
-    go : (s : Sent) → OnSent P s → OnSent Q s
-    go slots.Mark k = tt
-    go slots.Odp k = tt
-    go slots.Adp k = tt
-    go slots.Flags k = tt
-    go (slots.Frame frame) k = f frame k
+sent-weaker P Q f o h = grind (arith)
 
 pub all-weaker : (P Q : Frame → Type 0) → ((frame : Frame) → P frame → Q frame) → (role : Role) (ts : List Turn) → AllSent P role ts
     → AllSent Q role ts
@@ -77,18 +66,10 @@ ago-all P role zero (t ∷ ts) h = h.0
 ago-all P role (suc k) (t ∷ ts) h = ago-all P role k ts h.1
 
 on-arrives : (P : Frame → Type 0) (s : Sent) → OnSent P s → OnArrived P (arrives s)
-on-arrives P slots.Mark h = tt
-on-arrives P slots.Odp h = tt
-on-arrives P slots.Adp h = tt
-on-arrives P slots.Flags h = tt
-on-arrives P (slots.Frame frame) h = h
+on-arrives P s h = grind (arith)
 
 brought-all : (P : Frame → Type 0) (o : Option Spoken) (h : Heard) → Crosses o h → IfSent P o → OnArrived P (arrival h)
-brought-all P o Nothing c k = tt
-brought-all P o (Lost s) c k = tt
-brought-all P o Chance c k = tt
-brought-all P None (Passed s) c k = absurd c
-brought-all P (Some slot) (Passed s) c k = subst (λ z. OnArrived P (arrives z)) (sym c.0) (on-arrives P slot.sent k)
+brought-all P o h c k = grind (arith, on-arrives)
 
 -- what arrives was sent
 pub came-all : (P : Frame → Type 0) (delay : Role → ℕ) (role : Role) (ts : List Turn) (h : Heard) → AllSent P role ts
@@ -96,14 +77,7 @@ pub came-all : (P : Frame → Type 0) (delay : Role → ℕ) (role : Role) (ts :
 came-all P delay role ts h k c = brought-all P (sent_ago (delay role) role ts) h c (ago-all P role (delay role - 1) ts k)
 
 pub passed-brings : (is : Frame → Bool) (h : Heard) → passes_in is h ≡ brings is (arrival h)
-passed-brings is Nothing = refl
-passed-brings is (Lost s) = refl
-passed-brings is Chance = refl
-passed-brings is (Passed slots.Mark) = refl
-passed-brings is (Passed slots.Odp) = refl
-passed-brings is (Passed slots.Adp) = refl
-passed-brings is (Passed slots.Flags) = refl
-passed-brings is (Passed (slots.Frame frame)) = refl
+passed-brings is x = grind (arith)
 
 -- what the originator sends, once it is as far as r
 abbrev pub SentO : Setup → ℕ → Frame → Type 0
@@ -129,25 +103,10 @@ SentA sa r m (Srej command nr pf) = 2 ≤ r
 SentA sa r m frame = Unit {0}
 
 pub sent_o-later : (so : Setup) (r s : ℕ) → r ≤ s → (frame : Frame) → SentO so r frame → SentO so s frame
-sent_o-later so r s l (Xid command pf info) h = (h.0, h.1, omega (arith, l, h.2))
-sent_o-later so r s l (Sabme pf) h = (h.0, omega (arith, l, h.1))
-sent_o-later so r s l (Disc pf) h = (h.0, omega (arith, l, h.1))
-sent_o-later so r s l (I ns nr pf info) h = omega (arith, l, h)
-sent_o-later so r s l (Rr command nr pf) h = omega (arith, l, h)
-sent_o-later so r s l (Rnr command nr pf) h = omega (arith, l, h)
-sent_o-later so r s l (Rej command nr pf) h = omega (arith, l, h)
-sent_o-later so r s l (Srej command nr pf) h = omega (arith, l, h)
-sent_o-later so r s l frame h = tt
+sent_o-later so r s l frame h = grind (arith)
 
 pub sent_a-later : (sa : Setup) (r m s n : ℕ) → r ≤ s → m ≤ n → (frame : Frame) → SentA sa r m frame → SentA sa s n frame
-sent_a-later sa r m s n l k (Xid command pf info) h = (h.0, h.1, omega (arith, l, h.2), omega (arith, k, h.3))
-sent_a-later sa r m s n l k (Ua pf) h = (h.0, omega (arith, l, h.1))
-sent_a-later sa r m s n l k (I ns nr pf info) h = omega (arith, l, h)
-sent_a-later sa r m s n l k (Rr command nr pf) h = omega (arith, l, h)
-sent_a-later sa r m s n l k (Rnr command nr pf) h = omega (arith, l, h)
-sent_a-later sa r m s n l k (Rej command nr pf) h = omega (arith, l, h)
-sent_a-later sa r m s n l k (Srej command nr pf) h = omega (arith, l, h)
-sent_a-later sa r m s n l k frame h = tt
+sent_a-later sa r m s n l k frame h = grind (arith)
 
 -- the answers that may be due
 abbrev pub DueO : Option Answer → Type 0
@@ -165,25 +124,13 @@ DueA r m (Some (answers.Ua pf)) = (pf ≡ true) × (2 ≤ r)
 DueA r m (Some (answers.Dm pf)) = Unit {0}
 
 pub due_a-later : (r m s n : ℕ) → r ≤ s → m ≤ n → (o : Option Answer) → DueA r m o → DueA s n o
-due_a-later r m s n l k None h = tt
-due_a-later r m s n l k (Some answers.Adp) h = tt
-due_a-later r m s n l k (Some answers.Xid) h = (omega (arith, l, h.0), omega (arith, k, h.1))
-due_a-later r m s n l k (Some (answers.Ua pf)) h = (h.0, omega (arith, l, h.1))
-due_a-later r m s n l k (Some (answers.Dm pf)) h = tt
+due_a-later r m s n l k x h = grind (arith)
 
 due_o-without : (o : Option Answer) → DueO o → DueO (without_adp o)
-due_o-without None h = tt
-due_o-without (Some answers.Adp) h = tt
-due_o-without (Some answers.Xid) h = h
-due_o-without (Some (answers.Ua pf)) h = tt
-due_o-without (Some (answers.Dm pf)) h = tt
+due_o-without o h = grind (arith)
 
 due_a-without : (r m : ℕ) (o : Option Answer) → DueA r m o → DueA r m (without_adp o)
-due_a-without r m None h = tt
-due_a-without r m (Some answers.Adp) h = tt
-due_a-without r m (Some answers.Xid) h = h
-due_a-without r m (Some (answers.Ua pf)) h = h
-due_a-without r m (Some (answers.Dm pf)) h = tt
+due_a-without r m o h = grind (arith)
 
 abbrev pub terms_of : Setup → Setup → Terms
 terms_of so sa = agree so.offer sa.offer
@@ -194,8 +141,7 @@ pub record Reads (so sa : Setup) : Type 0 where
   pub answ : offer_in (written sa.offer) ≡ Some sa.offer
 
 or-late : (b n : Bool) → n ≡ true → n ≡ (b || n)
-or-late true n e = e
-or-late false n e = refl
+or-late x n e = grind (arith)
 
 abbrev rank_of : ℕ → Result Account LinkFault → ℕ
 rank_of n (Ok b) = rank b.phase
@@ -238,15 +184,7 @@ module _ (so sa : Setup) (reads : Reads so sa) (m turn : ℕ) (a : Account) (set
       → (2 ≤ rank q → 2 ≤ rank p) → nat_le 2 (rank q) ≡ (brings is_xid x || nat_le 2 (rank p))
       → nat_le 3 (rank q) ≡ (brings (opens Originator) x || nat_le 3 (rank p))
       → AfterO so sa m a.phase x (record (course a) { phase = q })
-  moves-o x p q e l two more y z = record {
-    later = omega (arith, ap rank e, l);
-    due = due;
-    terms = terms ∙ (ap (λ r. cond (nat_le 2 (rank r)) (terms_of so sa) first_terms) e
-        ∙ ap (λ b. cond b (terms_of so sa) first_terms) (sym two));
-    met = λ k. met (omega (arith, ap rank e, more k));
-    xid = y ∙ ap (λ r. brings is_xid x || nat_le 2 (rank r)) (sym e);
-    opened = z ∙ ap (λ r. brings (opens Originator) x || nat_le 3 (rank r)) (sym e);
-  }
+  moves-o x p q e l two more y z = grind (arith)
 
   -- what changes nothing is no frame by which it would come farther
   ignored-o : (x : Arrived) → hear turn x a ≡ Ok a → OnArrived (SentA sa (rank a.phase) m) x → AfterO so sa m a.phase x (course a)
@@ -259,38 +197,15 @@ module _ (so sa : Setup) (reads : Reads so sa) (m turn : ℕ) (a : Account) (set
       on (Xid command pf info) f k = stays-o _ _ due (by a.phase refl) refl
         where
           by : (p : Phase) → a.phase ≡ p → nat_le 2 (rank a.phase) ≡ true || nat_le 2 (rank a.phase)
-          by Detecting e = absurd (omega (arith, k.2, ap rank e))
-          by Negotiating e = absurd (not-ignored turn (arrivals.Frame (Xid command pf info)) a _ f
-              (ap (λ p. on_frame p (Xid command pf info) turn a) e
-              ∙ (ap (λ r. on_negotiating r (Xid command pf info) turn a) (ap (λ (s : Setup). s.role) setup ∙ role)
-              ∙ (ap (λ c. on_negotiating Originator (Xid c pf info) turn a) k.0
-              ∙ ap (λ o. Ok (on_xid_response o turn a)) (ap offer_in k.1 ∙ reads.answ)))) (λ z. omega (arith, z, ap rank e)))
-          by Establishing e = ap (λ q. nat_le 2 (rank q)) e
-          by Connected e = ap (λ q. nat_le 2 (rank q)) e
-          by Releasing e = ap (λ q. nat_le 2 (rank q)) e
-          by Closed e = ap (λ q. nat_le 2 (rank q)) e
+          by p e = grind (arith, not-ignored)
       on (Ua pf) f k = stays-o _ _ due refl (by a.phase refl)
         where
           by : (p : Phase) → a.phase ≡ p → nat_le 3 (rank a.phase) ≡ pf || nat_le 3 (rank a.phase)
-          by Detecting e = absurd (omega (arith, k.1, ap rank e))
-          by Negotiating e = absurd (omega (arith, k.1, ap rank e))
-          by Establishing e = absurd (not-ignored turn (arrivals.Frame (Ua pf)) a _ f
-              (ap (λ p. on_frame p (Ua pf) turn a) e ∙ ap (λ b. on_establishing (Ua b) turn a) k.0) (λ z. omega (arith, z, ap rank e)))
-          by Connected e = or-late _ _ (ap (λ q. nat_le 3 (rank q)) e)
-          by Releasing e = or-late _ _ (ap (λ q. nat_le 3 (rank q)) e)
-          by Closed e = or-late _ _ (ap (λ q. nat_le 3 (rank q)) e)
+          by p e = grind (arith, not-ignored, or-late)
       on frame f k = stays-o _ _ due refl refl
 
   ways-o : a.phase ≡ Connected → ConnectedWays HearsO turn a
-  ways-o p = record {
-    pattern = λ seen k. linked-o p _ _ due;
-    plain = λ frame f k. linked-o p _ _ due;
-    numbers = numbers-alike HearsO turn a (λ frame new incoming timer reply urgent n k. linked-o p _ _ due);
-    sabme = λ pf n r k. linked-o p _ _ tt;
-    disc = λ pf r. never-o r;
-    brk = λ command pf info number length_octet q k. linked-o p _ _ due;
-    brkack = λ command pf info number length_octet q k. linked-o p _ _ due;
-  }
+  ways-o p = grind (arith)
 
   early-o : EarlyWays HearsO turn a
   early-o = record {
@@ -354,16 +269,7 @@ module _ (so sa : Setup) (reads : Reads so sa) (r turn : ℕ) (a : Account) (set
       → nat_le 1 (rank a.phase) ≡ (brings is_xid x || nat_le 1 (rank a.phase))
       → nat_le 3 (rank a.phase) ≡ (brings (opens Answerer) x || nat_le 3 (rank a.phase))
       → AfterA so sa r a.phase x (record (course a) { answer = answer })
-  stays-a x answer d y z = record {
-    later = omega arith;
-    due = d;
-    terms = terms;
-    never_two = two;
-    never_four = four;
-    linked = late;
-    xid = y;
-    opened = z;
-  }
+  stays-a x answer d y z = grind (arith)
 
   linked-a : a.phase ≡ Connected → (x : Arrived) (answer : Option Answer) → DueA r (rank a.phase) answer
       → AfterA so sa r a.phase x (record (course a) { answer = answer })
@@ -375,17 +281,7 @@ module _ (so sa : Setup) (reads : Reads so sa) (r turn : ℕ) (a : Account) (set
       → DueA r (rank q) d → 2 ≤ r → nat_le 1 (rank q) ≡ nat_le 1 (rank p) → nat_le 1 (rank q) ≡ (brings is_xid x || nat_le 1 (rank p))
       → nat_le 3 (rank q) ≡ (brings (opens Answerer) x || nat_le 3 (rank p))
       → AfterA so sa r a.phase x (record (course a) { phase = q; answer = d })
-  moves-a x p q d e l one three not k s t y z = record {
-    later = omega (arith, ap rank e, l);
-    due = k;
-    terms = terms ∙ (ap (λ v. cond (nat_le 1 (rank v)) (terms_of so sa) first_terms) e
-        ∙ ap (λ b. cond b (terms_of so sa) first_terms) (sym t));
-    never_two = λ v. omega (arith, v, three);
-    never_four = not;
-    linked = λ v. s;
-    xid = y ∙ ap (λ v. brings is_xid x || nat_le 1 (rank v)) (sym e);
-    opened = z ∙ ap (λ v. brings (opens Answerer) x || nat_le 3 (rank v)) (sym e);
-  }
+  moves-a x p q d e l one three not k s t y z = grind (arith)
 
   -- what changes nothing is no frame by which it would come farther
   ignored-a : (x : Arrived) → hear turn x a ≡ Ok a → OnArrived (SentO so r) x → AfterA so sa r a.phase x (course a)
@@ -398,40 +294,15 @@ module _ (so sa : Setup) (reads : Reads so sa) (r turn : ℕ) (a : Account) (set
       on (Xid command pf info) f k = stays-a _ _ due (by a.phase refl) refl
         where
           by : (p : Phase) → a.phase ≡ p → nat_le 1 (rank a.phase) ≡ true || nat_le 1 (rank a.phase)
-          by Detecting e = absurd (not-ignored turn (arrivals.Frame (Xid command pf info)) a _ f
-              (ap (λ p. on_frame p (Xid command pf info) turn a) e
-              ∙ (ap (λ v. on_detecting v (Xid command pf info) turn a) role-is
-              ∙ (ap (λ c. on_detecting Answerer (Xid c pf info) turn a) k.0
-              ∙ ap (λ o. Ok (on_xid_command o a)) (ap offer_in k.1 ∙ reads.orig)))) (λ z. omega (arith, z, ap rank e)))
-          by Negotiating e = ap (λ q. nat_le 1 (rank q)) e
-          by Establishing e = ap (λ q. nat_le 1 (rank q)) e
-          by Connected e = ap (λ q. nat_le 1 (rank q)) e
-          by Releasing e = ap (λ q. nat_le 1 (rank q)) e
-          by Closed e = ap (λ q. nat_le 1 (rank q)) e
+          by p e = grind (arith, not-ignored, role-is)
       on (Sabme pf) f k = stays-a _ _ due refl (by a.phase refl)
         where
           by : (p : Phase) → a.phase ≡ p → nat_le 3 (rank a.phase) ≡ true || nat_le 3 (rank a.phase)
-          by Detecting e = absurd (omega (arith, met k.1, ap rank e))
-          by Negotiating e = absurd (not-ignored turn (arrivals.Frame (Sabme pf)) a _ f
-              (ap (λ p. on_frame p (Sabme pf) turn a) e ∙ ap (λ v. on_negotiating v (Sabme pf) turn a) role-is)
-              (λ z. omega (arith, z, ap rank e)))
-          by Establishing e = absurd (two (ap rank e))
-          by Connected e = ap (λ q. nat_le 3 (rank q)) e
-          by Releasing e = ap (λ q. nat_le 3 (rank q)) e
-          by Closed e = ap (λ q. nat_le 3 (rank q)) e
+          by p e = grind (arith, met, not-ignored, role-is)
       on frame f k = stays-a _ _ due refl refl
 
   ways-a : a.phase ≡ Connected → ConnectedWays HearsA turn a
-  ways-a p = record {
-    pattern = λ seen k. linked-a p _ _ due;
-    plain = λ frame f k. linked-a p _ _ due;
-    numbers = numbers-alike HearsA turn a (λ frame new incoming timer reply urgent n k. linked-a p _ _ due);
-    sabme = λ pf n v k. linked-a p _ _ k;
-    disc = λ pf v k. moves-a _ Connected Closed _ p (omega arith) (omega arith) (omega arith) (λ z. omega (arith, z))
-        (k.0, late (omega (arith, ap rank p))) (late (omega (arith, ap rank p))) refl refl refl;
-    brk = λ command pf info number length_octet q k. linked-a p _ _ due;
-    brkack = λ command pf info number length_octet q k. linked-a p _ _ due;
-  }
+  ways-a p = grind (arith)
 
   early-a : EarlyWays HearsA turn a
   early-a = record {

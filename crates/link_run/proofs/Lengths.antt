@@ -1,12 +1,10 @@
 -- How many octets of information the frames have that an end says: those of a segment that it was offered, or few.
 use Rattle.std.proofs.Common.{◌≡◌, ℕ, zero, suc, ◌≤◌, Bool, true, false, List, [], ◌∷◌, length, slice_index_or, arith, Ok}
-use Rattle.link_account.proofs.Names.{Frame, BreakWord, Brk, Ack, Account, Said, speak, frame_for, ready_frame}
-use Rattle.link_run.proofs.Names.{Answer}
+use Rattle.link_account.proofs.Names.{Frame, BreakWord, Account, Said, speak, frame_for, ready_frame}
+use Rattle.link_run.proofs.Names.{Answer, Steps, Ways, by-ways, linked-alike, tries-alike}
 use Rattle.lapm_frames.specs.Frame.{information_of}
 use Rattle.break_signals.specs.Words.{spelled}
 use Rattle.link_run.proofs.Knowing.{OnSent}
-use Rattle.link_account.proofs.SpeakWays.{Steps, Ways, by-ways, linked-alike, tries-alike}
-use Rattle.link_account.specs.declared.answer.Answer.TheVariants as answers
 
 -- lists of at most so many octets
 abbrev pub AllShort : ℕ → List (List ℕ) → Type 0
@@ -27,18 +25,13 @@ module _ (n : ℕ) (l : 23 ≤ n) where
   IsShort said = OnSent (ShortFrame n) said.sent
 
   answer : (d : Answer) (a : Account) → OnSent (ShortFrame n) (frame_for d a)
-  answer answers.Adp a = tt
-  answer answers.Xid a = l
-  answer (answers.Ua pf) a = omega arith
-  answer (answers.Dm pf) a = omega arith
+  answer d a = grind (arith)
 
   ready : (busy command pf : Bool) (nr : ℕ) → ShortFrame n (ready_frame busy command nr pf)
-  ready true command pf nr = omega arith
-  ready false command pf nr = omega arith
+  ready busy command pf nr = grind (arith)
 
   word : (w : BreakWord) → length (spelled w) ≤ n
-  word (Brk number length_octet) = omega (arith, l)
-  word (Ack number length_octet) = omega (arith, l)
+  word x = grind (arith)
 
   steps : (turn : ℕ) (special : Bool) (a : Account) → AllShort n a.outgoing.pieces → Steps IsShort turn special a
   steps turn special a h = record {

@@ -1,10 +1,7 @@
 -- A run of one end counts its user's file as far as it was read, and its end keeps its setup.
-use Rattle.std.proofs.Common.{◌≡◌, ℕ, List, [], ◌∷◌, length, sym, ◌∙◌, ap, subst, false}
-use Rattle.link_account.proofs.Names.{Role, Originator, Answerer, of, IsAllowed, ReadsAllowed, KeepsTaken, Account, speak}
-use Rattle.link_run.proofs.Names.{has_finished, Link}
-use Rattle.link_run.specs.End.{Served, speaks_alone}
-use Rattle.link_run.specs.Run.{Party}
-use Rattle.link_run.specs.Reading.{IsOffered, SameSoFar, with_file}
+use Rattle.std.proofs.Common.{arith, ◌≡◌, ℕ, List, [], ◌∷◌, length, sym, ◌∙◌, ap, subst, false}
+use Rattle.link_account.proofs.Names.{Role, Originator, of, IsAllowed, ReadsAllowed, KeepsTaken, Account, speak}
+use Rattle.link_run.proofs.Names.{IsOffered, Link, Party, SameSoFar, Served, has_finished, speaks_alone, with_file}
 use Rattle.link_run.specs.Alone.{LoneTurn, LoneRun, LoneGoing, lone_served, LoneRunsByWhatIsReadOn, LoneRunsKeepTheirSetup}
 use Rattle.link_run.proofs.Keeping.{GoesOn, hears}
 use Rattle.link_run.proofs.Speaking.{speaks}
@@ -39,8 +36,7 @@ lone-cut : ReadsAllowed → KeepsTaken → (party : Party) → IsAllowed party.s
 lone-cut reads keeps party allowed ts a h = kept-alone reads keeps (HasCut (twice party)) party (cuts-kept (twice party) both) ts a h
   where
     both : (r : Role) → IsAllowed (of r (twice party)).setup.offer
-    both Originator = allowed
-    both Answerer = allowed
+    both r = grind (arith)
 
 by-what-was-read : ReadsAllowed → KeepsTaken → (party : Party) (file others : List ℕ) (ts : List LoneTurn) (a : Account)
     → IsAllowed party.setup.offer

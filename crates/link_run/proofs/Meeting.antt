@@ -1,13 +1,9 @@
 -- What hearing and speaking tell of UA, of DISC and of frames with numbers: who sends them, and in which phase.
 use Rattle.std.proofs.Common.{◌≡◌, ◌⊎◌, inl, inr, ℕ, ◌≤◌, Bool, true, false, arith, refl, sym, ◌∙◌, ap, subst, Option, Some, None, Ok}
-use Rattle.link_account.proofs.Names.{false≢true, Role, Originator, Answerer, Frame, I, Rr, Rnr, Rej, Srej, Sabme, Disc, Ua, Ui, Xid}
-use Rattle.link_account.proofs.Names.{Incoming, after_take, Arrived, Sent, Account, is_connected, hear, on_nothing, without_adp, owing}
-use Rattle.link_account.proofs.Names.{trying, arrives, is_originator}
-use Rattle.link_run.proofs.Names.{Phase, Detecting, Negotiating, Establishing, Connected, Releasing, Closed, Answer}
-use Rattle.link_account.specs.Hear.{connected}
-use Rattle.link_account.proofs.HearWays.{Plain, IsUa, IsXid, IsTest, IsNoWord, ConnectedWays, EarlyWays, by-linked, by-early}
+use Rattle.link_account.proofs.Names.{Originator, Frame, I, Rr, Rnr, Rej, Srej, Sabme, Disc, Ua, Ui, Incoming, after_take, Arrived, Sent}
+use Rattle.link_account.proofs.Names.{Account, is_connected, hear, on_nothing, without_adp, owing}
+use Rattle.link_run.proofs.Names.{Answer, Connected, ConnectedWays, Phase, Plain, by-linked}
 use Rattle.link_run.proofs.Keeping.{stage}
-use Rattle.lapm_frames.specs.declared.seen.Seen.TheVariants as seen
 use Rattle.lapm_frames.specs.declared.arrived.Arrived.TheVariants as arrivals
 use Rattle.lapm_frames.specs.declared.sent.Sent.TheVariants as slots
 use Rattle.link_account.specs.declared.answer.Answer.TheVariants as answers
@@ -46,13 +42,6 @@ brings is arrivals.Nothing = false
 brings is (arrivals.Pattern seen) = false
 brings is (arrivals.Frame frame) = is frame
 
-pub brings-carried : (is : Frame → Bool) (s : Sent) → brings is (arrives s) ≡ carries is s
-brings-carried is slots.Mark = refl
-brings-carried is slots.Odp = refl
-brings-carried is slots.Adp = refl
-brings-carried is slots.Flags = refl
-brings-carried is (slots.Frame frame) = refl
-
 -- a UA is due
 abbrev pub owes_ua : Option Answer → Bool
 owes_ua None = false
@@ -81,43 +70,16 @@ stays-told : (p : Phase) (arrived : Arrived) (a b : Account) → stage b.phase �
     → (owes_ua b.owes.answer ≡ true → (owes_ua a.owes.answer ≡ true) ⊎ (1 ≤ stage b.phase))
     → (b.numbered ≡ true → (a.numbered ≡ true) ⊎ (brings is_counted arrived ≡ true)) → b.incoming ≡ received p arrived a.incoming
     → Told p arrived a b
-stays-told p arrived a b e owes numbered inc = record {
-  owes = owes;
-  entered = λ z l r. absurd (omega (arith, e, z, l));
-  numbered = numbered;
-  hung = λ l z. absurd (omega (arith, e, l, z));
-  incoming = inl inc;
-}
-
-enters-told : (p : Phase) (frame : Frame) (a b : Account) → stage p ≡ 0 → stage b.phase ≡ 1 → b.numbered ≡ a.numbered
-    → (a.setup.role ≡ Originator → is_ua frame ≡ true) → Told p (arrivals.Frame frame) a b
-enters-told p frame a b was is n role = record {
-  owes = λ z. inr (omega (arith, is));
-  entered = λ z l r. role r;
-  numbered = λ z. inl (sym n ∙ z);
-  hung = λ l z. absurd (omega (arith, is, z));
-  incoming = inr (was, omega (arith, is));
-}
-
-not-originator : {r : Role} → r ≡ Answerer → r ≡ Originator → ⊥
-not-originator a o = false≢true (ap is_originator (sym a ∙ o))
+stays-told p arrived a b e owes numbered inc = grind (arith)
 
 without-ua : (o : Option Answer) → owes_ua (without_adp o) ≡ true → owes_ua o ≡ true
-without-ua None e = e
-without-ua (Some answers.Adp) e = e
-without-ua (Some answers.Xid) e = e
-without-ua (Some (answers.Ua pf)) e = e
-without-ua (Some (answers.Dm pf)) e = e
+without-ua x e = grind (arith)
 
 plain-received : (frame : Frame) (i : Incoming) → Plain frame → received Connected (arrivals.Frame frame) i ≡ i
-plain-received frame i (IsUa pf q) = ap (λ f. received Connected (arrivals.Frame f) i) q
-plain-received frame i (IsXid command pf info q) = ap (λ f. received Connected (arrivals.Frame f) i) q
-plain-received frame i (IsTest command pf info q) = ap (λ f. received Connected (arrivals.Frame f) i) q
-plain-received frame i (IsNoWord command pf info fault w q) = ap (λ f. received Connected (arrivals.Frame f) i) q
+plain-received frame i x = grind (arith)
 
 not-received : (p : Phase) (arrived : Arrived) (i : Incoming) → is_connected p ≡ false → received p arrived i ≡ i
-not-received Connected arrived i c = cc
-not-received p arrived i c = refl
+not-received p arrived i c = grind (arith)
 
 -- a Connected end
 module _ (turn : ℕ) (a : Account) (e : a.phase ≡ Connected) where
@@ -163,41 +125,9 @@ module _ (turn : ℕ) (a : Account) (c : is_connected a.phase ≡ false) where
   quiet arrived b e owes n i = stays-told a.phase arrived a b e (λ y. inl (owes y)) (λ z. inl (sym n ∙ z))
       (i ∙ sym (not-received a.phase arrived a.incoming c))
 
-  early-stage : (a.phase ≡ Detecting) ⊎ (a.phase ≡ Negotiating) → 0 ≡ stage a.phase
-  early-stage (inl p) = sym (ap stage p)
-  early-stage (inr p) = sym (ap stage p)
-
-  early-told : EarlyWays (told_in a.phase a) turn a
-  early-told = record {
-    ignores = λ x f. quiet x a refl (λ y. y) refl refl;
-    detects = λ p r. quiet (arrivals.Pattern seen.Adp) (trying Negotiating turn a) (sym (ap stage p)) (λ y. y) refl refl;
-    detected = λ p r. quiet (arrivals.Pattern seen.Odp) (owing answers.Adp a) refl (λ y. absurd (false≢true y)) refl refl;
-    xid = λ p r pf info offer f. quiet (arrivals.Frame (Xid true pf info)) _ (early-stage p) (λ y. absurd (false≢true y)) refl refl;
-    agrees = λ p r pf info offer f. quiet (arrivals.Frame (Xid false pf info)) _ (sym (ap stage p)) (λ y. y) refl refl;
-    sabme_first = λ p r pf. enters-told a.phase (Sabme pf) a _ (ap stage p) refl refl (λ o. absurd (not-originator r o));
-    sabme = λ p r pf. enters-told a.phase (Sabme pf) a _ (ap stage p) refl refl (λ o. absurd (not-originator r o));
-    ua = λ p. enters-told a.phase (Ua true) a (connected turn a) (ap stage p) refl refl (λ o. refl);
-    disc = λ p pf. quiet (arrivals.Frame (Disc pf)) (owing (answers.Dm pf) a) refl (λ y. absurd (false≢true y)) refl refl;
-    closes = λ p frame f. record {
-      owes = λ z. inl z;
-      entered = λ z. absurd (omega (arith, z, ap stage p));
-      numbered = λ z. inl z;
-      hung = λ l. absurd (omega (arith, l, ap stage p));
-      incoming = inl (sym (not-received a.phase (arrivals.Frame frame) a.incoming c));
-    };
-  }
-
-  told-early : (arrived : Arrived) (b : Account) → hear turn arrived a ≡ Ok b → Told a.phase arrived a b
-  told-early arrived b h = by-early (told_in a.phase a) turn a early-told
-      (quiet arrivals.Nothing (on_nothing a) refl (without-ua a.owes.answer) refl refl) arrived b c h
-
 pub is-told : (turn : ℕ) (arrived : Arrived) (a b : Account) → hear turn arrived a ≡ Ok b → Told a.phase arrived a b
 is-told turn arrived a b h = go a.phase refl
   where
     go : (p : Phase) → a.phase ≡ p → Told a.phase arrived a b
     go Connected e = subst (λ p. Told p arrived a b) (sym e) (told-linked turn a e arrived b h)
-    go Detecting e = told-early turn a (ap is_connected e) arrived b h
-    go Negotiating e = told-early turn a (ap is_connected e) arrived b h
-    go Establishing e = told-early turn a (ap is_connected e) arrived b h
-    go Releasing e = told-early turn a (ap is_connected e) arrived b h
-    go Closed e = told-early turn a (ap is_connected e) arrived b h
+    go p e = grind (arith)

@@ -1,25 +1,19 @@
 -- Which end breaks with which fault, and that each turn is made.
-use Rattle.std.proofs.Common.{◌≡◌, ℕ, Bool, true, false, List, length, refl, sym, ◌∙◌, ap, subst, Option, Some, None, Result, Ok, Err}
+use Rattle.std.proofs.Common.{arith, ◌≡◌, ℕ, Bool, true, false, List, length, refl, sym, ◌∙◌, ap, subst, Option, Some, None, Result, Ok}
+use Rattle.std.proofs.Common.{Err}
 use Rattle.link_account.proofs.Names.{false≢true, Role, Originator, Answerer, ReadsAllowed, KeepsTaken, LinkFault, NotDetected, Spent}
-use Rattle.link_account.proofs.Names.{Account, check_of, hear, Said, spent, speak, Heard, is_originator, other, of}
-use Rattle.link_run.proofs.Names.{Setup, is_closed, is_released, Link, Accounts, Turn, Spoken, spoken, arrival, served_at, said_at, Hears}
-use Rattle.link_run.proofs.Names.{Going, Done, Broken, sent_ago, Crosses}
+use Rattle.link_account.proofs.Names.{Account, check_of, hear, Said, speak, Heard, is_originator, other, of}
+use Rattle.link_run.proofs.Names.{Accounts, Broken, BrokenForWant, Crosses, Done, EachEndIsNamed, EachTurnIsMade, Going, HearingsAreWell}
+use Rattle.link_run.proofs.Names.{Hears, Link, MakesTurn, Setup, Speaks, Spoken, Turn, arrival, given_break, is_closed, is_released}
+use Rattle.link_run.proofs.Names.{said_at, sent_ago, served_at, spoken, why-broken}
 use Rattle.std.specs.Prelude.{is_ok}
 use Rattle.shared_terms.specs.declared.fault.LinkFault.TheVariants.{BadAck, PeerReset, PeerRefused}
-use Rattle.link_account.specs.Account.{given_break}
-use Rattle.link_account.proofs.SpeakWays.{Breaks, Undetected, Spends, why-broken}
-use Rattle.link_run.specs.Run.{Speaks}
-use Rattle.link_run.specs.Laws.{HearingsAreWell, BrokenForWant, EachEndIsNamed, MakesTurn, EachTurnIsMade}
 use Rattle.link_run.proofs.Ending.{HasSetup, setups-kept, kept-run, kept-heard}
 use Rattle.link_run.proofs.Joining.{serving}
 
 -- whoever breaks because it detected nothing is an originator
 undetected : (turn : ℕ) (release : Bool) (a : Account) → speak turn release a ≡ Err NotDetected → a.setup.role ≡ Originator
-undetected turn release a e = go NotDetected refl (why-broken turn release a NotDetected e)
-  where
-    go : (fault : LinkFault) → fault ≡ NotDetected → Breaks turn release a fault → a.setup.role ≡ Originator
-    go fault n (Undetected p r l f) = r
-    go fault n (Spends x f) = let wrong : NotDetected ≡ spent turn a = sym n ∙ f in cc
+undetected turn release a e = grind (arith, why-broken)
 
 pub each_end_is_named : ReadsAllowed → KeepsTaken → BrokenForWant → EachEndIsNamed
 each_end_is_named reads keeps want link ts before t mid role (Spent segment since) m h b = tt
@@ -49,18 +43,15 @@ Hear turn before heard mid = (role : Role) → hear turn (arrival (heard role)) 
 
 turn-hears : (turn : ℕ) (before mid : Accounts) (heard : Role → Heard) (sent : Role → Option Spoken) → Hear turn before heard mid
     → Hears turn before (turn_with before mid heard sent) mid
-turn-hears turn before mid heard sent h Originator = record { hears = h Originator; check_is = refl; given_is = refl }
-turn-hears turn before mid heard sent h Answerer = record { hears = h Answerer; check_is = refl; given_is = refl }
+turn-hears turn before mid heard sent h x = grind (arith)
 
 turn-heard : (before mid : Accounts) (heard : Role → Heard) (sent : Role → Option Spoken) (role : Role)
     → (of role (turn_with before mid heard sent)).heard ≡ heard role
-turn-heard before mid heard sent Originator = refl
-turn-heard before mid heard sent Answerer = refl
+turn-heard before mid heard sent x = grind (arith)
 
 turn-sent : (before mid : Accounts) (heard : Role → Heard) (sent : Role → Option Spoken) (role : Role)
     → (of role (turn_with before mid heard sent)).sent ≡ sent role
-turn-sent before mid heard sent Originator = refl
-turn-sent before mid heard sent Answerer = refl
+turn-sent before mid heard sent x = grind (arith)
 
 -- a turn in which nothing is sent
 abbrev none : Role → Option Spoken
@@ -128,8 +119,7 @@ hearing link ts ends heard (Ok o) (Ok a) h k x y =
     both : Hear (length ts) ends heard mid
     both Originator = h
     both Answerer = k
-hearing link ts ends heard (Ok o) (Err fault) h k x y = absurd (false≢true y)
-hearing link ts ends heard (Err fault) a h k x y = absurd (false≢true x)
+hearing link ts ends heard o a h k x y = grind (arith)
 
 pub each_turn_is_made : HearingsAreWell → EachTurnIsMade
 each_turn_is_made well link delay ts ends heard v c =

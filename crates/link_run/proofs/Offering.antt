@@ -1,21 +1,12 @@
 -- Pieces are offered until none is wanted.
-use Rattle.std.proofs.Common.{◌≡◌, ℕ, zero, suc, ◌+◌, ◌≤◌, ◌&&◌, not, Bool, true, false, cond, nat_lt, List, [], ◌∷◌, length, arith}
-use Rattle.std.proofs.Common.{length-append, refl, sym, ◌∙◌, ap, Option, Some, None}
-use Rattle.link_account.proofs.Names.{false≢true, nat_tests, Account, is_connected, wants, piece_size, after_offer}
-use Rattle.link_run.proofs.Names.{piece_at, offered_at, offered_times, room_for, offered}
-use Rattle.link_run.specs.Laws.{OffersUntilNoneIsWanted}
+use Rattle.std.proofs.Common.{◌≡◌, ℕ, zero, suc, ◌≤◌, List, [], ◌∷◌, arith, length-append, refl, sym, ◌∙◌, ap, Option, Some, None}
+use Rattle.link_account.proofs.Names.{Account, wants, piece_size, after_offer}
+use Rattle.link_run.proofs.Names.{OffersUntilNoneIsWanted, offered, offered_at, offered_times, piece_at, room_for}
 use Rattle.link_run.proofs.Finishing.{offers-none, ended-wants}
 
 -- no room: none is wanted
 full-wants : (a : Account) → room_for a ≡ 0 → wants a ≡ None
-full-wants a e = go (is_connected a.phase) (not a.outgoing.ended) (nat_lt (length a.outgoing.pieces) (a.outgoing.front + a.outgoing.window))
-    (grind (arith, nat_tests))
-  where
-    go : (b c d : Bool) → d ≡ false → cond b (cond (c && d) (Some (length a.outgoing.pieces)) None) None ≡ None
-    go true true false z = refl
-    go true false d z = refl
-    go true true true z = absurd (false≢true (sym z))
-    go false c d z = refl
+full-wants a e = grind (arith)
 
 -- a piece that is offered takes room, or ends the file
 enough-after : (n : ℕ) (file : List ℕ) (a : Account) (piece : List ℕ)
@@ -31,8 +22,7 @@ enough (suc n) file a h = go (wants a) refl (λ b. enough n file b)
   where
     go : (w : Option ℕ) → wants a ≡ w → ((b : Account) → room_for b ≤ n → wants (offered_times n file b) ≡ None)
         → wants (offered_times n file (offered_at file a w)) ≡ None
-    go None e ih = ap wants (offers-none n file a e) ∙ e
-    go (Some m) e ih = enough-after n file a (piece_at (piece_size a) file m) ih h
+    go w e ih = grind (arith, offers-none, enough-after)
 
 -- more offers than there is room for change nothing
 surplus : (n m : ℕ) (file : List ℕ) (a : Account) → room_for a ≤ n → room_for a ≤ m → offered_times n file a ≡ offered_times m file a
@@ -54,12 +44,10 @@ surplus (suc n) (suc m) file a h k = go (wants a) refl (λ b. surplus n m file b
 
 -- an offer makes no room
 offer-room : (piece : List ℕ) (a : Account) → room_for (after_offer piece a) ≤ room_for a
-offer-room [] a = omega arith
-offer-room (x ∷ xs) a = omega (arith, length-append a.outgoing.pieces ((x ∷ xs) ∷ []))
+offer-room piece a = grind (arith, length-append)
 
 at-room : (file : List ℕ) (a : Account) (w : Option ℕ) → room_for (offered_at file a w) ≤ room_for a
-at-room file a None = omega arith
-at-room file a (Some n) = offer-room (piece_at (piece_size a) file n) a
+at-room file a w = grind (arith, offer-room)
 
 next-offered : (file : List ℕ) (a : Account) → offered file (offered_at file a (wants a)) ≡ offered file a
 next-offered file a =

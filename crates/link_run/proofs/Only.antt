@@ -1,13 +1,10 @@
 -- What is heard determines a run.
 use Rattle.std.proofs.Common.{◌≡◌, ℕ, true, false, List, [], ◌∷◌, length, map, arith, refl, sym, ◌∙◌, ap, subst, Some, Result, Ok, Err}
-use Rattle.link_account.proofs.Names.{false≢true, Role, Originator, Answerer, Both, of, Heard, LinkFault, hear, Said}
+use Rattle.link_account.proofs.Names.{false≢true, Role, Originator, Answerer, Both, of, LinkFault, hear, Said}
 use Rattle.link_run.proofs.Playing.{head-of}
-use Rattle.link_run.proofs.Names.{is_closed, Link, Accounts, Turn, spoken, arrival, Hears, GoingTurn, said_at, Outcome, Going, Done, Broken}
-use Rattle.link_run.proofs.Names.{TurnIs}
+use Rattle.link_run.proofs.Names.{Accounts, Broken, Done, Going, GoingTurn, Hears, IsBroken, IsSilent, Link, OneOutcome, OneRun, Outcome}
+use Rattle.link_run.proofs.Names.{Side, Turn, TurnIs, arrival, heard_in, is_closed, said_at, spoken}
 use Rattle.std.specs.Prelude.{is_ok}
-use Rattle.link_account.specs.Account.{given_break}
-use Rattle.link_run.specs.Run.{Side, IsSilent, IsBroken}
-use Rattle.link_run.specs.Laws.{heard_in, OneRun, OneOutcome}
 
 abbrev ok-or : {A E : Type 0} → A → Result A E → A
 ok-or d (Ok x) = x
@@ -20,9 +17,6 @@ err-or d (Err e) = e
 pub one-ok : {A E : Type 0} {r : Result A E} {x y : A} → r ≡ Ok x → r ≡ Ok y → x ≡ y
 one-ok {A} {E} {r} {x} {y} e k = ap (ok-or x) (sym e ∙ k)
 
-one-err : {A E : Type 0} {r : Result A E} {x y : E} → r ≡ Err x → r ≡ Err y → x ≡ y
-one-err {A} {E} {r} {x} {y} e k = ap (err-or x) (sym e ∙ k)
-
 not-both : {A E : Type 0} {r : Result A E} {x : A} {f : E} → r ≡ Ok x → r ≡ Err f → ⊥
 not-both {A} {E} {r} {x} {f} e k = false≢true (ap is_ok (sym k ∙ e))
 
@@ -32,11 +26,7 @@ same-both {A} x y h =
     ap (λ z. record { orig = z; answ = x.answ }) (h Originator) ∙ ap (λ z. record { orig = y.orig; answ = z }) (h Answerer)
 
 same-side : (s u : Side) → s.heard ≡ u.heard → s.check ≡ u.check → s.sent ≡ u.sent → s.given ≡ u.given → s ≡ u
-same-side s u h c p g =
-    ap (λ z. record { heard = z; check = s.check; sent = s.sent; given = s.given }) h
-    ∙ ap (λ z. record { heard = u.heard; check = z; sent = s.sent; given = s.given }) c
-    ∙ ap (λ z. record { heard = u.heard; check = u.check; sent = z; given = s.given }) p
-    ∙ ap (λ z. record { heard = u.heard; check = u.check; sent = u.sent; given = z }) g
+same-side s u h c p g = grind (arith)
 
 -- the same is heard by each end
 abbrev pub HearSame : Turn → Turn → Type 0
@@ -53,9 +43,7 @@ one-turn : (turn : ℕ) (before : Accounts) (t u : Turn) (mid others : Accounts)
     → HearSame t u
     → mid ≡ others
     → ((r : Role) → (of r t).sent ≡ (of r u).sent) → t ≡ u
-one-turn turn before t u mid others h k e m p =
-    same-both t u (λ r. same-side (of r t) (of r u) (e r) ((h r).check_is ∙ sym (k r).check_is) (p r)
-    ((h r).given_is ∙ ap (λ (z : Accounts). given_break (of r z)) m ∙ sym (k r).given_is))
+one-turn turn before t u mid others h k e m p = grind (arith, same-both, same-side)
 
 pub record SameGoing (t u : Turn) (mid others after later : Accounts) : Type 0 where
   pub mids : mid ≡ others
@@ -77,8 +65,7 @@ one-going link ts before t u after later g k e =
     }
 
 heard-same : (t u : Turn) → heard_in t ≡ heard_in u → HearSame t u
-heard-same t u e Originator = ap (λ (h : Both Heard). h.orig) e
-heard-same t u e Answerer = ap (λ (h : Both Heard). h.answ) e
+heard-same t u e x = grind (arith)
 
 pub one_run : OneRun
 one_run link [] [] ends others h k e = (refl, h ∙ sym k)
@@ -95,9 +82,7 @@ one_run link (t ∷ ts) (u ∷ us) ends others h k e =
 -- what becomes of a turn
 hearing-of : (link : Link) (ts : List Turn) (before : Accounts) (t : Turn) (mid : Accounts) (a : Outcome) → TurnIs link ts before t mid a
     → Hears (length ts) before t mid
-hearing-of link ts before t mid Going h = subst (Hears (length ts) before t) h.2 h.1.hearing
-hearing-of link ts before t mid Done h = h.hearing
-hearing-of link ts before t mid (Broken role fault) h = h.hearing
+hearing-of link ts before t mid a h = grind (arith)
 
 -- what an outcome says of the ends that have heard, and of what is sent
 pub record Says (link : Link) (turn : ℕ) (t : Turn) (mid : Accounts) : Type 0 where
@@ -122,8 +107,7 @@ tells link ts before t mid Going h =
       says = λ r. (g.speaking r).says;
       sent_is = λ r. (g.speaking r).sent_is;
     })
-tells link ts before t mid Done h = (h.done, h.silent)
-tells link ts before t mid (Broken role fault) h = (h.going, h.broken, h.silent)
+tells link ts before t mid a h = grind (arith)
 
 abbrev SameOutcome : Turn → Turn → Outcome → Outcome → Type 0
 SameOutcome t u a b = (a ≡ b) × ((r : Role) → (of r t).sent ≡ (of r u).sent)
@@ -134,10 +118,7 @@ silent-both t u h k r = h r ∙ sym (k r)
 same-role : (link : Link) (turn : ℕ) (mid : Accounts) (r s : Role) (f g : LinkFault) → IsBroken link turn mid r f
     → IsBroken link turn mid s g
     → Broken r f ≡ Broken s g
-same-role link turn mid Originator Originator f g h k = ap (Broken Originator) (one-err h k)
-same-role link turn mid Originator Answerer f g h k = absurd (false≢true (sym (ap is_ok h) ∙ k.0))
-same-role link turn mid Answerer Originator f g h k = absurd (false≢true (sym (ap is_ok k) ∙ h.0))
-same-role link turn mid Answerer Answerer f g h k = ap (Broken Answerer) (one-err h.1 k.1)
+same-role link turn mid x y f g h k = grind (arith)
 
 not-broken : (link : Link) (turn : ℕ) (t : Turn) (mid : Accounts) (r : Role) (f : LinkFault) → Says link turn t mid
     → IsBroken link turn mid r f

@@ -1,26 +1,17 @@
 -- What the frames that pass tell.
-use Rattle.std.proofs.Common.{zero, suc, ◌≡◌, ◌≢◌, inl, inr, ℕ, ◌+◌, ◌-◌, ◌%◌, ◌≤◌, Bool, true, false, cond, nat_eq, nat_le, List, [], ◌∷◌}
-use Rattle.std.proofs.Common.{◌++◌, length, map, arith, length-append, refl, sym, ◌∙◌, ap, subst, Option, Some, None, Result, Ok, slice_get}
+use Rattle.std.proofs.Common.{zero, suc, ◌≡◌, inl, inr, ℕ, ◌+◌, ◌-◌, ◌%◌, ◌≤◌, Bool, true, false, cond, nat_eq, nat_le, List, [], ◌∷◌, ◌++◌}
+use Rattle.std.proofs.Common.{length, map, arith, length-append, refl, sym, ◌∙◌, ap, subst, Option, Some, None, Result, Ok, slice_get}
 use Rattle.link_account.proofs.Names.{false≢true, nat_tests, append-nil, IsPrefixOf, Check, Role, Originator, Answerer, other, of, is_some}
-use Rattle.link_account.proofs.Names.{Frame, I, Rr, Rnr, Rej, Srej, Sabme, Disc, Ua, Dm, Ui, Xid, Terms, ReadsAllowed, ReadsWritten}
-use Rattle.link_account.proofs.Names.{KeepsTaken, kind_of, InOrder, Kept, Brk, word_in, Sent, Passed, LinkFault, Account, check_of, hear}
-use Rattle.link_account.proofs.Names.{on_frame, Slot, Play, MayPlay}
-use Rattle.link_run.proofs.Names.{Setup, Phase, Detecting, Negotiating, Establishing, Releasing, Closed, is_released, RunOf}
-use Rattle.link_run.proofs.Names.{Link, Accounts, Spoken, Turn, spoken, arrival, sent_in, sent_ago, Crosses, IsCarried, RunsOver}
-use Rattle.frame_check.specs.declared.check.Check.TheVariants.{Sixteen, ThirtyTwo}
-use Rattle.lapm_frames.specs.declared.frame.Frame.TheVariants.{Frmr, Test}
+use Rattle.link_account.proofs.Names.{Frame, I, Ui, Terms, ReadsAllowed, ReadsWritten, KeepsTaken, kind_of, InOrder, Kept, Brk, word_in}
+use Rattle.link_account.proofs.Names.{Sent, Passed, LinkFault, Account, check_of, on_frame, Slot, Play, MayPlay}
+use Rattle.link_run.proofs.Names.{Accounts, AgreesByXid, Crosses, EarlyBreaksAreIgnored, HasDelays, HearsAgreedCheck, IsCarried, IsOld}
+use Rattle.link_run.proofs.Names.{JudgesByItsCheck, JudgesOnceHeard, KnownByNumber, Link, NextIsBreak, NextIsKnown, NextWasOffered}
+use Rattle.link_run.proofs.Names.{NothingNew, OpensByFrames, Phase, ReleasesLast, RunOf, RunsOver, SegmentsPassLater, SendsAgreedCheck}
+use Rattle.link_run.proofs.Names.{SendsBreaksTaken, SendsWhatWasOffered, Setup, Sixteen, Spoken, ThirtyTwo, Turn, agreed_check}
+use Rattle.link_run.proofs.Names.{agreed_terms, arrival, first_terms, gives, has_begun, has_passed, is_released, is_xid, opens, sent_ago}
+use Rattle.link_run.proofs.Names.{sent_in, spoken, told_by_play, told_by_turn}
 use Rattle.lapm_frames.specs.Checked.{check_for}
 use Rattle.lapm_frames.specs.Frame.{has_number}
-use Rattle.break_signals.specs.Breaks.{gives}
-use Rattle.link_account.specs.Account.{first_terms}
-use Rattle.link_account.specs.Hear.{on_detecting, on_negotiating}
-use Rattle.link_account.specs.Laws.{has_begun, NextIsKnown, KnownByNumber, NextWasOffered, SendsWhatWasOffered, NextIsBreak}
-use Rattle.link_account.specs.Laws.{SendsBreaksTaken}
-use Rattle.link_run.specs.Carried.{HasDelays}
-use Rattle.link_run.specs.Laws.{told_by_play, told_by_turn}
-use Rattle.link_run.specs.Overheard.{has_passed, is_xid, opens, OpensByFrames, agreed_terms, AgreesByXid, agreed_check, SendsAgreedCheck}
-use Rattle.link_run.specs.Overheard.{HearsAgreedCheck, JudgesByItsCheck, JudgesOnceHeard, SegmentsPassLater, IsOld, NothingNew}
-use Rattle.link_run.specs.Overheard.{ReleasesLast, EarlyBreaksAreIgnored}
 use Rattle.link_run.proofs.Keeping.{stage, GoesOn, hears, Standing, standing, stands-heard}
 use Rattle.link_run.proofs.Playing.{made, next-first, head-of, none-is-some}
 use Rattle.link_run.proofs.Running.{Reaches, lines, run-reaches, hearing-reaches}
@@ -32,7 +23,6 @@ use Rattle.link_run.proofs.Following.{KnownOf, known-mid, known-run}
 use Rattle.link_run.proofs.Meeting.{is_segment, is_counted, brings}
 use Rattle.link_run.proofs.Joining.{Met, met-run, came}
 use Rattle.lapm_frames.specs.declared.sent.Sent.TheVariants as slots
-use Rattle.lapm_frames.specs.declared.arrived.Arrived.TheVariants as arrivals
 
 pub record KnowingLaws : Type 0 where
   pub reads : ReadsAllowed
@@ -44,8 +34,7 @@ known : (laws : KnowingLaws) (link : Link) (delay : Role → ℕ) (ts : List Tur
 known laws link delay ts ends v = known-run laws.reads laws.keeps laws.written link delay v.may_play ts ends v.carried v.run
 
 begun-rank : (p : Phase) → has_begun p ≡ nat_le 3 (rank p)
-begun-rank Detecting = refl
-begun-rank p = refl
+begun-rank p = grind (arith)
 
 pub opens_by_frames : KnowingLaws → OpensByFrames
 opens_by_frames laws link delay ts ends v role = at-role role
@@ -83,34 +72,10 @@ answ-agreed link sent heard ends k l = let m = k.met l in
 
 -- who sends a frame with numbers is Connected
 numbered-o : (so : Setup) (r : ℕ) (frame : Frame) → has_number frame ≡ true → SentO so r frame → 2 ≤ r
-numbered-o so r (I ns nr pf info) e h = h
-numbered-o so r (Rr command nr pf) e h = h
-numbered-o so r (Rnr command nr pf) e h = h
-numbered-o so r (Rej command nr pf) e h = h
-numbered-o so r (Srej command nr pf) e h = h
-numbered-o so r (Sabme pf) e h = absurd (false≢true e)
-numbered-o so r (Disc pf) e h = absurd (false≢true e)
-numbered-o so r (Ua pf) e h = absurd (false≢true e)
-numbered-o so r (Dm pf) e h = absurd (false≢true e)
-numbered-o so r (Frmr pf info) e h = absurd (false≢true e)
-numbered-o so r (Ui command pf info) e h = absurd (false≢true e)
-numbered-o so r (Xid command pf info) e h = absurd (false≢true e)
-numbered-o so r (Test command pf info) e h = absurd (false≢true e)
+numbered-o so r x e h = grind (arith)
 
 numbered-a : (sa : Setup) (r m : ℕ) (frame : Frame) → has_number frame ≡ true → SentA sa r m frame → 2 ≤ r
-numbered-a sa r m (I ns nr pf info) e h = h
-numbered-a sa r m (Rr command nr pf) e h = h
-numbered-a sa r m (Rnr command nr pf) e h = h
-numbered-a sa r m (Rej command nr pf) e h = h
-numbered-a sa r m (Srej command nr pf) e h = h
-numbered-a sa r m (Sabme pf) e h = absurd (false≢true e)
-numbered-a sa r m (Disc pf) e h = absurd (false≢true e)
-numbered-a sa r m (Ua pf) e h = absurd (false≢true e)
-numbered-a sa r m (Dm pf) e h = absurd (false≢true e)
-numbered-a sa r m (Frmr pf info) e h = absurd (false≢true e)
-numbered-a sa r m (Ui command pf info) e h = absurd (false≢true e)
-numbered-a sa r m (Xid command pf info) e h = absurd (false≢true e)
-numbered-a sa r m (Test command pf info) e h = absurd (false≢true e)
+numbered-a sa r m x e h = grind (arith)
 
 -- a slot that was sent
 of-slot : (P : Frame → Type 0) (o : Option Spoken) (slot : Spoken) (frame : Frame) → o ≡ Some slot → slot.sent ≡ slots.Frame frame
@@ -118,11 +83,7 @@ of-slot : (P : Frame → Type 0) (o : Option Spoken) (slot : Spoken) (frame : Fr
 of-slot P o slot frame e f h = subst (OnSent P) f (subst (IfSent P) e h)
 
 checked-as : (o : Option Spoken) (slot s : Spoken) → o ≡ Some slot → o ≡ Some s → slot.check ≡ s.check
-checked-as o slot s e k = ap check-in (sym e ∙ k)
-  where
-    check-in : Option Spoken → Check
-    check-in None = Sixteen
-    check-in (Some z) = z.check
+checked-as o slot s e k = grind (arith)
 
 pub sends_agreed_check : KnowingLaws → SendsAgreedCheck
 sends_agreed_check laws link delay ts ends t after v c g role slot frame = at-role role
@@ -242,12 +203,7 @@ first-of role (slot ∷ rest) (Some t) left s e c =
     }
   where
     of-turn : (o : Option Spoken) → Some (slot.sent, slot.number) ≡ told_by_turn o → Crosses o (Passed s) → slot.sent ≡ s
-    of-turn None q d = absurd d
-    of-turn (Some m) q d = ap sent-of q ∙ sym d.0
-      where
-        sent-of : Option (Sent × ℕ) → Sent
-        sent-of None = slot.sent
-        sent-of (Some p) = p.0
+    of-turn o q d = grind (arith)
 
 -- nothing of what stands first is new where all was taken and given
 old-segment : (from to : Account) (line tl : List Slot) (ns nr : ℕ) (pf : Bool) (info : List ℕ) → First line (slots.Frame (I ns nr pf info))
@@ -273,14 +229,10 @@ old-break from to line tl command pf info f by all number length_octet w =
     odd number f.slot.number (length to.their_breaks.lengths) k.number_is last)
   where
     odd : (number n m : ℕ) → number ≡ n % 2 → m ≡ n + 1 → nat_eq number (m % 2) ≡ false
-    odd number n m p q = differs number (m % 2) (λ z. omega (arith, z, p, q))
-      where
-        differs : (x y : ℕ) → x ≢ y → nat_eq x y ≡ false
-        differs x y h = grind (arith, nat_tests)
+    odd number n m p q = grind (arith)
 
     go : (b : Bool) → b ≡ false → cond b (Some length_octet) None ≡ None
-    go false z = refl
-    go true z = absurd (false≢true (sym z))
+    go x z = grind (arith)
 
 old-frame : (from to : Account) (line tl : List Slot) (frame : Frame) → First line (slots.Frame frame)
     → NextIsKnown (side_with from line) (side_with to tl) → NextWasOffered (side_with from line) (side_with to tl)
@@ -309,15 +261,10 @@ pub record OldLaws : Type 0 where
   pub breaks : SendsBreaksTaken
 
 pub released-stage : (p : Phase) → is_released p ≡ true → 2 ≤ stage p
-released-stage Releasing e = omega arith
-released-stage Closed e = omega arith
-released-stage p e = absurd (false≢true e)
+released-stage p e = grind (arith)
 
 pub stage-begun : (p : Phase) → 1 ≤ stage p → has_begun p ≡ true
-stage-begun Detecting h = absurd (omega (arith, h))
-stage-begun Negotiating h = absurd (omega (arith, h))
-stage-begun Establishing h = absurd (omega (arith, h))
-stage-begun p h = refl
+stage-begun p h = grind (arith)
 
 pub releases_last : OldLaws → ReleasesLast
 releases_last laws link delay ts ends t mid v c k released role = at-role role
@@ -400,37 +347,16 @@ releases_last laws link delay ts ends t mid v c k released role = at-role role
     }
 
 -- what is no break's time is ignored
-ignores-detecting : (role : Role) (command pf : Bool) (info : List ℕ) (turn : ℕ) (a : Account)
-    → on_detecting role (Ui command pf info) turn a ≡ Ok a
-ignores-detecting Originator command pf info turn a = refl
-ignores-detecting Answerer command pf info turn a = refl
-
-ignores-negotiating : (role : Role) (command pf : Bool) (info : List ℕ) (turn : ℕ) (a : Account)
-    → on_negotiating role (Ui command pf info) turn a ≡ Ok a
-ignores-negotiating Originator command pf info turn a = refl
-ignores-negotiating Answerer command pf info turn a = refl
-
 ignores : (p : Phase) (command pf : Bool) (info : List ℕ) (turn : ℕ) (a : Account) → has_begun p ≡ false
     → on_frame p (Ui command pf info) turn a ≡ Ok a
-ignores Detecting command pf info turn a e = ignores-detecting a.setup.role command pf info turn a
-ignores Negotiating command pf info turn a e = ignores-negotiating a.setup.role command pf info turn a
-ignores Establishing command pf info turn a e = refl
-ignores p command pf info turn a e = absurd (false≢true (sym e))
+ignores p command pf info turn a e = grind (arith)
 
 same-ok : (r : Result Account LinkFault) (x y : Account) → r ≡ Ok x → r ≡ Ok y → x ≡ y
-same-ok r x y e k = ap ok-of (sym e ∙ k)
-  where
-    ok-of : Result Account LinkFault → Account
-    ok-of (Ok z) = z
-    ok-of fault = x
+same-ok r x y e k = grind (arith)
 
 pub early_breaks_are_ignored : KnowingLaws → EarlyBreaksAreIgnored
-early_breaks_are_ignored laws link delay ts ends t mid v c k role command pf info closed e =
-    let a = of role ends in
-    let early : has_begun a.phase ≡ false = opens_by_frames laws link delay ts ends v role ∙ closed in
-    same-ok (hear (length ts) (arrivals.Frame (Ui command pf info)) a) (of role mid) a
-    (subst (λ h. hear (length ts) (arrival h) a ≡ Ok (of role mid)) e (k role).hears)
-    (ignores a.phase command pf info (length ts) a early)
+early_breaks_are_ignored laws link delay ts ends t mid v c k role command pf info closed e = grind
+    (arith, opens_by_frames, same-ok, ignores)
 
 pub segments_pass_later : KnowingLaws → SegmentsPassLater
 segments_pass_later laws link delay ts ends t v c role ns nr pf info e =

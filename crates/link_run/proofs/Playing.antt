@@ -1,21 +1,15 @@
 -- Each run is a play: the events of each turn, one after another.
-use Rattle.std.proofs.Common.{◌≡◌, ℕ, zero, suc, ◌+◌, ◌-◌, ◌*◌, ◌<◌, ◌≤◌, ◌&&◌, Bool, true, false, cond, nat_lt, nat_le, List, [], ◌∷◌}
-use Rattle.std.proofs.Common.{◌++◌, length, map, take, drop, arith, refl, sym, ◌∙◌, ap, subst, Option, Some, None, Ok, slice_get}
-use Rattle.link_account.proofs.Names.{is_some, false≢true, nat_tests, append_assoc, Check, Role, Originator, Answerer, Sent}
-use Rattle.link_account.proofs.Names.{Account, is_connected, wants, piece_size, after_break_asked, after_given, after_busy}
-use Rattle.link_account.proofs.Names.{hear, Slot, Play, arrives, Heard, Nothing, Passed, Lost, Chance, of}
-use Rattle.link_run.proofs.Names.{User, BreakLine, delivered, piece_at, offered_at, offered_times, room_for, offered, is_busy, next_break}
-use Rattle.link_run.proofs.Names.{served, Turn, arrival, sent_in, sent_ago, Crosses}
-use Rattle.frame_check.specs.declared.check.Check.TheVariants.{Sixteen}
-use Rattle.link_account.specs.Account.{after_delivery}
-use Rattle.link_account.specs.Play.{Event, Passes, Is_lost, Hears_nothing, Is_offered, Is_asked, Delivers, Gives_break, Is_busy}
-use Rattle.link_account.specs.Play.{happens, play}
-use Rattle.link_run.specs.End.{asked_at, asked}
-use Rattle.link_run.specs.Carried.{on_line}
-use Rattle.link_account.proofs.Events.{at, play-append, hears-event, passes-event, loses-event, delivers-event, gives-event, offered-event}
-use Rattle.link_account.proofs.Events.{asked-event, busy-event}
+use Rattle.std.proofs.Common.{◌≡◌, ℕ, zero, suc, ◌+◌, ◌-◌, ◌*◌, ◌<◌, ◌≤◌, ◌&&◌, Bool, true, false, cond, nat_le, List, [], ◌∷◌, ◌++◌}
+use Rattle.std.proofs.Common.{length, map, take, drop, arith, refl, ◌∙◌, ap, subst, Option, Some, None, Ok, slice_get}
+use Rattle.link_account.proofs.Names.{is_some, nat_tests, append_assoc, Check, Role, Originator, Answerer, Account, is_connected, wants}
+use Rattle.link_account.proofs.Names.{piece_size, after_break_asked, after_given, after_busy, hear, Slot, Play, arrives, Heard, Nothing}
+use Rattle.link_account.proofs.Names.{Passed, Lost, Chance, of}
+use Rattle.link_run.proofs.Names.{BreakLine, Crosses, Delivers, Event, Gives_break, Hears_nothing, Is_asked, Is_busy, Is_lost, Is_offered}
+use Rattle.link_run.proofs.Names.{Passes, Sixteen, Turn, User, after_delivery, arrival, asked, asked-event, asked_at, at, busy-event}
+use Rattle.link_run.proofs.Names.{delivered, delivers-event, gives-event, happens, hears-event, is_busy, loses-event, next_break, offered}
+use Rattle.link_run.proofs.Names.{offered-event, offered_at, offered_times, on_line, passes-event, piece_at, play, play-append, room_for}
+use Rattle.link_run.proofs.Names.{sent_ago, sent_in, served, told_by_play, told_by_turn}
 use Rattle.link_run.proofs.Serving.{Waiting}
-use Rattle.link_run.specs.Laws.{told_by_play, told_by_turn}
 use Rattle.lapm_frames.specs.declared.arrived.Arrived.TheVariants as arrivals
 use Rattle.link_run.specs.Run as run
 
@@ -81,19 +75,7 @@ none-is-some x xs e = omega (arith, ap length e)
 -- a slot on a line, as a turn tells it
 pub told-slot : (slot : Slot) (s : Option run.Spoken) → Some (slot.sent, slot.number) ≡ told_by_turn s → (h : Heard) → Crosses s h
     → (check : Check) → Crosses (Some (record { sent = slot.sent; number = slot.number; check = check })) h
-told-slot slot None e h c check = absurd (false≢true (sym (ap is_some e)))
-told-slot slot (Some s) e h c check =
-    subst (λ z. Crosses (Some (record { sent = z; number = slot.number; check = check })) h) (sym (ap sent-of e)) (sent-alone h c)
-  where
-    sent-of : Option (Sent × ℕ) → Sent
-    sent-of None = slot.sent
-    sent-of (Some p) = p.0
-
-    sent-alone : (h : Heard) → Crosses (Some s) h → Crosses (Some (record { sent = s.sent; number = slot.number; check = check })) h
-    sent-alone Nothing c = c
-    sent-alone (Passed z) c = c
-    sent-alone (Lost z) c = c
-    sent-alone Chance c = c
+told-slot slot s e h c check = grind (arith)
 
 arriving : (role : Role) (turn : ℕ) (x y b : Account) (lx ly : List Slot) (t : Option Turn) (left : List (Option run.Spoken)) (h : Heard)
     → told_by_play lx ≡ map told_by_turn (made role t ++ left) → Crosses (sent_in role t) h → hear turn (arrival h) y ≡ Ok b
@@ -132,10 +114,7 @@ arriving role turn x y b (slot ∷ rest) ly (Some t) left h e c k =
 pub arrives-next : (role : Role) (turn d : ℕ) (ts : List Turn) (x y b : Account) (lx ly : List Slot) (h : Heard) → 1 ≤ d
     → told_by_play lx ≡ map told_by_turn (on_line d role ts) → Crosses (sent_ago d role ts) h → hear turn (arrival h) y ≡ Ok b
     → Came role x b lx ly y (on_line (d - 1) role ts)
-arrives-next role turn d ts x y b lx ly h some e c k =
-    let same : d ≡ suc (d - 1) = omega (arith, some) in
-    arriving role turn x y b lx ly (slice_get ts (d - 1)) (on_line (d - 1) role ts) h
-    (e ∙ ap (map told_by_turn) (ap (λ m. on_line m role ts) same ∙ oldest role (d - 1) ts)) c k
+arrives-next role turn d ts x y b lx ly h some e c k = grind (arith, arriving, oldest)
 
 -- one more slot is on the line
 pub behind : (role : Role) (d : ℕ) (t : Turn) (ts : List Turn) → 1 ≤ d
@@ -159,14 +138,7 @@ with_given x g = record x { incoming = record x.incoming { given = g } }
 
 delivered-next : (x : Account) → is_connected x.phase ≡ true → x.incoming.given < length x.incoming.taken
     → after_delivery x ≡ with_given x (x.incoming.given + 1)
-delivered-next x e less = go (is_connected x.phase) (nat_lt x.incoming.given (length x.incoming.taken)) e (grind (arith, nat_tests))
-  where
-    go : (b c : Bool) → b ≡ true → c ≡ true
-        → cond b (record x { incoming = cond c (with_given x (x.incoming.given + 1)).incoming x.incoming }) x ≡ with_given x
-        (x.incoming.given + 1)
-    go true true e k = refl
-    go true false e k = absurd (false≢true k)
-    go false c e k = absurd (false≢true e)
+delivered-next x e less = grind (arith)
 
 delivers-all : (n : ℕ) (role : Role) (x y : Account) (lx ly : List Slot) → x.incoming.given + n ≡ length x.incoming.taken
     → is_connected x.phase ≡ true

@@ -1,19 +1,18 @@
 -- What is offered is what was read, and files count in a run as far as they were read.
-use Rattle.std.proofs.Common.{◌≡◌, inl, inr, ℕ, zero, suc, ◌+◌, ◌*◌, ◌<◌, ◌≤◌, Bool, true, false, cond, not, ◌&&◌, nat_lt, List, [], ◌∷◌}
-use Rattle.std.proofs.Common.{◌++◌, length, take, drop, arith, length-append, drop-drop, refl, sym, ◌∙◌, ap, subst, Option, Some, None}
-use Rattle.link_account.proofs.Names.{false≢true, is_some, nat_tests, append-nil, take-append-drop, Role, Originator, Answerer, of}
-use Rattle.link_account.proofs.Names.{IsAllowed, ReadsAllowed, KeepsTaken, Outgoing, with_piece, Account, is_connected, wants, piece_size}
-use Rattle.link_account.proofs.Names.{after_offer, after_given, after_busy, speak}
-use Rattle.link_run.proofs.Names.{User, delivered, piece_at, offered_at, offered_times, room_for, offered, is_busy, served, is_released}
-use Rattle.link_run.proofs.Names.{has_finished, Link, Accounts, arrival, GoingTurn, SpeaksAt, said_at, served_at}
+use Rattle.std.proofs.Common.{◌≡◌, ℕ, zero, suc, ◌+◌, ◌*◌, ◌<◌, ◌≤◌, Bool, true, false, cond, ◌&&◌, nat_lt, List, [], ◌∷◌, ◌++◌, length}
+use Rattle.std.proofs.Common.{take, drop, arith, length-append, drop-drop, refl, sym, ◌∙◌, ap, subst, Option, Some, None}
+use Rattle.link_account.proofs.Names.{false≢true, nat_tests, append-nil, take-append-drop, Role, Originator, Answerer, of, IsAllowed}
+use Rattle.link_account.proofs.Names.{ReadsAllowed, KeepsTaken, Outgoing, with_piece, Account, wants, piece_size, after_offer, after_given}
+use Rattle.link_account.proofs.Names.{after_busy, speak}
+use Rattle.link_run.proofs.Names.{Accounts, BeginsUnoffered, GoingTurn, HearingStaysOffered, IsCut, IsOffered, Link, OffersWhatIsRead}
+use Rattle.link_run.proofs.Names.{OwnSegmentsStay, RunsByWhatIsReadOn, RunsByWhatWasRead, SameSoFar, SegmentsAreTold, Served}
+use Rattle.link_run.proofs.Names.{SpeakingStaysOffered, SpeaksAt, User, arrival, asked, delivered, deliveries, given_break, has_finished}
+use Rattle.link_run.proofs.Names.{is_busy, is_released, offered, offered_at, offered_times, piece_at, room_for, said_at, served, served_at}
+use Rattle.link_run.proofs.Names.{with_files, with_segment}
 use Rattle.std.proofs.lemmas.List.{take_all, take-take, drop-take, length-take, length-take-le}
 use Rattle.std.proofs.Math.Seq.{take-append_seam, drop-append_seam}
-use Rattle.link_account.specs.Account.{given_break}
-use Rattle.link_run.specs.End.{Served, deliveries, asked}
-use Rattle.link_run.specs.Reading.{IsCut, IsOffered, SameSoFar, with_segment, BeginsUnoffered, HearingStaysOffered, SpeakingStaysOffered}
-use Rattle.link_run.specs.Reading.{OffersWhatIsRead, SegmentsAreTold, OwnSegmentsStay, with_files, RunsByWhatWasRead, RunsByWhatIsReadOn}
-use Rattle.link_run.proofs.Keeping.{Books, GoesOn, hears}
-use Rattle.link_run.proofs.Speaking.{Ledger, Speaks, Keeps_on, Releases, speaks}
+use Rattle.link_run.proofs.Keeping.{GoesOn, hears}
+use Rattle.link_run.proofs.Speaking.{Speaks, speaks}
 use Rattle.link_run.proofs.Cutting.{fresh-cuts, heard-cuts, spoken-cuts, delivered-cuts, offered-cuts-at, wants-are, piece-size-is}
 use Rattle.link_run.proofs.Cutting.{piece-sizes, next-cut, as-cut, times-next}
 use Rattle.link_run.proofs.Serving.{served-alone}
@@ -26,12 +25,10 @@ pub begins_unoffered : BeginsUnoffered
 begins_unoffered file setup h = fresh-cuts file setup h
 
 heard-lengths : (a b : Account) → GoesOn a b → b.own_breaks.lengths ≡ a.own_breaks.lengths
-heard-lengths a b (inl s) = ap (λ (k : Books). k.lengths) s.books_are
-heard-lengths a b (inr e) = ap (λ o. o.lengths) e.own
+heard-lengths a b x = grind (arith)
 
 spoken-lengths : (release : Bool) (a b : Account) → Speaks release a b → b.own_breaks.lengths ≡ a.own_breaks.lengths
-spoken-lengths release a b (Keeps_on e) = ap (λ (l : Ledger). l.books.lengths) e
-spoken-lengths release a b (Releases on role linked e k) = ap (λ (l : Ledger). l.books.lengths) e
+spoken-lengths release a b x = grind (arith)
 
 pub hearing_stays_offered : ReadsAllowed → KeepsTaken → HearingStaysOffered
 hearing_stays_offered reads keeps file turn arrived a b h e =
@@ -87,15 +84,7 @@ own_segments_stay size n file =
 
 -- what is wanted
 wants-open : (a : Account) (n : ℕ) → wants a ≡ Some n → a.outgoing.ended ≡ false
-wants-open a n e = go (is_connected a.phase) a.outgoing.ended (nat_lt (length a.outgoing.pieces) (a.outgoing.front + a.outgoing.window)) e
-  where
-    none : {x : ℕ} → None ≡ Some x → ⊥
-    none z = false≢true (ap is_some z)
-
-    go : (b c d : Bool) → cond b (cond (not c && d) (Some (length a.outgoing.pieces)) None) None ≡ Some n → c ≡ false
-    go true true d z = absurd (none z)
-    go true false d z = refl
-    go false c d z = absurd (none z)
+wants-open a n e = grind (arith)
 
 pub offers_what_is_read : OffersWhatIsRead
 offers_what_is_read file a n piece h e short =
@@ -205,8 +194,7 @@ offers-piece (x ∷ xs) a e = record {
 }
 
 offers-at : (file : List ℕ) (a : Account) (w : Option ℕ) → wants a ≡ w → Offers a (offered_at file a w)
-offers-at file a None e = none-less a
-offers-at file a (Some n) e = offers-piece (piece_at (piece_size a) file n) a (wants-open a n e)
+offers-at file a w e = grind (arith, none-less, offers-piece, wants-open)
 
 offers-times : (n : ℕ) (file : List ℕ) (a : Account) → Offers a (offered_times n file a)
 offers-times zero file a = none-less a
@@ -255,14 +243,7 @@ served-same u file others turn released a h s =
 -- speaking offers nothing
 pub same-spoken : (file others : List ℕ) (release : Bool) (a b : Account) → Speaks release a b → SameSoFar b.outgoing file others
     → SameSoFar a.outgoing file others
-same-spoken file others release a b (Keeps_on e) s =
-    let pieces = ap (λ (l : Ledger). l.books.pieces) e in
-    same-earlier file others a.outgoing b.outgoing (sym (ap (λ (l : Ledger). l.size) e)) (omega (arith, ap length pieces))
-    (λ z. ap (λ (l : Ledger). l.books.ended) e ∙ z) s
-same-spoken file others release a b (Releases on role linked e k) s =
-    let pieces = ap (λ (l : Ledger). l.books.pieces) e in
-    same-earlier file others a.outgoing b.outgoing (sym (ap (λ (l : Ledger). l.size) e)) (omega (arith, ap length pieces))
-    (λ z. ap (λ (l : Ledger). l.books.ended) e ∙ z) s
+same-spoken file others release a b x s = grind (arith, same-earlier)
 
 -- serving offers no less
 pub same-served : (u : User) (file others : List ℕ) (turn : ℕ) (released : Bool) (a : Account)
@@ -279,16 +260,7 @@ same-served u file others turn released a s =
 -- an end that becomes Connected was offered nothing before
 pub same-heard : (file others : List ℕ) (a b : Account) → Unoffered a → GoesOn a b → SameSoFar b.outgoing file others
     → SameSoFar a.outgoing file others
-same-heard file others a b un (inl g) s =
-    same-earlier file others a.outgoing b.outgoing (sym g.size) (omega (arith, ap (λ (k : Books). length k.pieces) g.books_are))
-    (λ z. ap (λ (k : Books). k.ended) g.books_are ∙ z) s
-same-heard file others a b un (inr g) s = record {
-  front = nothing (a.outgoing.size * length a.outgoing.pieces) (rw (un.none g.was) (omega arith));
-  whole = λ z. absurd (false≢true (sym (un.going g.was) ∙ z));
-}
-  where
-    nothing : (n : ℕ) → n ≡ 0 → take n others ≡ take n file
-    nothing n e = rw e refl
+same-heard file others a b un x s = grind (arith, same-earlier)
 
 pub runs_by_what_was_read : ReadsAllowed → KeepsTaken → RunsByWhatWasRead
 runs_by_what_was_read reads keeps link files others [] ends allowed h same = h
@@ -314,8 +286,7 @@ runs_by_what_was_read reads keeps link files others (t ∷ ts) ends allowed h sa
     turn = length ts
 
     is-allowed : (r : Role) → IsAllowed (of r old).setup.offer
-    is-allowed Originator = allowed Originator
-    is-allowed Answerer = allowed Answerer
+    is-allowed r = grind (arith)
 
     cut : (r : Role) → IsOffered (of r old).user.file (of r mid)
     cut = kept-heard reads keeps (HasCut old) old (cuts-kept old is-allowed) turn h.0 t mid

@@ -1,18 +1,14 @@
 -- Each run over a line is a play.
-use Rattle.std.proofs.Common.{◌≡◌, ℕ, zero, suc, Bool, false, ◌-◌, List, [], ◌∷◌, ◌++◌, length, map, refl, sym, ◌∙◌, ap, subst, Option}
-use Rattle.std.proofs.Common.{Some, Ok}
+use Rattle.std.proofs.Common.{arith, ◌≡◌, ℕ, Bool, false, ◌-◌, List, [], ◌∷◌, ◌++◌, length, map, refl, sym, ap, subst, Option, Some, Ok}
 use Rattle.link_account.proofs.Names.{Role, Originator, Answerer, of, ReadsAllowed, KeepsTaken, fresh, Slot, Play, Said}
-use Rattle.link_run.proofs.Names.{is_released, Link, Accounts, Turn, arrival, Hears, GoingTurn, RunOf, served_at, releases, said_at}
-use Rattle.link_run.proofs.Names.{Carries, IsCarried}
-use Rattle.link_account.specs.Laws.{played}
-use Rattle.link_account.specs.Play.{Speaks, start, seen_from}
-use Rattle.link_run.specs.Carried.{HasDelays, on_line}
-use Rattle.link_run.specs.Laws.{told_by_play, told_by_turn, IsAt, IsPlayed, RunsArePlays, HearingsArePlays}
+use Rattle.link_run.proofs.Names.{Accounts, Carries, GoingTurn, HasDelays, HearingsArePlays, Hears, IsCarried, IsPlayed, Link, RunOf}
+use Rattle.link_run.proofs.Names.{RunsArePlays, Turn, arrival, at, is_released, on_line, releases, said_at, served_at, slot_of}
+use Rattle.link_run.proofs.Names.{speaks-event, told_by_play, told_by_turn}
+use Rattle.link_account.specs.Play.{Speaks, start}
 use Rattle.link_run.proofs.Keeping.{hears}
 use Rattle.link_run.proofs.Speaking.{speaks}
 use Rattle.link_run.proofs.Serving.{Handed, Waiting, heard-waits, served-handed, spoken-handed}
-use Rattle.link_run.proofs.Playing.{Leads, stay, then-leads, one, arrives-next, behind, told-behind, turns-behind, serves}
-use Rattle.link_account.proofs.Events.{at, speaks-event, slot_of}
+use Rattle.link_run.proofs.Playing.{Leads, stay, then-leads, one, arrives-next, told-behind, turns-behind, serves}
 use Rattle.link_run.specs.Run as run
 use Rattle.link_run.proofs.Speaking as speaking
 
@@ -63,8 +59,7 @@ going-handed reads keeps link ts before t after h g r =
     (speaks-at link (length ts) g.mid r k.said k.says))
 
 start-handed : (link : Link) (r : Role) → Handed (of r (run.start link))
-start-handed link Originator = record { given = refl; told = refl }
-start-handed link Answerer = record { given = refl; told = refl }
+start-handed link r = grind (arith)
 
 pub run-handed : (reads : ReadsAllowed) (keeps : KeepsTaken) (link : Link) (ts : List Turn) (ends : Accounts) → RunOf link ts ends →
     (r : Role)
@@ -98,11 +93,7 @@ said-behind : (delay : Role → ℕ) (role : Role) (ts : List Turn) (t : Turn) (
     → told_by_play line ≡ map told_by_turn (left delay ts role)
     → slot.sent ≡ said.sent → slot.number ≡ said.number → (of role t).sent ≡ Some (run.spoken said)
     → told_by_play (line ++ slot ∷ []) ≡ map told_by_turn (lines delay (t ∷ ts) role)
-said-behind delay role ts t line slot said some h s n e =
-    let same : Some (slot.sent, slot.number) ≡ told_by_turn (of role t).sent = rw (s, n, e) refl in
-    told-behind line slot ∙ ap (λ l. l ++ Some (slot.sent, slot.number) ∷ []) h
-    ∙ ap (λ x. map told_by_turn (left delay ts role) ++ x ∷ []) same
-    ∙ sym (turns-behind (left delay ts role) (of role t).sent) ∙ ap (map told_by_turn) (sym (behind role (delay role) t ts (some role)))
+said-behind delay role ts t line slot said some h s n e = grind (arith, told-behind, turns-behind)
 
 -- a turn
 going-reaches : (link : Link) (delay : Role → ℕ) (ts : List Turn) (before : Accounts) (t : Turn) (after : Accounts) → HasDelays delay
@@ -140,8 +131,7 @@ going-reaches link delay ts before t after some p c g w =
     }
 
 nothing-sent : (d : ℕ) (role : Role) → on_line d role [] ≡ []
-nothing-sent zero role = refl
-nothing-sent (suc d) role = refl
+nothing-sent d role = grind (arith)
 
 pub run-reaches : (reads : ReadsAllowed) (keeps : KeepsTaken) (link : Link) (delay : Role → ℕ) (ts : List Turn) (ends : Accounts)
     → HasDelays delay → IsCarried delay ts → RunOf link ts ends
@@ -158,19 +148,7 @@ run-reaches reads keeps link delay (t ∷ ts) ends some c h =
     (hearing-waits reads keeps (length ts) h.0 t h.2.mid (run-handed reads keeps link ts h.0 h.1) h.2.hearing)
 
 played-at : (link : Link) (ends : Accounts) (line : Role → List (Option run.Spoken)) → Reaches link ends line → IsPlayed link ends line
-played-at link ends line p = record { events = p.leads.events; is_at = at-role }
-  where
-    at-role : (role : Role) → IsAt (seen_from role (played link.orig.setup link.answ.setup p.leads.events)).own (of role ends) (line role)
-    at-role Originator = record {
-      account_is = ap (λ (q : Play). q.originator.account) p.leads.led;
-      line_is = ap (λ (q : Play). told_by_play q.originator.line) p.leads.led ∙ p.orig_line;
-      well = ap (λ (q : Play). q.originator.fault) p.leads.led;
-    }
-    at-role Answerer = record {
-      account_is = ap (λ (q : Play). q.answerer.account) p.leads.led;
-      line_is = ap (λ (q : Play). told_by_play q.answerer.line) p.leads.led ∙ p.answ_line;
-      well = ap (λ (q : Play). q.answerer.fault) p.leads.led;
-    }
+played-at link ends line p = grind (arith)
 
 pub runs_are_plays : ReadsAllowed → KeepsTaken → RunsArePlays
 runs_are_plays reads keeps link delay ts ends some c h =

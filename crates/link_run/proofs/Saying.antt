@@ -1,17 +1,12 @@
 -- Who says a UA, a DISC and a frame with numbers, and in which phase.
-use Rattle.std.proofs.Common.{◌≡◌, ℕ, ◌≤◌, ◌||◌, Bool, true, false, cond, List, [], ◌∷◌, ◌++◌, arith, refl, sym, ◌∙◌, ap, Option, Some}
-use Rattle.std.proofs.Common.{None, Ok}
+use Rattle.std.proofs.Common.{◌≡◌, ℕ, ◌≤◌, ◌||◌, Bool, true, false, cond, List, arith, refl, sym, ◌∙◌, ap, Option, Some, None, Ok}
 use Rattle.link_account.proofs.Names.{false≢true, Frame, Disc, Incoming, Account, Said, says, frame_for, ready_frame, nr_of, speak, trying}
 use Rattle.link_account.proofs.Names.{is_originator}
-use Rattle.link_run.proofs.Names.{Phase, Connected, Releasing, Answer}
-use Rattle.lapm_receiver.specs.Incoming.{after_asked}
-use Rattle.lapm_receiver.specs.Held.{Held}
+use Rattle.link_run.proofs.Names.{Answer, Connected, Held, Phase, Releasing, Tries, Ways, after_asked, by-ways, linked-alike, tries-alike}
 use Rattle.link_account.specs.Speak.{says_frame}
 use Rattle.link_run.proofs.Keeping.{stage}
 use Rattle.link_run.proofs.Meeting.{is_ua, is_disc, is_segment, is_counted, carries, owes_ua}
-use Rattle.link_account.proofs.SpeakWays.{Tries, Ways, by-ways, linked-alike, tries-alike}
 use Rattle.lapm_frames.specs.declared.sent.Sent.TheVariants as slots
-use Rattle.link_account.specs.declared.answer.Answer.TheVariants as answers
 
 -- what a receiver's part has
 pub record Part : Type 0 where
@@ -36,65 +31,32 @@ pub record Says (p : Phase) (a : Account) (said : Said) : Type 0 where
 other : (p : Phase) (a : Account) (said : Said) → carries is_ua said.sent ≡ false → carries is_segment said.sent ≡ false
     → carries is_disc said.sent ≡ false → (carries is_counted said.sent ≡ true → stage p ≡ 1)
     → owes_ua said.account.owes.answer ≡ owes_ua a.owes.answer → part said.account ≡ part a → Says p a said
-other p a said u s d c o e = record {
-  ua = λ z. absurd (false≢true (sym u ∙ z));
-  owes = λ z. sym o ∙ z;
-  part_is = e;
-  counted = c;
-  segment = λ z. absurd (false≢true (sym s ∙ z));
-  disc = λ z. absurd (false≢true (sym d ∙ z));
-}
+other p a said u s d c o e = grind (arith)
 
 -- what an answer is, and RR or RNR
 answer-is : (d : Answer) (b : Account) → (carries is_ua (frame_for d b) ≡ owes_ua (Some d)) × (carries is_counted (frame_for d b) ≡ false)
     × (carries is_segment (frame_for d b) ≡ false) × (carries is_disc (frame_for d b) ≡ false)
-answer-is answers.Adp b = (refl, refl, refl, refl)
-answer-is answers.Xid b = (refl, refl, refl, refl)
-answer-is (answers.Ua pf) b = (refl, refl, refl, refl)
-answer-is (answers.Dm pf) b = (refl, refl, refl, refl)
+answer-is x b = grind (arith)
 
 ready-is : (busy command pf : Bool) (nr : ℕ) → (carries is_ua (slots.Frame (ready_frame busy command nr pf)) ≡ false)
     × (carries is_segment (slots.Frame (ready_frame busy command nr pf)) ≡ false)
     × (carries is_disc (slots.Frame (ready_frame busy command nr pf)) ≡ false)
-ready-is true command pf nr = (refl, refl, refl)
-ready-is false command pf nr = (refl, refl, refl)
+ready-is x command pf nr = grind (arith)
 
 answered : (p : Phase) (a : Account) (d : Answer) (b : Account) → part b ≡ part a → a.owes.answer ≡ Some d
     → Says p a (says (frame_for d b) (record b { owes = record b.owes { answer = None } }))
-answered p a d b same e = let k = answer-is d b in record {
-  ua = λ z. ap owes_ua e ∙ sym k.0 ∙ z;
-  owes = λ z. absurd (false≢true z);
-  part_is = same;
-  counted = λ z. absurd (false≢true (sym k.1 ∙ z));
-  segment = λ z. absurd (false≢true (sym k.2 ∙ z));
-  disc = λ z. absurd (false≢true (sym k.3 ∙ z));
-}
+answered p a d b same e = grind (arith, answer-is)
 
 disconnects : (p : Phase) (a b : Account) → part b ≡ part a → b.owes.answer ≡ a.owes.answer → 2 ≤ stage b.phase
     → Says p a (says_frame (Disc true) b)
-disconnects p a b same o later = record {
-  ua = λ z. absurd (false≢true z);
-  owes = λ z. ap owes_ua (sym o) ∙ z;
-  part_is = same;
-  counted = λ z. absurd (false≢true z);
-  segment = λ z. absurd (false≢true z);
-  disc = λ z. later;
-}
+disconnects p a b same o later = grind (arith)
 
 allowed : (b : Bool) (o : Option ℕ) (n : ℕ) → cond b o None ≡ Some n → b ≡ true
-allowed true o n e = refl
-allowed false o n e = cc
+allowed x o n e = grind (arith)
 
 asked-part : (n : ℕ) (i : Incoming)
     → ((after_asked n i).taken ≡ i.taken) × ((after_asked n i).held ≡ i.held) × ((after_asked n i).srej ≡ i.srej)
-asked-part n i = go i.srej refl
-  where
-    go : (b : Bool) → i.srej ≡ b
-        → ((cond b (record i { asked = i.asked ++ n ∷ [] }) (record i { rej = false })).taken ≡ i.taken)
-        × ((cond b (record i { asked = i.asked ++ n ∷ [] }) (record i { rej = false })).held ≡ i.held)
-        × ((cond b (record i { asked = i.asked ++ n ∷ [] }) (record i { rej = false })).srej ≡ i.srej)
-    go true e = (refl, refl, refl)
-    go false e = (refl, refl, refl)
+asked-part n i = grind (arith)
 
 same-part : (a : Account) (t : List (List ℕ)) (h : List Held) (s : Bool) → t ≡ a.incoming.taken → h ≡ a.incoming.held → s ≡ a.incoming.srej
     → record { taken = t; held = h; srej = s; numbered = a.numbered } ≡ part a

@@ -1,12 +1,9 @@
 -- What an end has handed to its user, between turns and once it has heard.
-use Rattle.std.proofs.Common.{◌≡◌, ◌≢◌, inl, inr, ℕ, zero, suc, ◌+◌, ◌≤◌, Bool, true, false, cond, nat_le, List, length, arith}
-use Rattle.std.proofs.Common.{length-append, refl, sym, ◌∙◌, ap, subst, Option, Some, None}
-use Rattle.link_account.proofs.Names.{after_ask, Account, is_connected, wants, after_given, after_busy}
-use Rattle.link_run.proofs.Names.{User, BreakLine, delivered}
-use Rattle.link_run.proofs.Names.{offered_at, offered_times, room_for, offered, is_busy, next_break, served}
-use Rattle.link_run.specs.End.{asked_at, asked}
-use Rattle.link_run.proofs.Keeping.{Books, stage, GoesOn, unlinked-stage}
-use Rattle.link_run.proofs.Speaking.{Ledger, Speaks, Keeps_on, Releases}
+use Rattle.std.proofs.Common.{◌≡◌, ◌≢◌, inl, inr, ℕ, zero, suc, ◌+◌, ◌≤◌, Bool, List, length, arith, length-append, refl, ◌∙◌, ap, Option}
+use Rattle.link_account.proofs.Names.{Account, wants, after_given, after_busy}
+use Rattle.link_run.proofs.Names.{BreakLine, User, asked, delivered, is_busy, offered, offered_at, offered_times, served}
+use Rattle.link_run.proofs.Keeping.{Books, stage, GoesOn}
+use Rattle.link_run.proofs.Speaking.{Speaks}
 
 -- all was handed over
 pub record Handed (a : Account) : Type 0 where
@@ -73,33 +70,14 @@ offers-alone (suc n) file a = offers-alone n file (offered_at file a (wants a)) 
     go : (w : Option ℕ) → record
         (offered_at file a w) { outgoing = (offered_times n file (offered_at file a w)).outgoing } ≡ record
         a { outgoing = (offered_times n file (offered_at file a w)).outgoing }
-    go None = refl
-    go (Some m) = refl
+    go w = grind (arith)
 
 pub asks-alone : (turn : ℕ) (released : Bool) (breaks : List BreakLine) (a : Account)
     → asked turn released breaks a ≡ record a { own_breaks = (asked turn released breaks a).own_breaks }
-asks-alone turn true breaks a = refl
-asks-alone turn false breaks a = go (next_break breaks a)
-  where
-    ask : (b : BreakLine) (c d : Bool)
-        → cond c (cond d (record a { own_breaks = after_ask turn b.length_octet a.own_breaks }) a) a ≡ record
-        a { own_breaks = (cond c (cond d (record a { own_breaks = after_ask turn b.length_octet a.own_breaks }) a) a).own_breaks }
-    ask b true true = refl
-    ask b true false = refl
-    ask b false d = refl
-
-    go : (n : Option BreakLine) → asked_at turn n a ≡ record a { own_breaks = (asked_at turn n a).own_breaks }
-    go None = refl
-    go (Some b) = ask b (nat_le b.turn turn) (is_connected a.phase)
+asks-alone turn released breaks a = grind (arith)
 
 pub busy-alone : (busy : Bool) (a : Account) → after_busy busy a ≡ record a { owes = (after_busy busy a).owes }
-busy-alone busy a = go (is_connected a.phase)
-  where
-    go : (c : Bool) → cond c
-        (record a { owes = record a.owes { busy = busy } }) a ≡ record
-        a { owes = (cond c (record a { owes = record a.owes { busy = busy } }) a).owes }
-    go true = refl
-    go false = refl
+busy-alone busy a = grind (arith)
 
 -- what serving changes
 pub served-alone : (u : User) (turn : ℕ) (released : Bool) (a : Account)
@@ -109,12 +87,7 @@ pub served-alone : (u : User) (turn : ℕ) (released : Bool) (a : Account)
       owes = (after_busy (is_busy turn u.busy) (offered u.file (after_given (delivered a)))).owes;
       own_breaks = (served u turn released a).account.own_breaks;
     }
-served-alone u turn released a =
-    let b = after_given (delivered a) in
-    let c = offered u.file b in
-    let e = after_busy (is_busy turn u.busy) c in
-    asks-alone turn released u.breaks e ∙ ap (λ (d : Account). record d { own_breaks = (asked turn released u.breaks e).own_breaks })
-    (busy-alone (is_busy turn u.busy) c ∙ ap (λ (d : Account). record d { owes = e.owes }) (offers-alone (room_for b) u.file b))
+served-alone u turn released a = grind (arith, asks-alone, busy-alone, offers-alone)
 
 -- delivering
 pub record Delivers (a b : Account) : Type 0 where
@@ -122,27 +95,10 @@ pub record Delivers (a b : Account) : Type 0 where
   pub given : b.incoming.given ≡ length a.incoming.taken
 
 pub delivers : (a : Account) → Waiting a → Delivers a (delivered a)
-delivers a w = go (is_connected a.phase) refl
-  where
-    go : (c : Bool) → is_connected a.phase ≡ c
-        → Delivers a (cond c (record a { incoming = record a.incoming { given = length a.incoming.taken } }) a)
-    go true e = record { rest = refl; given = refl }
-    go false e = record { rest = refl; given = (w.idle (unlinked-stage a.phase e)).given }
+delivers a w = grind (arith)
 
 pub served-handed : (u : User) (turn : ℕ) (released : Bool) (a : Account) → Waiting a → Handed (served u turn released a).account
-served-handed u turn released a w =
-    let d = delivers a w in
-    subst Handed (sym (served-alone u turn released a)) (record {
-      given = d.given ∙ sym (ap (λ (b : Account). length b.incoming.taken) d.rest);
-      told = refl;
-    })
+served-handed u turn released a w = grind (arith, served-alone)
 
 pub spoken-handed : (release : Bool) (a b : Account) → Handed a → Speaks release a b → Handed b
-spoken-handed release a b h (Keeps_on e) = record {
-  given = ap (λ (l : Ledger). l.books.given) e ∙ h.given ∙ sym (ap (λ (l : Ledger). length l.taken) e);
-  told = ap (λ (l : Ledger). l.books.told) e ∙ h.told ∙ sym (ap (λ (l : Ledger). length l.theirs) e);
-}
-spoken-handed release a b h (Releases on role linked e k) = record {
-  given = ap (λ (l : Ledger). l.books.given) e ∙ h.given ∙ sym (ap (λ (l : Ledger). length l.taken) e);
-  told = ap (λ (l : Ledger). l.books.told) e ∙ h.told ∙ sym (ap (λ (l : Ledger). length l.theirs) e);
-}
+spoken-handed release a b h x = grind (arith)

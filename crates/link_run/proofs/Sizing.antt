@@ -1,20 +1,18 @@
 -- Segments have at most the agreed length, and that is at most what their sender offers.
-use Rattle.std.proofs.Common.{◌≡◌, ◌≤◌, max, inl, inr, ℕ, zero, suc, ◌*◌, Bool, true, false, cond, nat_le, List, [], ◌∷◌, ◌++◌, length}
-use Rattle.std.proofs.Common.{drop, arith, refl, sym, ◌∙◌, ap, subst, Option, Some, None, Ok}
-use Rattle.link_account.proofs.Names.{Role, Originator, Answerer, of, Terms, ReadsAllowed, ReadsWritten, Outgoing, with_piece, KeepsTaken}
-use Rattle.link_account.proofs.Names.{Sent, Account, is_connected, wants, piece_size, after_given, after_busy, Said, MayPlay}
-use Rattle.link_run.proofs.Names.{Setup, Connected, User, delivered, piece_at, offered_at, offered_times, room_for, offered, is_busy}
-use Rattle.link_run.proofs.Names.{served, is_released, Link, Accounts, Turn, start, Spoken, arrival, Hears, RunOf, served_at, releases}
-use Rattle.link_run.proofs.Names.{said_at, Carries, IsCarried}
+use Rattle.std.proofs.Common.{◌≡◌, ◌≤◌, max, ℕ, zero, suc, ◌*◌, Bool, false, cond, List, [], ◌∷◌, ◌++◌, length, drop, arith, refl, sym, ◌∙◌}
+use Rattle.std.proofs.Common.{ap, subst, Option, Some, None, Ok}
+use Rattle.link_account.proofs.Names.{Role, Originator, Answerer, of, ReadsAllowed, ReadsWritten, Outgoing, with_piece, KeepsTaken, Account}
+use Rattle.link_account.proofs.Names.{is_connected, wants, piece_size, after_given, after_busy, Said, MayPlay}
+use Rattle.link_run.proofs.Names.{Accounts, Carries, Connected, Hears, IsCarried, Link, RunOf, SendsShort, Turn, User, arrival, delivered}
+use Rattle.link_run.proofs.Names.{is_busy, is_released, offered, offered_at, offered_times, piece_at, releases, room_for, said_at, served}
+use Rattle.link_run.proofs.Names.{served_at, size_for, start}
 use Rattle.std.proofs.lemmas.List.{length-take}
-use Rattle.link_account.specs.Account.{size_for, first_terms}
-use Rattle.link_run.specs.Laws.{SendsShort}
-use Rattle.link_run.proofs.Keeping.{Books, GoesOn, hears}
-use Rattle.link_run.proofs.Speaking.{Ledger, Speaks, Keeps_on, Releases}
+use Rattle.link_run.proofs.Keeping.{GoesOn, hears}
+use Rattle.link_run.proofs.Speaking.{Speaks}
 use Rattle.link_run.proofs.Serving.{asks-alone, busy-alone}
 use Rattle.link_run.proofs.Running.{told, speaks-at}
 use Rattle.link_run.proofs.Ending.{IsKept, AtBoth, kept-heard, kept-run, HasSetup, setups-kept}
-use Rattle.link_run.proofs.Knowing.{rank, OnSent, terms_of}
+use Rattle.link_run.proofs.Knowing.{OnSent}
 use Rattle.link_run.proofs.Following.{KnownOf, known-run, known-mid}
 use Rattle.link_run.proofs.Lengths.{AllShort, ShortFrame, said-short}
 
@@ -31,15 +29,10 @@ one-more n (x ∷ ps) p h l = (h.0, one-more n ps p h.1 l)
 
 fit-piece : (p : List ℕ) (o : Outgoing) → AllShort o.size o.pieces → length p ≤ o.size
     → AllShort (with_piece p o).size (with_piece p o).pieces
-fit-piece [] o h l = h
-fit-piece (x ∷ xs) o h l = one-more o.size o.pieces (x ∷ xs) h l
+fit-piece p o h l = grind (arith, one-more)
 
 size-piece : (a : Account) → piece_size a ≤ a.outgoing.size
-size-piece a = go (is_connected a.phase)
-  where
-    go : (b : Bool) → cond b a.outgoing.size 0 ≤ a.outgoing.size
-    go true = omega arith
-    go false = omega arith
+size-piece a = grind (arith)
 
 fit-offered-at : (file : List ℕ) (a : Account) (w : Option ℕ) → Fit a → Fit (offered_at file a w)
 fit-offered-at file a None h = h
@@ -51,42 +44,17 @@ fit-offered : (n : ℕ) (file : List ℕ) (a : Account) → Fit a → Fit (offer
 fit-offered zero file a h = h
 fit-offered (suc n) file a h = fit-offered n file (offered_at file a (wants a)) (fit-offered-at file a (wants a) h)
 
-fit-delivered : (a : Account) → Fit a → Fit (delivered a)
-fit-delivered a h = go (is_connected a.phase)
-  where
-    go : (b : Bool) → Fit (cond b (record a { incoming = record a.incoming { given = length a.incoming.taken } }) a)
-    go true = record { each = h.each }
-    go false = h
-
 fit-served : (u : User) (turn : ℕ) (released : Bool) (a : Account) → Fit a → Fit (served u turn released a).account
-fit-served u turn released a h =
-    let g : Fit (after_given (delivered a)) = record { each = (fit-delivered a h).each } in
-    let c = offered u.file (after_given (delivered a)) in
-    let o = fit-offered (room_for (after_given (delivered a))) u.file (after_given (delivered a)) g in
-    let busy = is_busy turn u.busy in
-    let b : Fit (after_busy busy c) = subst Fit (sym (busy-alone busy c)) (record { each = o.each }) in
-    subst Fit (sym (asks-alone turn released u.breaks (after_busy busy c))) (record { each = b.each })
+fit-served u turn released a h = grind (arith, fit-offered, busy-alone, asks-alone)
 
 fit-heard : (a b : Account) → Fit a → GoesOn a b → Fit b
-fit-heard a b h (inl s) =
-    record {
-      each = subst (λ n. AllShort n b.outgoing.pieces) (sym s.size)
-          (subst (AllShort a.outgoing.size) (sym (ap (λ (k : Books). k.pieces) s.books_are)) h.each);
-    }
-fit-heard a b h (inr e) = record { each = subst (λ (o : Outgoing). AllShort o.size o.pieces) (sym e.outgoing_is) tt }
+fit-heard a b h x = grind (arith)
 
 fit-spoken : (release : Bool) (a b : Account) → Fit a → Speaks release a b → Fit b
-fit-spoken release a b h (Keeps_on e) = record { each = subst (λ (l : Ledger). AllShort l.size l.books.pieces) (sym e) h.each }
-fit-spoken release a b h (Releases on role linked e k) =
-    record { each = subst (λ (l : Ledger). AllShort l.size l.books.pieces) (sym e) h.each }
+fit-spoken release a b h x = grind (arith)
 
 fits-kept : (link : Link) → IsKept IsFit link
-fits-kept link = record {
-  begins = λ r. record { each = tt };
-  hears = λ r a b h g. fit-heard a b h g;
-  serves = λ r turn released a h. fit-served (of r link).user turn released a h;
-  speaks = λ r release a b h g. fit-spoken release a b h g;
-}
+fits-kept link = grind (arith, fit-heard, fit-served, fit-spoken)
 
 -- what an end that has begun has agreed for its segments; before, it has none
 pub record Sized (most : ℕ) (a : Account) : Type 0 where
@@ -94,8 +62,7 @@ pub record Sized (most : ℕ) (a : Account) : Type 0 where
 
 sized-heard : (most : ℕ) (a b : Account) → Sized most a → GoesOn a b → (b.phase ≡ Connected → size_for b.setup.role b.terms ≤ most)
     → Sized most b
-sized-heard most a b h (inl s) f = record { size = omega (arith, h.size, s.size) }
-sized-heard most a b h (inr e) f = record { size = omega (arith, ap (λ (o : Outgoing). o.size) e.outgoing_is, f e.is) }
+sized-heard most a b h x f = grind (arith)
 
 served-size : (u : User) (turn : ℕ) (released : Bool) (a : Account) → (served u turn released a).account.outgoing.size ≡ a.outgoing.size
 served-size u turn released a =
@@ -106,13 +73,8 @@ served-size u turn released a =
     ∙ ap (λ (x : Account). x.outgoing.size) (busy-alone (is_busy turn u.busy) c) ∙ sizes (room_for g) u.file g
     ∙ given (is_connected a.phase)
   where
-    one : (p : List ℕ) (o : Outgoing) → (with_piece p o).size ≡ o.size
-    one [] o = refl
-    one (x ∷ xs) o = refl
-
     at : (file : List ℕ) (x : Account) (w : Option ℕ) → (offered_at file x w).outgoing.size ≡ x.outgoing.size
-    at file x None = refl
-    at file x (Some n) = one (piece_at (piece_size x) file n) x.outgoing
+    at file x y = grind (arith)
 
     sizes : (n : ℕ) (file : List ℕ) (x : Account) → (offered_times n file x).outgoing.size ≡ x.outgoing.size
     sizes zero file x = refl
@@ -120,12 +82,10 @@ served-size u turn released a =
 
     given : (b : Bool) → (after_given
         (cond b (record a { incoming = record a.incoming { given = length a.incoming.taken } }) a)).outgoing.size ≡ a.outgoing.size
-    given true = refl
-    given false = refl
+    given x = grind (arith)
 
 spoken-size : (release : Bool) (a b : Account) → Speaks release a b → b.outgoing.size ≡ a.outgoing.size
-spoken-size release a b (Keeps_on e) = ap (λ (l : Ledger). l.size) e
-spoken-size release a b (Releases on role linked e k) = ap (λ (l : Ledger). l.size) e
+spoken-size release a b x = grind (arith)
 
 -- what an end offers
 abbrev most_of : Link → Role → ℕ
@@ -134,21 +94,11 @@ most_of link role = (of role link).setup.offer.tx_len
 -- the agreed length is at most that
 orig-most : (link : Link) (sent heard : List Turn) (mid : Accounts) → KnownOf link sent heard mid → link.orig.setup.role ≡ Originator
     → mid.orig.setup ≡ link.orig.setup → mid.orig.phase ≡ Connected → size_for mid.orig.setup.role mid.orig.terms ≤ most_of link Originator
-orig-most link sent heard mid k r s e =
-    let terms : mid.orig.terms ≡ terms_of link.orig.setup link.answ.setup =
-    k.terms_o ∙ ap (λ p. cond (nat_le 2 (rank p)) (terms_of link.orig.setup link.answ.setup) first_terms) e in
-    let role : mid.orig.setup.role ≡ Originator = ap (λ (x : Setup). x.role) s ∙ r in
-    subst (λ x. size_for x mid.orig.terms ≤ most_of link Originator) (sym role)
-    (subst (λ (x : Terms). x.len_o ≤ most_of link Originator) (sym terms) (omega arith))
+orig-most link sent heard mid k r s e = grind (arith)
 
 answ-most : (link : Link) (sent heard : List Turn) (mid : Accounts) → KnownOf link sent heard mid → link.answ.setup.role ≡ Answerer
     → mid.answ.setup ≡ link.answ.setup → mid.answ.phase ≡ Connected → size_for mid.answ.setup.role mid.answ.terms ≤ most_of link Answerer
-answ-most link sent heard mid k r s e =
-    let terms : mid.answ.terms ≡ terms_of link.orig.setup link.answ.setup =
-    k.terms_a ∙ ap (λ p. cond (nat_le 1 (rank p)) (terms_of link.orig.setup link.answ.setup) first_terms) e in
-    let role : mid.answ.setup.role ≡ Answerer = ap (λ (x : Setup). x.role) s ∙ r in
-    subst (λ x. size_for x mid.answ.terms ≤ most_of link Answerer) (sym role)
-    (subst (λ (x : Terms). x.len_a ≤ most_of link Answerer) (sym terms) (omega arith))
+answ-most link sent heard mid k r s e = grind (arith)
 
 -- all through a run
 sized-mid : (reads : ReadsAllowed) (keeps : KeepsTaken) (written : ReadsWritten) (link : Link) (delay : Role → ℕ) (ts : List Turn)
@@ -180,8 +130,7 @@ sized-run : (reads : ReadsAllowed) (keeps : KeepsTaken) (written : ReadsWritten)
 sized-run reads keeps written link delay m [] ends c h r = subst (λ (e : Accounts). Sized (most_of link r) (of r e)) (sym h) (starts r)
   where
     starts : (r : Role) → Sized (most_of link r) (of r (start link))
-    starts Originator = record { size = omega arith }
-    starts Answerer = record { size = omega arith }
+    starts r = grind (arith)
 sized-run reads keeps written link delay m (t ∷ ts) ends c h r =
     let g = h.2 in
     let turn = length ts in
@@ -238,8 +187,4 @@ sends_short reads keeps written link delay ts ends t after v c g role slot frame
         (served_at link (length ts) g.mid Answerer).account s h q
 
     same : (g.speaking role).said.sent ≡ slot.sent
-    same = ap sent-of (sym (g.speaking role).sent_is ∙ e)
-      where
-        sent-of : Option Spoken → Sent
-        sent-of None = slot.sent
-        sent-of (Some z) = z.sent
+    same = grind (arith)

@@ -1,13 +1,8 @@
 -- What an end keeps as it speaks.
-use Rattle.std.proofs.Common.{◌⊎◌, inl, inr}
-use Rattle.std.proofs.Common.{◌≡◌, ℕ, Bool, true, false, cond, ◌&&◌, List, [], ◌∷◌, ◌++◌, arith, ◌≤◌, refl, sym, ap, subst, Some, Ok, Err}
-use Rattle.link_account.proofs.Names.{false≢true, Role, Originator, Answerer, Frame, Terms, Incoming, LinkFault, Account, trying, Said}
-use Rattle.link_account.proofs.Names.{speak, is_originator}
-use Rattle.link_run.proofs.Names.{Phase, Connected, Releasing}
-use Rattle.lapm_receiver.specs.Incoming.{after_asked}
-use Rattle.link_account.specs.Laws.{WantsAnswers}
-use Rattle.link_account.proofs.SpeakWays.{Tries, Ways, by-ways, linked-alike, tries-alike, next-keeps, Breaks, Undetected, Spends}
-use Rattle.link_account.proofs.SpeakWays.{why-broken}
+use Rattle.std.proofs.Common.{◌⊎◌, ◌≡◌, ℕ, Bool, true, ◌&&◌, List, arith, ◌≤◌, refl, Some, Ok, Err}
+use Rattle.link_account.proofs.Names.{Role, Originator, Frame, Terms, Incoming, LinkFault, Account, trying, Said, speak, is_originator}
+use Rattle.link_run.proofs.Names.{Connected, Phase, Releasing, Tries, WantsAnswers, Ways, after_asked, by-ways, linked-alike, next-keeps}
+use Rattle.link_run.proofs.Names.{tries-alike, why-broken}
 use Rattle.link_run.proofs.Keeping.{Books, books, stage, standing}
 
 -- what speaking doesn't change
@@ -51,12 +46,7 @@ out-ledger : (a : Account) (ps : List (List ℕ)) (e : Bool) (s : ℕ) → ps �
 out-ledger a ps e s p q r = rw (p, q, r) refl
 
 asked-in : (n : ℕ) (i : Incoming) → ((after_asked n i).given ≡ i.given) × ((after_asked n i).taken ≡ i.taken)
-asked-in n i = go i.srej
-  where
-    go : (b : Bool) → ((cond b (record i { asked = i.asked ++ n ∷ [] }) (record i { rej = false })).given ≡ i.given)
-        × ((cond b (record i { asked = i.asked ++ n ∷ [] }) (record i { rej = false })).taken ≡ i.taken)
-    go true = (refl, refl)
-    go false = (refl, refl)
+asked-in n i = grind (arith)
 
 in-ledger : (a : Account) (g : ℕ) (t : List (List ℕ)) → g ≡ a.incoming.given → t ≡ a.incoming.taken
     → record {
@@ -94,10 +84,7 @@ module _ (turn : ℕ) (release : Bool) (a : Account) where
 
   released-now : (role : Role) → a.setup.role ≡ role → (b : Bool) → release ≡ b → (b && is_originator role) ≡ true
       → (release ≡ true) × (a.setup.role ≡ Originator)
-  released-now Originator e true f g = (f, e)
-  released-now Originator e false f g = absurd (false≢true g)
-  released-now Answerer e true f g = absurd (false≢true g)
-  released-now Answerer e false f g = absurd (false≢true g)
+  released-now x e y f g = grind (arith)
 
   ways : Ways P turn release a
   ways = record {
@@ -133,36 +120,20 @@ pub speaks-phase : (turn : ℕ) (release : Bool) (a : Account) (said : Said) →
 speaks-phase turn release a said e = go (speaks turn release a said e)
   where
     go : Speaks release a said.account → (said.account.phase ≡ a.phase) ⊎ ((a.phase ≡ Connected) × (said.account.phase ≡ Releasing))
-    go (Keeps_on l) = inl (ap (λ (x : Ledger). x.phase) l)
-    go (Releases on r p l s) = inr (p, ap (λ (x : Ledger). x.phase) l)
+    go x = grind (arith)
 
 pub speaks-pieces : (turn : ℕ) (release : Bool) (a : Account) (said : Said) → speak turn release a ≡ Ok said
     → (said.account.outgoing.pieces ≡ a.outgoing.pieces) × (said.account.outgoing.size ≡ a.outgoing.size)
 speaks-pieces turn release a said e = go (speaks turn release a said e)
   where
     go : Speaks release a said.account → (said.account.outgoing.pieces ≡ a.outgoing.pieces) × (said.account.outgoing.size ≡ a.outgoing.size)
-    go (Keeps_on l) = (ap (λ (x : Ledger). x.books.pieces) l, ap (λ (x : Ledger). x.size) l)
-    go (Releases on r p l s) = (ap (λ (x : Ledger). x.books.pieces) l, ap (λ (x : Ledger). x.size) l)
+    go x = grind (arith)
 
 -- what stands in Releasing and Closed
 pub stands-spoken : (turn : ℕ) (release : Bool) (a : Account) (said : Said) → 2 ≤ stage a.phase → speak turn release a ≡ Ok said
     → standing said.account ≡ standing a
-stands-spoken turn release a said h e = by-ways (λ said. standing said.account ≡ standing a) turn release a (record {
-  answers = λ alone d e. refl;
-  flags = λ alone e. refl;
-  mark = λ p r e. refl;
-  odp = λ p r e. refl;
-  xid = λ p r. tries-alike _ _ _ a (λ w. refl) refl;
-  sabme = λ p. tries-alike _ _ _ a (λ w. refl) refl;
-  linked = λ p r. absurd (omega (arith, h, ap stage p));
-  releases = λ p r. absurd (omega (arith, h, ap stage p));
-  disc = λ p. tries-alike _ _ _ a (λ w. refl) refl;
-}) said e
+stands-spoken turn release a said h e = grind (arith, by-ways)
 
 pub breaks-for-want : (turn : ℕ) (release : Bool) (a : Account) (fault : LinkFault) → speak turn release a ≡ Err fault
     → WantsAnswers (Some fault)
-breaks-for-want turn release a fault e = go (why-broken turn release a fault e)
-  where
-    go : Breaks turn release a fault → WantsAnswers (Some fault)
-    go (Undetected p r l f) = subst (λ x. WantsAnswers (Some x)) (sym f) tt
-    go (Spends x f) = subst (λ x. WantsAnswers (Some x)) (sym f) tt
+breaks-for-want turn release a fault e = grind (arith, why-broken)

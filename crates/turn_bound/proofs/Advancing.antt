@@ -1,15 +1,11 @@
 -- The front of an end that isn't whole advances within the turns of one segment, or the run ends.
-use Rattle.std.proofs.Common.{◌≡◌, ℕ, suc, ◌+◌, ◌-◌, ◌*◌, ◌<◌, ◌≤◌, ◌||◌, ◌⊎◌, Bool, true, false, cond, nat_lt, List, [], ◌∷◌, ◌++◌, length}
-use Rattle.std.proofs.Common.{inl, inr, arith, refl, sym, ◌∙◌, ap, subst, Option}
+use Rattle.std.proofs.Common.{◌≡◌, ℕ, suc, ◌+◌, ◌-◌, ◌*◌, ◌<◌, ◌≤◌, ◌⊎◌, Bool, true, false, cond, List, [], ◌∷◌, ◌++◌, length, inl, inr}
+use Rattle.std.proofs.Common.{arith, refl, sym, ◌∙◌, ap, subst, Option}
 use Rattle.turn_bound.proofs.Truths.{neither-first}
-use Rattle.link_account.proofs.Names.{nat_tests, Role, of, Outgoing, Account}
+use Rattle.link_account.proofs.Names.{Role, of, Outgoing, Account}
 use Rattle.link_run.proofs.Names.{Connected, is_released, Link, Accounts, Turn, GoingTurn, RunOf, arrival, IsCarried}
-use Rattle.lapm_sender.specs.Outgoing.{is_whole}
-use Rattle.turn_bound.specs.Time.{KeepsTime}
-use Rattle.turn_bound.specs.Due.{NoneDue}
-use Rattle.turn_bound.specs.Advance.{NeverBusy, MaySend, GoesOn, AdvancesSoon}
+use Rattle.turn_bound.proofs.Names.{AdvancesSoon, GoesOn, KeepsTime, MaySend, NeverBusy, NoneDue, is_whole}
 use Rattle.turn_bound.proofs.Value.{Rates, rates, AreRates, Ticks, left, is_waiting, Sends, is_free, lasts, one_if, sender_value, cond-le}
-use Rattle.turn_bound.proofs.Value.{Stands}
 use Rattle.turn_bound.proofs.Falls.{Offered, end-turn}
 use Rattle.turn_bound.proofs.Ending.{own-offered}
 use Rattle.turn_bound.proofs.MeetHear.{is_begun, of_arrived}
@@ -20,7 +16,6 @@ use Rattle.turn_bound.proofs.HeldTurn.{Linking, Linger, lingers}
 use Rattle.turn_bound.proofs.Wholeness.{late-whole}
 use Rattle.turn_bound.proofs.CalmRuns.{said-speaks, EndAt, end-at, never-at, light-arrival, Unpaused, calm-run, going-run, polls_heard}
 use Rattle.turn_bound.proofs.CalmRuns.{few-heard, hears-in}
-use Rattle.turn_bound.proofs.Tied.{keeps}
 
 -- the run behind later turns is one run
 joins : (link : Link) (ts us : List Turn) (before after : Accounts) → RunOf link ts before → GoesOn link ts before us after
@@ -46,16 +41,7 @@ may-of a b e m = grind (arith)
 
 linking-of : (z : Rates) (turn : ℕ) (role : Role) (a : Account) → EndAt z turn role a → a.phase ≡ Connected → NoneDue a → Unpaused a
     → may_send_at a ≡ true → Linking z turn role a
-linking-of z turn role a e phase none u may = record {
-  linked = subst (λ q. Stands z turn turn role q a) phase e.stands;
-  phase = phase;
-  role_is = e.role_is;
-  rates = e.is_of;
-  none_due = none;
-  unpaused = u.paused;
-  told = u.told;
-  may = may;
-}
+linking-of z turn role a e phase none u may = grind (arith)
 
 -- A turn of the end, in a run.
 abbrev pub Lingers : ℕ → ℕ → ℕ → List Turn → Turn → Role → Account → Account → Type 0
@@ -150,11 +136,7 @@ next-stage tries period delay link list ends t after role total start n k nb run
 
     fell : (w w' : Bool) → is_waiting a.outgoing ≡ w → is_waiting b.outgoing ≡ w'
         → sender_value z total (turn + 1) b.outgoing b.wait.timer + lasts z.room w w' ≤ sender_value z total turn a.outgoing a.wait.timer
-    fell w w' e f = subst
-        (λ q. sender_value z total
-        (turn + 1) b.outgoing b.wait.timer + lasts z.room w q ≤ sender_value z total turn a.outgoing a.wait.timer) f
-        (subst (λ q. sender_value z total (turn + 1) b.outgoing b.wait.timer + lasts z.room q
-        (is_waiting b.outgoing) ≤ sender_value z total turn a.outgoing a.wait.timer) e x.falls)
+    fell w w' e f = grind (arith)
 
     go : (w : Bool) → is_waiting b.outgoing ≡ w → Stage z total start n list role a → Stage z total start (suc n) (t ∷ list) role b
     go true f (Waits e s) = Waits f (omega (arith, s, fell true true e f, later))
@@ -174,8 +156,7 @@ next-stage tries period delay link list ends t after role total start n k nb run
             (omega (arith, p, pays, held-later, eight (of_arrived frame_poll (arrival (of role t).heard))))
           where
             eight : (q : Bool) → cond q 8 0 ≡ 8 * one_if q
-            eight true = omega arith
-            eight false = omega arith
+            eight q = grind (arith)
 
 -- the stages, from the first
 stages : (tries period : ℕ) (delay : Role → ℕ) (link : Link) (ts us : List Turn) (before after : Accounts) (role : Role) (total : ℕ)
@@ -224,24 +205,14 @@ soon : (z : Rates) (total start n front : ℕ) (list : List Turn) (role : Role) 
     → start ≤ z.quota * (total - front) + z.first + z.whole → a.outgoing.front ≡ front → a.outgoing.front < total
     → ((h : ℕ) → 3 * h + held_value (length list) a ≤ 68 + 8 * polls_heard h role list → h ≤ 32) → Stage z total start n list role a
     → n < z.quota
-soon z total start n front list role a y low same less few (Waits e s) =
-    let here : z.quota * (total - a.outgoing.front) ≡ z.quota * (total - front) = ap (λ f. z.quota * (total - f)) same in
-    omega (arith, s, low, here, y.quota)
-soon z total start n front list role a y low same less few (Holds h e s p) =
-    let here : z.quota * (total - a.outgoing.front) ≡ z.quota * (total - front) = ap (λ f. z.quota * (total - f)) same in
-    let idle : nat_lt a.outgoing.front a.outgoing.high ≡ false =
-    neither-first (nat_lt a.outgoing.front a.outgoing.high) (a.outgoing.awaited || a.outgoing.paused) e in
-    let some : nat_lt a.outgoing.front total ≡ true = grind (arith, nat_tests) in
-    let free : cond (is_free total a.outgoing) z.first 0 ≡ z.first = rw (idle, some) refl in
-    omega (arith, s, low, here, free, few h p, y.quota, y.first, y.room, y.period)
+soon z total start n front list role a y low same less few x = grind (arith, neither-first)
 
 advances-linked : (tries period : ℕ) (delay : Role → ℕ) (link : Link) (ts us : List Turn) (before after : Accounts) (role : Role)
     → KeepsTime tries period delay link → NeverBusy link → RunOf link ts before → MaySend (of role before) → GoesOn link ts before us after
     → IsCarried delay (us ++ ts)
     → (of role after).phase ≡ Connected → is_whole (of role after).outgoing ≡ false
     → (of role after).outgoing.front ≡ (of role before).outgoing.front → length us < (rates tries period).quota
-advances-linked tries period delay link ts [] before after role k n run m goes c phase unwhole same =
-    let y = (end-at tries period delay link ts before role k run c).rates in omega (arith, y.quota)
+advances-linked tries period delay link ts [] before after role k n run m goes c phase unwhole same = grind (arith, end-at)
 advances-linked tries period delay link ts (t ∷ us) before after role k n run m (ends, goes, g) c phase unwhole same =
     let z : Rates = rates tries period in
     let total : ℕ = length (of role after).outgoing.pieces in

@@ -1,18 +1,15 @@
 use Rattle.std.proofs.Common.{arith, ◌⊎◌, inl, inr, ◌≡◌, ℕ, ◌+◌, ◌&&◌, Bool, true, false, List, [], ◌∷◌, length, refl, sym, ◌∙◌, ap, subst}
-use Rattle.std.proofs.Common.{Some, None, Ok}
+use Rattle.std.proofs.Common.{None, Ok}
 use Rattle.link_account.proofs.Names.{Role, Originator, Answerer, Frame, is_originator, Arrived, Account, is_connected, hear, without_adp}
 use Rattle.link_account.proofs.Names.{trying, Said, speak, of}
-use Rattle.link_run.proofs.Names.{Phase, Connected, Releasing, Answer, User, is_busy, is_closed, is_released, Link, Accounts, Turn, RunOf}
+use Rattle.link_run.proofs.Names.{Phase, Connected, Releasing, User, is_busy, is_closed, is_released, Link, Accounts, Turn, RunOf}
 use Rattle.link_run.proofs.Names.{IsCarried}
 use Rattle.turn_bound.proofs.Value.{Rates, Stands}
 use Rattle.turn_bound.proofs.OneTurn.{Hearing}
 use Rattle.turn_bound.proofs.CalmRuns.{said-speaks, hears-in}
-use Rattle.link_run.specs.Run.{start}
-use Rattle.turn_bound.specs.Time.{KeepsTime}
-use Rattle.turn_bound.specs.Due.{NoneDue}
+use Rattle.turn_bound.proofs.Names.{KeepsTime, NoneDue, Steps, Tries, answers-unconnected, linked-alike, numbers-alike, retimed}
+use Rattle.turn_bound.proofs.Names.{tries-alike}
 use Rattle.turn_bound.proofs.Serving.{Served}
-use Rattle.link_account.proofs.HearWays.{numbers-alike}
-use Rattle.link_account.proofs.SpeakWays.{Steps, Tries, answers-unconnected, linked-alike, tries-alike, retimed}
 use Rattle.link_account.proofs.HearWays as HearWays
 use Rattle.link_account.proofs.SpeakWays as SpeakWays
 
@@ -31,16 +28,7 @@ one-owed : (a b : Account) → NoneDue a → is_released a.phase ≡ false → b
 one-owed a b h r e = record { one = inr (λ x. e ∙ h.reply r); calm = λ c x. e ∙ h.reply r; none = λ x c. cc }
 
 one-closed : (role : Role) (b : Account) → is_closed b.phase ≡ true → OneDue role b
-one-closed role b e =
-    record {
-      one = inr (λ x. let wrong : true ≡ false = sym (closed-released b.phase e) ∙ x in cc);
-      calm = λ c x. let wrong : true ≡ false =
-          sym (closed-released b.phase e) ∙ x in cc;
-      none = λ r c. let wrong : true ≡ false = sym e ∙ c in cc;
-    }
-  where
-    closed-released : (p : Phase) → is_closed p ≡ true → is_released p ≡ true
-    closed-released p e = grind (arith)
+one-closed role b e = grind (arith)
 
 pub one-hears : (role : Role) (arrived : Arrived) (turn : ℕ) (a mid : Account) → a.setup.role ≡ role → NoneDue a → hear turn arrived a
     ≡ Ok mid
@@ -84,22 +72,7 @@ one-hears role arrived turn a mid er h e = HearWays.by-ways (λ x b. OneDue role
 
 steps-clean : (turn : ℕ) (special : Bool) (a : Account) → (a.owes.answer ≡ None) ⊎ (a.owes.reply ≡ false)
     → Steps (λ said. NoneDue said.account) turn special a
-steps-clean turn special a one = record {
-  answers = λ d e. record { answer = refl; reply = λ r. either d e one };
-  final = λ n e. record { answer = n; reply = λ r. refl };
-  poll = λ n q e. record { answer = n; reply = λ r. q };
-  segment = λ b u n e. record { answer = b.answer; reply = λ r. b.reply };
-  brkack = λ b s word e. record { answer = b.answer; reply = λ r. b.reply };
-  brk = λ b s k word e. record { answer = b.answer; reply = λ r. b.reply };
-  tell = λ b w e. record { answer = b.answer; reply = λ r. b.reply };
-  rej = λ b w n e. record { answer = b.answer; reply = λ r. b.reply };
-  srej = λ b w s n e. record { answer = b.answer; reply = λ r. b.reply };
-  flags = λ i. record { answer = i.before.answer; reply = λ r. i.before.reply };
-}
-  where
-    either : (d : Answer) → a.owes.answer ≡ Some d → (a.owes.answer ≡ None) ⊎ (a.owes.reply ≡ false) → a.owes.reply ≡ false
-    either d e (inl n) = let wrong : None ≡ Some d = sym n ∙ e in cc
-    either d e (inr r) = r
+steps-clean turn special a one = grind (arith)
 
 said-clean : (z : Rates) (before turn : ℕ) (release : Bool) (role : Role) (p : Phase) (a : Account) (said : Said)
     → Stands z before turn role p a
@@ -130,10 +103,7 @@ said-clean z before turn release role p a said st e er open_ k h = SpeakWays.by-
 
     -- no answerer is in this phase
     alone : {q : Phase} → a.phase ≡ q → (Stands z before turn Answerer q a → ⊥) → role ≡ Originator
-    alone {q} f unheld = go role st
-      where
-        go : (r : Role) → Stands z before turn r p a → r ≡ Originator
-        go b s = grind (arith)
+    alone {q} f unheld = grind (arith)
 
     originates : (r : Role) (b : Bool) → (b && is_originator r) ≡ true → r ≡ Originator
     originates c b x = grind (arith)
@@ -157,11 +127,7 @@ end-clean {z} {user} {turn} {role} {a} {arrived} {mid} {b} i release said speaks
 
 pub none-due-run : (tries period : ℕ) (delay : Role → ℕ) (link : Link) (ts : List Turn) (ends : Accounts)
     → KeepsTime tries period delay link → RunOf link ts ends → IsCarried delay ts → (role : Role) → NoneDue (of role ends)
-none-due-run tries period delay link [] ends k run c role = subst (λ (x : Accounts). NoneDue (of role x)) (sym run) (by role)
-  where
-    by : (r : Role) → NoneDue (of r (start link))
-    by Originator = record { answer = refl; reply = λ r. refl }
-    by Answerer = record { answer = refl; reply = λ r. refl }
+none-due-run tries period delay link [] ends k run c role = grind (arith)
 none-due-run tries period delay link (t ∷ ts) ends k (before, run, g) c role =
     let o = g.speaking role in
     let sp = said-speaks link (length ts) g.mid role o.said o.says in

@@ -1,22 +1,18 @@
-use Rattle.std.proofs.Common.{◌≡◌, ℕ, ◌+◌, ◌-◌, ◌*◌, Bool, true, false, nat_eq, nat_le, arith, refl, sym, ◌∙◌, ap, subst, Err, inl, inr}
-use Rattle.std.proofs.Common.{◌⊎◌, ◌<◌, ◌≤◌, List, [], ◌∷◌, length, map}
-use Rattle.link_account.proofs.Names.{nat_tests, Role, Originator, Answerer, LinkFault, Account, is_connected, spent, speak, Arrived}
-use Rattle.link_account.proofs.Names.{cases_lt, AllByRecursion, Outgoing, of}
-use Rattle.link_run.proofs.Names.{Phase, Negotiating, Establishing, Connected, Releasing, User, served_at, releases}
-use Rattle.turn_bound.proofs.Value.{Rates, AreRates, Runs, Ticks, IsOf, Linked, Tries, Stands, rates}
+use Rattle.std.proofs.Common.{◌≡◌, ℕ, ◌+◌, ◌-◌, ◌*◌, Bool, true, false, nat_eq, arith, sym, ◌∙◌, ap, subst, Err, ◌⊎◌, ◌<◌, ◌≤◌, List, []}
+use Rattle.std.proofs.Common.{◌∷◌, length, map}
+use Rattle.link_account.proofs.Names.{Role, Originator, Answerer, LinkFault, Account, is_connected, speak, Arrived, AllByRecursion}
+use Rattle.link_account.proofs.Names.{Outgoing, of}
+use Rattle.link_run.proofs.Names.{Phase, Negotiating, Establishing, Releasing, User, served_at, releases}
+use Rattle.turn_bound.proofs.Value.{Rates, AreRates, Runs, IsOf, Tries, Stands}
 use Rattle.turn_bound.specs.Spent.{since, IsTimely, SpendsOnTime}
-use Rattle.link_account.proofs.SpeakWays.{Ended, TryEnds, ReleaseEnds, TimerEnds, BreakEnds, Breaks, Undetected, Spends, why-broken}
+use Rattle.turn_bound.proofs.Names.{AnswersAtOnce, Breaks, BusyLine, IsBroken, busy_turns, why-broken}
 use Rattle.turn_bound.proofs.OneTurn.{Hearing}
 use Rattle.std.proofs.Math.Nat.{mul-le-mul_right, mul-le-mul_left}
-use Rattle.link_run.specs.End.{BusyLine, busy_turns}
 use Rattle.turn_bound.specs.Offered.{HoldsFile, IsWithin, OffersWithin}
 use Rattle.turn_bound.specs.Limits.{IsShort, NoRunIsLong}
-use Rattle.link_run.specs.Run.{IsBroken}
 use Rattle.turn_bound.specs.Bound.{of_both, weight, most_turns, offered_to, EndsSoon, EndsSoonByFiles, EndsSoonByOctets}
 use Rattle.turn_bound.specs.Together.{StandTogether}
-use Rattle.turn_bound.specs.Due.{NoneDue, AnswersAtOnce}
 use Rattle.turn_bound.proofs.Tied.{tied, keeps, link_of, turn_of, state_of, turns-length}
-use Rattle.turn_bound.proofs.Ending.{fits}
 use Rattle.turn_bound.proofs.Soon.{ends-soon, stands-together}
 use Rattle.turn_bound.proofs.CalmRuns.{hears-in}
 use Rattle.turn_bound.proofs.AtMostOne.{none-due-run}
@@ -26,16 +22,7 @@ use Rattle.turn_bound.proofs.Sizes.{within-run}
 on-time : (z : Rates) (before turn count set tries period : ℕ) → AreRates z → Runs z before turn count set → tries ≡ z.tries
     → period ≡ z.period → nat_eq turn (set + period) ≡ true → nat_eq count tries ≡ true
     → ((turn - (tries + 1) * period) + z.whole ≡ turn) × (since z.period count set ≡ turn - (tries + 1) * period)
-on-time z before turn count set tries period y r et ep due spent' =
-    let now : turn ≡ set + z.period = let f : nat_eq turn (set + z.period) ≡ true = ap (λ p. nat_eq turn (set + p)) (sym ep) ∙ due in
-    grind (arith, nat_tests) in
-    let last : count ≡ z.tries = let f : nat_eq count z.tries ≡ true = ap (λ n. nat_eq count n) (sym et) ∙ spent' in
-    grind (arith, nat_tests) in
-    let whole : (tries + 1) * period ≡ z.whole = ap (λ n. (n + 1) * period) et ∙ ap (λ p. (z.tries + 1) * p) ep ∙ sym y.whole in
-    let all : z.whole ≡ count * z.period + z.period =
-    y.whole ∙ (let e : (z.tries + 1) * z.period ≡ z.tries * z.period + z.period = omega arith in e)
-    ∙ ap (λ n. n * z.period + z.period) (sym last) in
-    (omega (arith, r.tied, now, whole, all), omega (arith, r.tied, now, whole, all))
+on-time z before turn count set tries period y r et ep due spent' = grind (arith)
 
 -- Speaking: whatever the role and the phase.
 pub speaks-spend : (z : Rates) (turn : ℕ) (role : Role) (p : Phase) (release : Bool) (a : Account) (fault : LinkFault) → AreRates z
@@ -47,75 +34,29 @@ speaks-spend z turn role p release a fault y k s e er h = go (why-broken turn re
     -- the try of its phase
     tries : ((a.phase ≡ Negotiating) × (a.setup.role ≡ Originator)) ⊎ ((a.phase ≡ Establishing) ⊎ (a.phase ≡ Releasing))
         → Tries z (turn + 1) turn a × (is_connected a.phase ≡ false)
-    tries (inl q) = (trying role (subst (λ x. Stands z (turn + 1) turn role x a) (sym e ∙ q.0) s) (sym er ∙ q.1), ap is_connected q.0)
-      where
-        trying : (r : Role) → Stands z (turn + 1) turn r Negotiating a → r ≡ Originator → Tries z (turn + 1) turn a
-        trying Originator t o = t.1
-        trying Answerer t o = cc
-    tries (inr (inl q)) = (trying role (subst (λ x. Stands z (turn + 1) turn role x a) (sym e ∙ q) s), ap is_connected q)
-      where
-        trying : (r : Role) → Stands z (turn + 1) turn r Establishing a → Tries z (turn + 1) turn a
-        trying Originator t = t.1
-        trying Answerer t = absurd t
-    tries (inr (inr q)) = (trying role (subst (λ x. Stands z (turn + 1) turn role x a) (sym e ∙ q) s), ap is_connected q)
-      where
-        trying : (r : Role) → Stands z (turn + 1) turn r Releasing a → Tries z (turn + 1) turn a
-        trying Originator t = t
-        trying Answerer t = absurd t
-
-    linked : a.phase ≡ Connected → Linked z (turn + 1) turn role a
-    linked q = subst (λ x. Stands z (turn + 1) turn role x a) (sym e ∙ q) s
+    tries x = grind (arith)
 
     whole-is : (a.setup.tries + 1) * a.setup.period ≡ z.whole
     whole-is = ap (λ n. (n + 1) * a.setup.period) k.tries ∙ ap (λ p. (z.tries + 1) * p) k.period ∙ sym y.whole
 
-    by : Ended turn release a → IsTimely z.period z.whole turn a (spent turn a)
-    by (TryEnds q x n) = let t = tries q in
-        let o = on-time z (turn + 1) turn a.wait.try_count a.wait.try_set a.setup.tries a.setup.period y t.0 k.tries k.period x n in
-        record { segment_is = refl; on_time = o.0; began = inr (inr (t.1, o.1)) }
-    by (ReleaseEnds q x) =
-        let later : nat_eq turn (turn + z.period) ≡ false = let big = y.period in grind (arith, nat_tests, big) in
-        let wrong : true ≡ false = sym x ∙ (ap (λ p. nat_eq turn (turn + p)) k.period ∙ later) in cc
-    by (TimerEnds q set r x n) = let h = linked q in
-        let runs : Runs z (turn + 1) turn a.outgoing.count set = subst (Ticks z (turn + 1) turn a.outgoing.count) r h.sends.ticks in
-        let same : nat_eq a.outgoing.count a.setup.tries ≡ true =
-        ap (λ n. nat_eq a.outgoing.count n) (k.tries ∙ sym h.sends.tries_are) ∙ n in
-        let o = on-time z (turn + 1) turn a.outgoing.count set a.setup.tries a.setup.period y runs k.tries k.period x same in
-        record { segment_is = refl; on_time = o.0; began = inl (set, r, o.1) }
-    by (BreakEnds q w x n) = let h = linked q in
-        let o = on-time z (turn + 1) turn a.own_breaks.count a.own_breaks.set a.setup.tries a.setup.period y
-        (h.breaks.clock w) k.tries k.period x n in
-        record { segment_is = refl; on_time = o.0; began = inr (inl (w, o.1)) }
-
     go : Breaks turn release a fault → IsTimely z.period z.whole turn a fault
-    go (Undetected q r l f) = subst (IsTimely z.period z.whole turn a) (sym f)
-        (let g : nat_le z.whole turn ≡ true = ap (λ w. nat_le w turn) (sym whole-is) ∙ l in grind (arith, nat_tests))
-    go (Spends x f) = subst (IsTimely z.period z.whole turn a) (sym f) (by x)
+    go x = grind (arith, whole-is)
 
 -- an end that has heard and is served
 pub end-spends : {z : Rates} {user : User} {turn : ℕ} {role : Role} {a : Account} {arrived : Arrived} {mid b : Account}
     → Hearing z user turn role a arrived mid b → (release : Bool) (fault : LinkFault) → speak turn release b ≡ Err fault
     → IsTimely z.period z.whole turn b fault
-end-spends {z} {turn = turn} {role = role} {b = b} i release fault breaks =
-    speaks-spend z turn role i.phase release b fault i.rates i.b_is_of i.b_stands i.b_phase i.b_role breaks
+end-spends {z} {turn = turn} {role = role} {b = b} i release fault breaks = grind (arith, speaks-spend)
 
 -- How many segments hold a file, and what the limits make of the bound.
 
 -- no more are offered than hold the file
 pub offered-few : (file : List ℕ) (o : Outgoing) (segments : ℕ) → IsWithin file o → HoldsFile file o segments → length o.pieces ≤ segments
-offered-few file o segments w h = elim (cases_lt segments (length o.pieces)) [ inl more ↦ wrong more | inr few ↦ few ]
-  where
-    wrong : segments < length o.pieces → length o.pieces ≤ segments
-    wrong more =
-        let some : 1 ≤ length o.pieces = omega (arith, more) in
-        let below : o.size * segments ≤ o.size * (length o.pieces - 1) =
-        mul-le-mul_left {m = segments} {n = length o.pieces - 1} o.size (omega (arith, more)) in
-        absurd (omega (arith, below, w.last some, h some))
+offered-few file o segments w h = grind (arith, mul-le-mul_left {m = segments})
 
 -- a segment has one octet at least
 pub octets-hold : (file : List ℕ) (o : Outgoing) → IsWithin file o → HoldsFile file o (length file)
-octets-hold file o w some = let more : 1 * length file ≤ o.size * length file =
-    mul-le-mul_right {m = 1} {n = o.size} (length file) (w.sized some) in omega (arith, more)
+octets-hold file o w some = grind (arith, mul-le-mul_right {m = 1})
 
 pub busy-few : (lines : List BusyLine) → AllByRecursion IsShort lines → busy_turns lines ≤ 10000 * length lines
 busy-few [] all = omega arith
@@ -123,10 +64,7 @@ busy-few (l ∷ ls) (short, all) = omega (arith, short, busy-few ls all)
 
 -- the product of what is at most that
 pub product-most : (a b c d : ℕ) → a ≤ c → b ≤ d → a * b ≤ c * d
-product-most a b c d h k =
-    let first : a * b ≤ c * b = mul-le-mul_right {m = a} {n = c} b h in
-    let second : c * b ≤ c * d = mul-le-mul_left {m = b} {n = d} c k in
-    omega (arith, first, second)
+product-most a b c d h k = grind (arith, mul-le-mul_right {m = a}, mul-le-mul_left {m = b})
 
 -- The laws of runs over lines that carry what is sent, by what holds of runs with queues.
 pub ends-soon-always : EndsSoon

@@ -1,13 +1,11 @@
 -- What holds all through a run where no user is busy.
-use Rattle.std.proofs.Common.{◌≡◌, ℕ, zero, suc, ◌+◌, ◌-◌, ◌*◌, ◌≤◌, Bool, true, false, List, [], ◌∷◌, drop, map, length, arith, refl, sym}
-use Rattle.std.proofs.Common.{◌∙◌, ap, subst, Option, Some, None, Result, Ok}
-use Rattle.link_account.proofs.Names.{slice_get, AllByRecursion, Role, Originator, Answerer, other, of, Heard, LinkFault, Account}
-use Rattle.link_account.proofs.Names.{is_connected, Said, speak}
+use Rattle.std.proofs.Common.{◌≡◌, ℕ, zero, suc, ◌+◌, ◌*◌, ◌≤◌, Bool, true, false, List, [], ◌∷◌, drop, map, length, arith, refl, sym, ◌∙◌}
+use Rattle.std.proofs.Common.{ap, subst, Option, Some, None, Ok}
+use Rattle.link_account.proofs.Names.{slice_get, AllByRecursion, Role, Originator, Answerer, other, of, Heard, Account, is_connected, Said}
+use Rattle.link_account.proofs.Names.{speak}
 use Rattle.link_run.proofs.Names.{User, is_busy, is_released, Link, Accounts, Spoken, Turn, GoingTurn, RunOf, said_at, releases, arrival}
-use Rattle.link_run.proofs.Names.{Crosses, Carries, IsCarried, sent_in, sent_ago, Hears}
-use Rattle.link_run.specs.End.{BusyLine}
-use Rattle.turn_bound.specs.Time.{KeepsTime}
-use Rattle.turn_bound.specs.Advance.{NeverBusy}
+use Rattle.link_run.proofs.Names.{Crosses, Carries, IsCarried, sent_in, Hears}
+use Rattle.turn_bound.proofs.Names.{BusyLine, KeepsTime, NeverBusy}
 use Rattle.turn_bound.proofs.Value.{Rates, rates, AreRates, one_if, IsOf, Stands, weight, rnrs, arrived_weight, arrived_rnrs}
 use Rattle.turn_bound.proofs.Run.{served_account}
 use Rattle.turn_bound.proofs.Serving.{serves-all}
@@ -97,10 +95,7 @@ light-ok said m busy e l f = subst LightSlot (sym f) (l.0, omega (arith, l.1, ap
 
 said-light : (busy : Bool) (said : Said) (turn : ℕ) (release : Bool) (b : Account) → speak turn release b ≡ Ok said
     → LightSaid busy (speak turn release b) → Light busy said
-said-light busy said turn release b e h = by (speak turn release b) e h
-  where
-    by : (r : Result Said LinkFault) → r ≡ Ok said → LightSaid busy r → Light busy said
-    by b e h = grind (arith)
+said-light busy said turn release b e h = grind (arith)
 
 light-turn : (link : Link) (ts : List Turn) (before : Accounts) (t : Turn) (after : Accounts) → NeverBusy link
     → GoingTurn link ts before t after
@@ -135,9 +130,7 @@ light-heard m p c l = grind (arith)
 pub light-arrival : (delay : Role → ℕ) (link : Link) (ts : List Turn) (ends : Accounts) (t : Turn) (role : Role) → NeverBusy link
     → RunOf link ts ends → Carries delay ts t
     → (arrived_weight (arrival (of role t).heard) ≤ 2) × (arrived_rnrs (arrival (of role t).heard) ≡ 0)
-light-arrival delay link ts ends t role n run c =
-    light-heard (sent_ago (delay (other role)) (other role) ts) (of role t).heard (c role)
-    (all-get ts (delay (other role) - 1) (light-run link ts ends n run) (other role))
+light-arrival delay link ts ends t role n run c = grind (arith, light-heard, all-get, light-run)
 
 -- No end counts the other as busy, and none told that it is.
 pub record Unpaused (a : Account) : Type 0 where
@@ -146,11 +139,7 @@ pub record Unpaused (a : Account) : Type 0 where
 
 pub calm-run : (delay : Role → ℕ) (link : Link) (ts : List Turn) (ends : Accounts) (role : Role) → NeverBusy link → RunOf link ts ends
     → IsCarried delay ts → Unpaused (of role ends)
-calm-run delay link [] ends role n run c = subst (λ e. Unpaused (of role e)) (sym run) (by role)
-  where
-    by : (r : Role) → Unpaused (of r (runs.start link))
-    by Originator = record { paused = refl; told = refl }
-    by Answerer = record { paused = refl; told = refl }
+calm-run delay link [] ends role n run c = grind (arith)
 calm-run delay link (t ∷ ts) ends role n (before, run, g) c =
     let turn : ℕ = length ts in
     let user : User = (of role link).user in
@@ -251,28 +240,15 @@ heard-sent delay (suc d) (suc n) [] role e some c = omega arith
 heard-sent delay (suc d) (suc n) (t ∷ ts) role e some c = go (split d ts) (heard-sent delay (suc d) n ts role e some c.1)
   where
     now : one_if (of_arrived frame_poll (arrival (of role t).heard)) ≤ poll_in (sent_in (other role) (slice_get ts d))
-    now = subst (λ k. one_if (of_arrived frame_poll (arrival (of role t).heard)) ≤ poll_in (sent_in (other role) (slice_get ts k))) less
-        (crossed-polls (sent_ago (delay (other role)) (other role) ts) (of role t).heard (c.0 role))
-      where
-        less : delay (other role) - 1 ≡ d
-        less = omega (arith, e)
+    now = grind (arith, crossed-polls)
 
     go : Split d ts → polls_heard n role ts ≤ polls_sent n (other role) (drop (suc d) ts)
         → one_if (of_arrived frame_poll (arrival (of role t).heard)) + polls_heard n role ts ≤ polls_sent (suc n) (other role) (drop d ts)
-    go (Within x rest f g h) less =
-        omega (
-          arith,
-          now,
-          less,
-          ap (λ m. poll_in (sent_in (other role) m)) g,
-          ap (polls_sent (suc n) (other role)) f,
-          ap (polls_sent n (other role)) h,
-        )
+    go (Within x rest f g h) less = grind (arith)
     go (Over f g) less = omega (arith, now, less, gone d ts f, ap (polls_sent n (other role)) g, none-sent n)
       where
         none-sent : (m : ℕ) → polls_sent m (other role) [] ≡ 0
-        none-sent zero = refl
-        none-sent (suc m) = refl
+        none-sent m = grind (arith)
 
         gone : (k : ℕ) (m : List Turn) → drop k m ≡ [] → poll_in (sent_in (other role) (slice_get m k)) ≡ 0
         gone zero [] p = refl

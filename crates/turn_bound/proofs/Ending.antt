@@ -1,42 +1,15 @@
-use Rattle.std.proofs.Common.{◌≡◌, ℕ, ◌+◌, ◌-◌, ◌*◌, ◌<◌, ◌≤◌, cond, List, [], ◌∷◌, length, arith, refl, sym, ap, subst}
-use Rattle.link_account.specs.Account.{Account}
-use Rattle.turn_bound.proofs.Value.{Rates, rates, is_free, cond-le}
-use Rattle.link_run.specs.End.{busy_left, busy_turns}
+use Rattle.std.proofs.Common.{◌≡◌, ℕ, ◌+◌, ◌-◌, ◌*◌, ◌<◌, ◌≤◌, List, [], ◌∷◌, length, arith, refl, sym, subst}
+use Rattle.turn_bound.proofs.Names.{Account, busy_turns}
+use Rattle.turn_bound.proofs.Value.{Rates, rates, cond-le}
 use Rattle.turn_bound.proofs.Run.{Link, State, Turn, RunOf, start, Totals, potential, Keeps, AreTogether}
 use Rattle.turn_bound.proofs.Lines.{busy-start}
 use Rattle.turn_bound.proofs.Falls.{Offered, Sound, Fits, both-turn, sound-after, state_after, after-is, falls}
 
 pub fits : (tries period : ℕ) (link : Link) → Keeps tries period link → Fits (rates tries period) link
-fits tries period link k = record {
-  rates = record {
-    whole = refl;
-    room = omega (arith, k.period_is);
-    first = refl;
-    quota = omega (arith, k.period_is);
-    tries = k.some_tries;
-    period = omega (arith, k.period_is, k.orig_delay, k.answ_delay);
-  };
-  originates = k.originates;
-  answers = k.answers;
-  orig = k.orig;
-  answ = k.answ;
-  orig_delay = k.orig_delay;
-  answ_delay = k.answ_delay;
-  room = omega (arith, k.period_is, k.orig_delay, k.answ_delay);
-}
+fits tries period link k = grind (arith, rates)
 
 sound-start : (z : Rates) (link : Link) → Sound z link 0 (start link)
-sound-start z link = record {
-  orig = record { outgoing = refl; timer = refl; breaks = refl; ack = refl; window_o = omega arith; window_a = omega arith };
-  answ = record { outgoing = refl; timer = refl; breaks = refl; ack = refl; window_o = omega arith; window_a = omega arith };
-  orig_setup = refl;
-  answ_setup = refl;
-  going = refl;
-  forward_fits = omega arith;
-  back_fits = omega arith;
-  forward_light = tt;
-  back_light = tt;
-}
+sound-start z link = grind (arith)
 
 pub own-offered : (a : Account) → Offered (length a.outgoing.pieces) a
 own-offered a = record { fits = omega arith; whole = λ e. refl }
@@ -56,8 +29,7 @@ pub falls-all : (z : Rates) (link : Link) (totals : Totals) (ts : List Turn) (s 
     → ((us : List Turn) (t : State) → RunOf link us t → AreTogether t) → RunOf link ts s
     → Offered totals.orig s.orig → Offered totals.answ s.answ
     → potential z link totals (length ts) s + length ts ≤ potential z link totals 0 (start link)
-falls-all z link totals [] s f each run oo oa =
-    subst (λ x. potential z link totals 0 x + 0 ≤ potential z link totals 0 (start link)) (sym run) (omega arith)
+falls-all z link totals [] s f each run oo oa = grind (arith)
 falls-all z link totals (t ∷ ts) s f each (before, run, g) oo oa =
     let after = after-is link (length ts) before t s g in
     let s' = state_after link (length ts) before g.orig_mid g.answ_mid g.orig_said g.answ_said in
@@ -82,30 +54,12 @@ start-numbers : (q g w k to ta bo ba fo fa wo wa : ℕ) → fo ≤ g → fa ≤ 
     → (q * (to - 0) + fo + q * (bo - 0) + q * 4 + (w - 0)) + (q * (ta - 0) + fa + q * (ba - 0) + q * 0 + 0) + k + q *
     (0 + 0 + 2 * (wo + wa))
     ≤ q * (to + ta + (bo + ba) + 2 * (wo + wa) + 4) + w + 2 * g + k
-start-numbers q g w k to ta bo ba fo fa wo wa h1 h2 =
-    omega (
-      arith,
-      ap (λ n. q * n) (less-none to),
-      ap (λ n. q * n) (less-none ta),
-      ap (λ n. q * n) (less-none bo),
-      ap (λ n. q * n) (less-none ba),
-    )
-  where
-    less-none : (n : ℕ) → n - 0 ≡ n
-    less-none n = omega arith
+start-numbers q g w k to ta bo ba fo fa wo wa h1 h2 = grind (arith)
 
 pub starts-low : (z : Rates) (link : Link) (totals : Totals) → potential z link totals 0 (start link)
     ≤ z.quota * (totals.orig + totals.answ + (length link.orig.user.breaks + length link.answ.user.breaks) + 2 *
     (busy_turns link.orig.user.busy + busy_turns link.answ.user.busy) + 4) + z.whole + 2 * z.first + z.room
-starts-low z link totals =
-    subst (λ n. potential z link totals 0 (start link) ≤ z.quota *
-    (totals.orig + totals.answ +
-    (length link.orig.user.breaks + length link.answ.user.breaks) + 2 * n + 4) + z.whole + 2 * z.first + z.room)
-    (omega (arith, busy-start link.orig.user.busy, busy-start link.answ.user.busy))
-    (start-numbers z.quota z.first z.whole z.room totals.orig totals.answ (length link.orig.user.breaks) (length link.answ.user.breaks)
-    (cond (is_free totals.orig (start link).orig.outgoing) z.first 0) (cond (is_free totals.answ (start link).answ.outgoing) z.first 0)
-    (busy_left 0 link.orig.user.busy) (busy_left 0 link.answ.user.busy)
-    (cond-le (is_free totals.orig (start link).orig.outgoing) z.first) (cond-le (is_free totals.answ (start link).answ.outgoing) z.first))
+starts-low z link totals = grind (arith, busy-start, start-numbers, cond-le)
 
 pub below : (q g w k n p start total : ℕ) → p + n ≤ start → start ≤ q * (total + 4) + w + 2 * g + k → q ≡ g + w + 1 → k + 2 ≤ w
     → n < q * (total + 6)

@@ -1,12 +1,12 @@
-use Rattle.std.proofs.Common.{◌≡◌, ℕ, ◌+◌, ◌*◌, ◌<◌, ◌≤◌, ◌&&◌, ◌||◌, not, Bool, true, false, cond, nat_lt, [], length, length-append}
-use Rattle.std.proofs.Common.{arith, refl, sym, ◌∙◌, ap, subst, Some, None, Result, Ok, List, ◌++◌, ◌∷◌}
+use Rattle.std.proofs.Common.{◌≡◌, ℕ, ◌+◌, ◌*◌, ◌<◌, ◌≤◌, ◌&&◌, ◌||◌, Bool, true, false, cond, [], length, length-append, arith, refl, sym}
+use Rattle.std.proofs.Common.{◌∙◌, ap, subst, None, Result, Ok, List, ◌++◌, ◌∷◌}
 use Rattle.turn_bound.proofs.Truths.{neither-first, neither-second}
 use Rattle.link_account.proofs.Names.{Role, Originator, Answerer, Outgoing, wanted, Arrived, LinkFault, Account, is_connected}
 use Rattle.link_account.proofs.Names.{is_originator, Said, speak, Slot}
 use Rattle.link_run.proofs.Names.{Phase, Connected, User, is_busy, is_closed, is_released, has_finished}
-use Rattle.turn_bound.proofs.Value.{Rates, is_waiting, is_free, lasts, one_if, is_breaking, AreRates, value, linked_lives, lives, IsOf}
-use Rattle.turn_bound.proofs.Value.{Linked, Stands, dues, arrived_rnrs, kept}
-use Rattle.link_run.specs.End.{busy_left}
+use Rattle.turn_bound.proofs.Value.{Rates, is_free, lasts, one_if, AreRates, value, linked_lives, lives, IsOf, Linked, Stands, dues}
+use Rattle.turn_bound.proofs.Value.{arrived_rnrs, kept}
+use Rattle.turn_bound.proofs.Names.{busy_left}
 use Rattle.turn_bound.proofs.Run.{served_account, Link, State, Turn, GoingTurn, arrival, left_on, slot_of, weights, rnrs_on, Totals}
 use Rattle.turn_bound.proofs.Run.{is_alive, stall, potential, AreTogether}
 use Rattle.turn_bound.proofs.Lines.{AllLight, arrived-well, weights-snoc, rnrs-snoc, light-snoc, weights-most, dues-most, busy-falls}
@@ -35,11 +35,7 @@ light-ok busy said b e h = grind (arith)
 -- where none is wanted the file has ended, or the window is full
 pub full-or-ended : (total : ℕ) (o : Outgoing) → wanted o ≡ None → 1 ≤ o.window → (o.ended ≡ true → length o.pieces ≡ total)
     → o.front < total → o.front < length o.pieces
-full-or-ended total o none window whole less = go o.ended refl (nat_lt (length o.pieces) (o.front + o.window)) refl none
-  where
-    go : (e : Bool) → o.ended ≡ e → (l : Bool) → nat_lt (length o.pieces) (o.front + o.window) ≡ l
-        → cond (not e && l) (Some (length o.pieces)) None ≡ None → o.front < length o.pieces
-    go b e l f g = grind (arith)
+full-or-ended total o none window whole less = grind (arith)
 
 module _ {z : Rates} {user : User} {turn : ℕ} {role : Role} {a : Account} {arrived : Arrived} {mid b : Account}
     (i : Hearing z user turn role a arrived mid b) where
@@ -98,18 +94,7 @@ stall_of z totals turn alive s = cond alive z.room (weights s.forward + weights 
 
 pub stall-small : (z : Rates) (link : Link) (totals : Totals) (turn : ℕ) (alive : Bool) (s : State) → Sound z link turn s
     → 2 * (link.orig.delay + link.answ.delay) + 30 ≤ z.room → stall_of z totals turn alive s ≤ z.room
-stall-small z link totals turn true s h big = omega arith
-stall-small z link totals turn false s h big =
-    omega (
-      arith,
-      weights-most s.forward h.forward_light,
-      weights-most s.back h.back_light,
-      h.forward_fits,
-      h.back_fits,
-      dues-most totals.orig s.orig,
-      dues-most totals.answ s.answ,
-      big,
-    )
+stall-small z link totals turn alive s h big = grind (arith, weights-most, dues-most)
 
 -- an originator that isn't closed, and that doesn't live, is Connected
 dead-connected : (turn : ℕ) (p : Phase) (a : Account) → is_closed p ≡ false → lives turn Originator p a ≡ false → p ≡ Connected
@@ -146,12 +131,7 @@ state_of orig answ forward back = record { orig = orig; answ = answ; forward = f
 
 pub after-is : (link : Link) (turn : ℕ) (s : State) (t : Turn) (u : State) (g : GoingTurn link turn s t u)
     → u ≡ state_after link turn s g.orig_mid g.answ_mid g.orig_said g.answ_said
-after-is link turn s t u g =
-    ap (λ x. state_of x u.answ u.forward u.back) g.orig_after ∙ ap (λ x. state_of g.orig_said.account x u.forward u.back) g.answ_after
-    ∙ ap (λ x. state_of g.orig_said.account g.answ_said.account x u.back) g.forward_after
-    ∙ ap (λ x. state_of g.orig_said.account g.answ_said.account
-    (left_on link.orig.delay s.forward
-    ++ slot_of g.orig_said (served_account link.orig.user turn (is_released g.orig_mid.phase) g.orig_mid) ∷ []) x) g.back_after
+after-is link turn s t u g = grind (arith)
 
 -- the rates are those of both ends
 pub record Fits (z : Rates) (link : Link) : Type 0 where
@@ -285,11 +265,7 @@ standstill z link totals turn s t u f h g oo oa before after dead dead' calm_o c
     all-three x y o e f g k = let wrong : true ≡ false = sym (rw (e, f, g) refl) ∙ k in cc
 
     polled-not : (a : Account) → a.outgoing.awaited ≡ true → linked_lives turn a ≡ false → ⊥
-    polled-not a e k =
-        let w = neither-first (is_waiting a.outgoing) (is_breaking turn a.own_breaks) k in
-        let v : a.outgoing.awaited || a.outgoing.paused ≡ false =
-        neither-second (nat_lt a.outgoing.front a.outgoing.high) (a.outgoing.awaited || a.outgoing.paused) w in
-        let wrong : true ≡ false = sym e ∙ neither-first a.outgoing.awaited a.outgoing.paused v in cc
+    polled-not a e k = grind (arith, neither-first, neither-second)
 
     spoken-to-a : (o n : Bool) → (n ≡ false → ⊥) → o || n ≡ true
     spoken-to-a b n f = grind (arith)
@@ -332,9 +308,6 @@ falls z link totals turn s t u f h g oo oa before after = by (is_busy turn link.
     ba : Bool
     ba = is_busy turn link.answ.user.busy
 
-    owed : State → ℕ → ℕ
-    owed x n = rnrs_on x.forward + rnrs_on x.back + 2 * (busy_left n link.orig.user.busy + busy_left n link.answ.user.busy)
-
     lines : rnrs_on s'.forward + rnrs_on s'.back + 2 *
         (busy_left (turn + 1) link.orig.user.busy + busy_left (turn + 1) link.answ.user.busy) + ao + aa + (one_if bo + one_if ba)
         ≤ rnrs_on s.forward + rnrs_on s.back + 2 * (busy_left turn link.orig.user.busy + busy_left turn link.answ.user.busy)
@@ -370,11 +343,7 @@ falls z link totals turn s t u f h g oo oa before after = by (is_busy turn link.
       lasts-some z.room (lives turn Originator s.orig.phase s.orig) (lives (turn + 1) Originator s'.orig.phase s'.orig)
           (lives turn Answerer s.answ.phase s.answ) (lives (turn + 1) Answerer s'.answ.phase s'.answ) e,
     )
-    calm co ca false e true e' = omega (
-      arith,
-      lasts-new z.room (lives turn Originator s.orig.phase s.orig) (lives (turn + 1) Originator s'.orig.phase s'.orig)
-          (lives turn Answerer s.answ.phase s.answ) (lives (turn + 1) Answerer s'.answ.phase s'.answ) e e',
-    )
+    calm co ca false e true e' = grind (arith, lasts-new, lives)
     calm co ca false e false e' = omega (arith, standstill z link totals turn s t u f h g oo oa before after e e' co ca)
 
     by : (busy : Bool) → is_busy turn link.orig.user.busy || is_busy turn link.answ.user.busy ≡ busy

@@ -1,27 +1,25 @@
-use Rattle.std.proofs.Common.{◌≡◌, ℕ, ◌≤◌, ◌&&◌, min, Bool, true, false, List, arith, Some, ◌+◌, ◌-◌, ◌*◌, ◌%◌, ◌<◌, ◌||◌, cond, nat_eq}
-use Rattle.std.proofs.Common.{length, refl, subst, Option, nat_lt, sym, ◌∙◌, ap, Ok, inl, inr}
+use Rattle.std.proofs.Common.{◌≡◌, ℕ, ◌≤◌, Bool, true, false, List, arith, Some, ◌+◌, ◌-◌, ◌*◌, ◌<◌, ◌||◌, length, refl, subst, Option, sym}
+use Rattle.std.proofs.Common.{◌∙◌, ap, Ok, inl, inr}
 use Rattle.link_account.proofs.Names.{Offer, agree, offer_in, nat_tests, Role, Originator, Answerer, Outgoing, OwnBreaks, after_answer}
-use Rattle.link_account.proofs.Names.{waits, Account, Frame, I, Rr, Rnr, Rej, Srej, Arrived, Incoming, is_some, Sabme, Disc, Ui, Ua, Xid}
-use Rattle.link_account.proofs.Names.{is_originator, other, hear, on_nothing, trying, owing}
+use Rattle.link_account.proofs.Names.{Account, Frame, I, Rr, Rnr, Rej, Srej, Arrived, Incoming, Sabme, Disc, Ui, Ua, Xid, is_originator}
+use Rattle.link_account.proofs.Names.{other, hear, on_nothing, trying, owing}
 use Rattle.xid_params.specs.Terms.{lowered, default_offer}
 use Rattle.xid_params.proofs.Allowed.{reads_allowed_always}
 use Rattle.link_run.proofs.Names.{Phase, Connected, Detecting, Negotiating, Establishing, Releasing, Closed}
-use Rattle.lapm_sender.specs.Outgoing.{paused_at}
-use Rattle.link_account.specs.Hear.{timer_after, connected, on_xid_command, on_xid_response, first_wait}
-use Rattle.link_account.proofs.HearWays.{Numbers, numbered_with, acked-keeps, acked_back-keeps, resumed-keeps, ConnectedWays, EarlyWays}
+use Rattle.turn_bound.proofs.Names.{ConnectedWays, EarlyWays, Numbers, TheirBreaks, acked-keeps, acked_back-keeps, connected, first_wait}
+use Rattle.turn_bound.proofs.Names.{no_breaks, numbered_with, on_xid_command, on_xid_response, paused_at, resumed-keeps, size_for}
+use Rattle.turn_bound.proofs.Names.{timer_after, window_for}
 use Rattle.link_account.proofs.HearWays.{by-ways}
 use Rattle.turn_bound.proofs.Value.{frame_rnrs, value, lives, IsAck, IsSilent, Linked, Stands, Rates, AreRates, is_waiting, Sends, ends}
-use Rattle.turn_bound.proofs.Value.{Breaks, is_breaking, Ticks, left, worth, break_left, time_left, linked_left, linked_lives, IsOf}
-use Rattle.turn_bound.proofs.Value.{Unlinked, Tries, phases_left, arrived_rnrs, tries_fit, left-some, ticks-now}
+use Rattle.turn_bound.proofs.Value.{Breaks, is_breaking, worth, break_left, time_left, linked_left, linked_lives, IsOf, Unlinked, Tries}
+use Rattle.turn_bound.proofs.Value.{phases_left, arrived_rnrs, tries_fit, left-some, ticks-now}
 use Rattle.turn_bound.proofs.Sender.{acked-heard, Heard, HeardWell, heard-well, heard-busy, meant-range, heard-advanced, heard-resumed}
 use Rattle.turn_bound.proofs.Sender.{heard-selected}
 use Rattle.turn_bound.proofs.Sending.{later-sends, later-breaks, ChangedWell, answered-well, ends-same, or-false}
-use Rattle.break_signals.specs.Breaks.{TheirBreaks, no_breaks}
 use Rattle.link_account.specs.declared.owes.Owes.{Owes}
 use Rattle.lapm_frames.specs.declared.arrived.Arrived.TheVariants as arrivals
 use Rattle.xid_params.specs.declared.terms.Terms.{Terms}
 use Rattle.lapm_frames.specs.declared.seen.Seen.TheVariants.{Odp, Adp}
-use Rattle.link_account.specs.Account.{window_for, size_for}
 use Rattle.lapm_sender.specs.Outgoing as outgoing
 use Rattle.lapm_receiver.specs.Incoming as incoming
 use Rattle.link_account.specs.declared.answer.Answer.TheVariants as answers
@@ -37,10 +35,7 @@ lowered-one : (srej : Bool) (w : ℕ) → 1 ≤ w → 1 ≤ lowered srej w
 lowered-one b w h = grind (arith)
 
 pub agreed-windows : (o a : Offer) → HasWindows o → HasWindows a → (1 ≤ (agree o a).window_o) × (1 ≤ (agree o a).window_a)
-agreed-windows o a h k = (
-  lowered-one (o.srej && a.srej) (min o.tx_window a.rx_window) (omega (arith, h.0, k.1)),
-  lowered-one (o.srej && a.srej) (min a.tx_window o.rx_window) (omega (arith, h.1, k.0)),
-)
+agreed-windows o a h k = grind (arith, lowered-one)
 
 -- what hearing makes of an end of one role and phase
 pub record HeardAs (z : Rates) (total breaks turn more : ℕ) (role : Role) (p : Phase) (a : Account) (q : Phase) (b : Account) : Type 0 where
@@ -55,15 +50,7 @@ pub record HeardAs (z : Rates) (total breaks turn more : ℕ) (role : Role) (p :
 
 pub more-as : (z : Rates) (total breaks turn more : ℕ) (role : Role) (p : Phase) (a : Account) (q : Phase) (b : Account)
     → HeardAs z total breaks turn 0 role p a q b → HeardAs z total breaks turn more role p a q b
-more-as z total breaks turn more role p a q b h = record {
-  phase = h.phase;
-  stands = h.stands;
-  setup = h.setup;
-  pieces = h.pieces;
-  ended = h.ended;
-  lengths = h.lengths;
-  falls = omega (arith, h.falls);
-}
+more-as z total breaks turn more role p a q b h = grind (arith)
 
 -- the two parts of a Connected end together
 pub ends-both : (k : ℕ) (s b s' b' : Bool) → ends k (s || b) (s' || b') ≤ ends k s s' + ends k b b'
@@ -99,24 +86,16 @@ same-changed z breaks turn b s = record { sound = later-breaks z turn b s; falls
 
 -- one that heard a number isn't silent any more
 spoken-to : (role : Role) (high : ℕ) (timer : Option ℕ) → IsSilent role true high timer
-spoken-to Originator high timer = tt
-spoken-to Answerer high timer = λ f. cc
+spoken-to role high timer = grind (arith)
 
 -- what leaves the sender's part and the breaks as they are
 pub quiet-well : (z : Rates) (total breaks turn : ℕ) (role : Role) (a : Account) → Linked z turn turn role a → a.phase ≡ Connected
     → (o : Owes) (t : TheirBreaks) → IsAck t.ack
     → HeardAs z total breaks turn 0 role Connected a Connected (record a { owes = o; their_breaks = t })
-quiet-well z total breaks turn role a h e o t ack = connected-well z total breaks turn 0 role a _
-    (same-heard z total turn a.outgoing a.wait.timer h.sends) (same-changed z breaks turn a.own_breaks h.breaks) ack h.silent e refl refl
-    refl
-    refl
+quiet-well z total breaks turn role a h e o t ack = grind (arith, connected-well, same-heard, same-changed)
 
 answered-lengths : (turn number : ℕ) (b : OwnBreaks) → (after_answer turn number b).lengths ≡ b.lengths
-answered-lengths turn number b = by (waits b && nat_eq number (b.answered % 2))
-  where
-    by : (c : Bool) → (cond c (record b { answered = b.answered + 1; brk = false; count = 0; rest = turn + 8 }) b).lengths ≡ b.lengths
-    by true = refl
-    by false = refl
+answered-lengths turn number b = grind (arith)
 
 -- numbers and words, of a Connected end
 module _ (z : Rates) (total breaks turn : ℕ) (role : Role) (a : Account) (y : AreRates z) (h : Linked z turn turn role a)
@@ -160,29 +139,12 @@ module _ (z : Rates) (total breaks turn : ℕ) (role : Role) (a : Account) (y : 
 
   pub answer-well : (number : ℕ) → HeardAs z total breaks turn 0 role Connected a Connected
       (record a { own_breaks = after_answer turn number a.own_breaks })
-  answer-well number = connected-well z total breaks turn 0 role a _ (same-heard z total turn a.outgoing a.wait.timer h.sends)
-      (answered-well z breaks turn number a.own_breaks y h.breaks) h.ack h.silent e refl refl refl
-      (answered-lengths turn number a.own_breaks)
+  answer-well number = grind (arith, connected-well, same-heard, answered-well, answered-lengths)
 
 -- what lives counts
 pub linked-some : (z : Rates) (before turn : ℕ) (role : Role) (a : Account) → AreRates z → Linked z before turn role a
     → linked_lives turn a ≡ true → 1 ≤ linked_left z turn a
-linked-some z before turn role a y h e = go (is_waiting a.outgoing) refl (waits a.own_breaks) refl e
-  where
-    go : (w : Bool) → is_waiting a.outgoing ≡ w → (v : Bool) → waits a.own_breaks ≡ v → w || is_breaking turn a.own_breaks ≡ true
-        → 1 ≤ linked_left z turn a
-    go true f v g e = omega (arith, left-some z before turn a.outgoing.count a.wait.timer y h.sends.ticks (h.sends.cause ∙ f))
-    go false f true g e =
-        let r = h.breaks.clock g in
-        let l : break_left z turn a.own_breaks ≡ a.own_breaks.set + z.whole + 9 - (a.own_breaks.count * z.period + turn) =
-        ap (λ w. cond w (a.own_breaks.set + z.whole + 9 - (a.own_breaks.count * z.period + turn)) (a.own_breaks.rest - turn)) g in
-        omega (arith, l, tries_fit z a.own_breaks.count y r.tried, r.within)
-    go false f false g e =
-        let l : break_left z turn a.own_breaks ≡ a.own_breaks.rest - turn =
-        ap (λ w. cond w (a.own_breaks.set + z.whole + 9 - (a.own_breaks.count * z.period + turn)) (a.own_breaks.rest - turn)) g in
-        let rests : nat_lt turn a.own_breaks.rest ≡ true = sym (or-false (waits a.own_breaks) (nat_lt turn a.own_breaks.rest) g) ∙ e in
-        let less : turn < a.own_breaks.rest = grind (arith, nat_tests) in
-        omega (arith, l, less)
+linked-some z before turn role a y h e = grind (arith, left-some, tries_fit, or-false)
 
 -- an end becomes Connected
 abbrev pub connected_as : Role → ℕ → Account → Account
@@ -223,76 +185,17 @@ begins-o z total breaks turn a y k u = record {
   falls = omega (arith, ap (worth z total) u.outgoing, ap (break_left z turn) u.breaks, y.quota);
 }
 
-stays-dead : (z : Rates) (turn : ℕ) (k : ℕ) (own : OwnBreaks) → own ≡ no_breaks
-    → (break_left z turn own ≡ 0) × (ends k false (is_breaking turn own) ≡ 0)
-stays-dead z turn k own e =
-    let none : nat_lt turn 0 ≡ false = grind (arith, nat_tests) in
-    let zero-left : 0 - turn ≡ 0 = omega arith in
-    (ap (break_left z turn) e ∙ zero-left, ap (λ b. ends k false (is_breaking turn b)) e ∙ ap (λ l. ends k false l) none)
-
-begins-a-stands : (z : Rates) (turn : ℕ) (a : Account) → AreRates z → IsOf z a.setup → Unlinked a
-    → Linked z (turn + 1) turn Answerer (connected_as Answerer turn a)
-begins-a-stands z turn a y k u = record {
-  sends = record {
-    front_from = omega arith;
-    from_high = omega arith;
-    high_pieces = omega arith;
-    high_window = omega arith;
-    window = u.window_a;
-    chosen = tt;
-    tries_are = k.tries;
-    cause = ap is_some u.timer;
-    ticks = subst (Ticks z (turn + 1) turn 0) (sym u.timer) refl;
-  };
-  breaks = subst (Breaks z (turn + 1) turn) (sym u.breaks) (none-broken z (turn + 1) turn);
-  ack = subst IsAck (sym u.ack) tt;
-  silent = λ e. (refl, u.timer);
-}
-
 begins-a : (z : Rates) (total breaks turn : ℕ) (p : Phase) (a : Account) → AreRates z → IsOf z a.setup → Unlinked a
     → lives turn Answerer p a ≡ false → time_left z turn Answerer p a ≡ 0
     → HeardAs z total breaks turn 0 Answerer p a Connected (connected_as Answerer turn a)
-begins-a z total breaks turn p a y k u dead none = record {
-  phase = refl;
-  stands = begins-a-stands z turn a y k u;
-  setup = refl;
-  pieces = ap (λ o. o.pieces) (sym u.outgoing);
-  ended = ap (λ o. o.ended) (sym u.outgoing);
-  lengths = refl;
-  falls = let d = stays-dead z turn z.room a.own_breaks u.breaks in
-      omega (
-        arith,
-        ap (worth z total) u.outgoing,
-        ap (λ r. left z turn 0 r) u.timer,
-        d.0,
-        d.1,
-        ap (λ l. ends z.room l (is_breaking turn a.own_breaks)) dead,
-        none,
-      );
-}
+begins-a z total breaks turn p a y k u dead none = grind (arith)
 
 -- what changes nothing of what counts
 pub idle-well : (z : Rates) (total breaks turn : ℕ) (role : Role) (p q : Phase) (a b : Account) → Stands z (turn + 1) turn role q b
     → b.phase ≡ q → b.setup ≡ a.setup → b.outgoing ≡ a.outgoing → b.own_breaks ≡ a.own_breaks
     → lives turn role q b ≡ lives turn role p a → time_left z turn role q b ≡ time_left z turn role p a
     → phases_left role q ≡ phases_left role p → HeardAs z total breaks turn 0 role p a q b
-idle-well z total breaks turn role p q a b s phase setup outgoing own live time phases = record {
-  phase = phase;
-  stands = s;
-  setup = setup;
-  pieces = ap (λ o. o.pieces) outgoing;
-  ended = ap (λ o. o.ended) outgoing;
-  lengths = ap (λ o. o.lengths) own;
-  falls = omega (
-    arith,
-    ap (worth z total) outgoing,
-    ap (λ o. z.quota * (breaks - length o.lengths)) own,
-    time,
-    ap (λ n. z.quota * n) phases,
-    ap (λ l. ends z.room (lives turn role p a) l) live,
-    ends-same z.room (lives turn role p a),
-  );
-}
+idle-well z total breaks turn role p q a b s phase setup outgoing own live time phases = grind (arith)
 
 -- a try begins
 pub tries-now : (z : Rates) (turn : ℕ) (p : Phase) (a : Account) → Tries z (turn + 1) turn (trying p turn a)
@@ -303,43 +206,16 @@ later-tries z turn a t = record { tied = t.tied; started = omega (arith, t.start
 
 pub same-unlinked : (a b : Account) → Unlinked a → b.outgoing ≡ a.outgoing → b.wait.timer ≡ a.wait.timer → b.own_breaks ≡ a.own_breaks
     → b.their_breaks.ack ≡ a.their_breaks.ack → b.terms ≡ a.terms → Unlinked b
-same-unlinked a b u o t w k e =
-    let windows = subst (λ x. (1 ≤ x.window_o) × (1 ≤ x.window_a)) (sym e) (u.window_o, u.window_a) in
-    record {
-      outgoing = o ∙ u.outgoing;
-      timer = t ∙ u.timer;
-      breaks = w ∙ u.breaks;
-      ack = k ∙ u.ack;
-      window_o = windows.0;
-      window_a = windows.1;
-    }
+same-unlinked a b u o t w k e = grind (arith)
 
 -- on other terms
 on-terms : (a : Account) (terms : Terms) → Unlinked a → (1 ≤ terms.window_o) × (1 ≤ terms.window_a) → Unlinked (record a { terms = terms })
-on-terms a terms u windows = record {
-  outgoing = u.outgoing;
-  timer = u.timer;
-  breaks = u.breaks;
-  ack = u.ack;
-  window_o = windows.0;
-  window_a = windows.1;
-}
+on-terms a terms u windows = grind (arith)
 
 -- hearing before Connected, of an originator
 o-detecting : (z : Rates) (total breaks turn : ℕ) (a : Account) → AreRates z → Unlinked a
     → (q : Phase) × HeardAs z total breaks turn 0 Originator Detecting a q (trying Negotiating turn a)
-o-detecting z total breaks turn a y u = (
-  Negotiating,
-  record {
-    phase = refl;
-    stands = (u, tries-now z turn Negotiating a);
-    setup = refl;
-    pieces = refl;
-    ended = refl;
-    lengths = refl;
-    falls = omega (arith, y.quota);
-  },
-)
+o-detecting z total breaks turn a y u = grind (arith)
 
 o-negotiating : (z : Rates) (total breaks turn : ℕ) (a : Account) (offer : Offer) (info : List ℕ) → AreRates z → IsOf z a.setup
     → Unlinked a → offer_in info ≡ Some offer
@@ -380,27 +256,14 @@ default-windows a z k = agreed-windows default_offer a.setup.offer (omega arith,
 a-sabme : (z : Rates) (total breaks turn : ℕ) (p : Phase) (a : Account) (pf : Bool) → lives turn Answerer p a ≡ false
     → time_left z turn Answerer p a ≡ 0 → AreRates z → IsOf z a.setup → Unlinked a → a.setup.role ≡ Answerer
     → HeardAs z total breaks turn 0 Answerer p a Connected (owing (answers.Ua pf) (connected turn a))
-a-sabme z total breaks turn p a pf dead none y k u er =
-    let h = begins-a z total breaks turn p a y k u dead none in
-    subst (λ r. HeardAs z total breaks turn 0 Answerer p a Connected (owing (answers.Ua pf) (connected_as r turn a))) (sym er) (record {
-      phase = h.phase;
-      stands = h.stands;
-      setup = h.setup;
-      pieces = h.pieces;
-      ended = h.ended;
-      lengths = h.lengths;
-      falls = h.falls;
-    })
+a-sabme z total breaks turn p a pf dead none y k u er = grind (arith, begins-a)
 
 -- of default terms
 a-sabme-default : (z : Rates) (total breaks turn : ℕ) (a : Account) (pf : Bool) → AreRates z → IsOf z a.setup → Unlinked a
     → a.setup.role ≡ Answerer
     → HeardAs z total breaks turn 0 Answerer Detecting a Connected
     (owing (answers.Ua pf) (connected turn (record a { terms = agree default_offer a.setup.offer })))
-a-sabme-default z total breaks turn a pf y k u er =
-    let b : Account = record a { terms = agree default_offer a.setup.offer } in
-    let h = a-sabme z total breaks turn Detecting b pf refl refl y k (on-terms a b.terms u (default-windows a z k)) er in
-    record { phase = h.phase; stands = h.stands; setup = h.setup; pieces = h.pieces; ended = h.ended; lengths = h.lengths; falls = h.falls }
+a-sabme-default z total breaks turn a pf y k u er = grind (arith, a-sabme, on-terms, default-windows)
 
 closes : (z : Rates) (total breaks turn : ℕ) (a b : Account) → AreRates z → Linked z turn turn Answerer a → b.phase ≡ Closed
     → b.setup ≡ a.setup → b.outgoing ≡ a.outgoing → b.own_breaks ≡ a.own_breaks
@@ -425,31 +288,12 @@ closes z total breaks turn a b y h phase setup outgoing own = record {
       linked-some z turn turn Answerer a y h e,
       ap (λ l. ends z.room l false) e,
     )
-    go false e = omega (
-      arith,
-      ap (worth z total) outgoing,
-      ap (λ o. z.quota * (breaks - length o.lengths)) own,
-      ap (λ l. ends z.room l false) e,
-    )
+    go false e = grind (arith)
 
 -- nothing changes but what it owes
 still-well : (z : Rates) (total breaks turn : ℕ) (role : Role) (p : Phase) (a : Account) (o : Owes) → Stands z turn turn role p a
     → a.phase ≡ p → HeardAs z total breaks turn 0 role p a p (record a { owes = o })
-still-well z total breaks turn role Connected a o h e = quiet-well z total breaks turn role a h e o _ h.ack
-still-well z total breaks turn role Closed a o h e = idle-well z total breaks turn role Closed Closed a _ tt e refl refl refl refl refl refl
-still-well z total breaks turn Originator Detecting a o h e =
-    idle-well z total breaks turn Originator Detecting Detecting a _ h e refl refl refl refl refl refl
-still-well z total breaks turn Originator Negotiating a o h e =
-    idle-well z total breaks turn Originator Negotiating Negotiating a _ (h.0, later-tries z turn a h.1) e refl refl refl refl refl refl
-still-well z total breaks turn Originator Establishing a o h e =
-    idle-well z total breaks turn Originator Establishing Establishing a _ (h.0, later-tries z turn a h.1) e refl refl refl refl refl refl
-still-well z total breaks turn Originator Releasing a o h e =
-    idle-well z total breaks turn Originator Releasing Releasing a _ (later-tries z turn a h) e refl refl refl refl refl refl
-still-well z total breaks turn Answerer Detecting a o h e =
-    idle-well z total breaks turn Answerer Detecting Detecting a _ h e refl refl refl refl refl refl
-still-well z total breaks turn Answerer Negotiating a o h e =
-    idle-well z total breaks turn Answerer Negotiating Negotiating a _ h e refl refl refl refl refl refl
-still-well z total breaks turn Answerer p a o h e = absurd h
+still-well z total breaks turn role p a o h e = grind (arith, quiet-well, idle-well, later-tries)
 
 -- Hearing: whatever the role, the phase and what arrives.
 module _ (z : Rates) (total breaks turn : ℕ) (role : Role) (a : Account) (y : AreRates z) (k : IsOf z a.setup)
@@ -460,11 +304,7 @@ module _ (z : Rates) (total breaks turn : ℕ) (role : Role) (a : Account) (y : 
 
   -- in this phase
   now : (x : Arrived) (b : Account) (p : Phase) → a.phase ≡ p → (q : Phase) × HeardAs z total breaks turn 0 role p a q b → P x b
-  now x b p e w = (
-    w.0,
-    more-as z total breaks turn _ role a.phase a w.0 b
-        (subst (λ p. HeardAs z total breaks turn 0 role p a w.0 b) (sym e) w.1),
-  )
+  now x b p e w = grind (arith, more-as)
 
   still : (x : Arrived) (o : Owes) → P x (record a { owes = o })
   still x o = now x (record a { owes = o }) a.phase refl (a.phase, still-well z total breaks turn role a.phase a o s refl)

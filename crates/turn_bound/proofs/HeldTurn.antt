@@ -2,18 +2,15 @@
 use Rattle.std.proofs.Common.{◌≡◌, ℕ, ◌+◌, ◌-◌, ◌%◌, ◌<◌, ◌≤◌, ◌&&◌, ◌||◌, ◌⊎◌, min, Bool, true, false, cond, nat_eq, [], ◌∷◌, subst, ◌++◌}
 use Rattle.std.proofs.Common.{length, slice_index_or, inl, inr, arith, refl, sym, ◌∙◌, ap, Some, None, not, nat_lt, Ok}
 use Rattle.link_account.proofs.Names.{is_some, nat_tests, is_originator, next_number, Incoming, BreakWord, Brk, OwnBreaks, waits, ticked}
-use Rattle.link_account.proofs.Names.{Account, Said, may_send, Role, wanted, Arrived, is_connected, speak, other}
-use Rattle.link_account.specs.Speak.{differs}
+use Rattle.link_account.proofs.Names.{Account, Said, may_send, Role, wanted, Arrived, is_connected, speak}
+use Rattle.turn_bound.proofs.Names.{NoWord, NoneDue, Steps, differs, is_whole, steps-so}
 use Rattle.turn_bound.proofs.Value.{Rates, AreRates, is_waiting, Sends, IsOf, ends, one_if, lasts, sender_value, Linked, Stands}
 use Rattle.turn_bound.proofs.Value.{arrived_weight, arrived_rnrs}
 use Rattle.turn_bound.proofs.Sending.{sent-well, ends-same}
-use Rattle.link_account.proofs.SpeakWays.{NoWord, Steps, steps-so}
 use Rattle.turn_bound.proofs.StillTurn.{asks-rej, idle-next, Stays, stays, or-numbered}
 use Rattle.turn_bound.proofs.Taking.{own_value, held_value, owed_by, may_send_at, frame_poll, TakesNumber, Takes, Closes, takes, served-own}
 use Rattle.turn_bound.proofs.Taking.{served-owes}
-use Rattle.link_run.proofs.Names.{Connected, Closed, User, is_busy, is_released}
-use Rattle.lapm_sender.specs.Outgoing.{is_whole}
-use Rattle.turn_bound.specs.Due.{NoneDue}
+use Rattle.link_run.proofs.Names.{Connected, User, is_busy, is_released}
 use Rattle.turn_bound.proofs.Sender.{heard-well}
 use Rattle.turn_bound.proofs.Speaking.{Spoke, spoke, untimed, stopped}
 use Rattle.turn_bound.proofs.Falls.{Offered, full-or-ended}
@@ -29,8 +26,7 @@ ticks-value z turn b own y k h =
   where
     later : (w : Bool) → cond b.own_breaks.brk 8 0 + cond w (min 8 (turn + 1 - b.own_breaks.set)) (8 - (b.own_breaks.rest - (turn + 1)))
         ≤ cond b.own_breaks.brk 8 0 + cond w (min 8 (turn - b.own_breaks.set)) (8 - (b.own_breaks.rest - turn)) + 1
-    later true = omega arith
-    later false = omega arith
+    later w = grind (arith)
 
     quiet : b.own_breaks ≡ own → own_value (turn + 1) own ≤ own_value turn b.own_breaks + 1
     quiet same = subst (λ o. own_value (turn + 1) o ≤ own_value turn b.own_breaks + 1) same (later (waits b.own_breaks))
@@ -41,18 +37,7 @@ ticks-value z turn b own y k h =
     go false w due d s f = quiet cc
     go true w false d s f = quiet cc
     go true w true d true f = cc
-    go true w true d false f =
-        let new : OwnBreaks = record b.own_breaks { brk = true; set = turn; count = b.own_breaks.count + 1 } in
-        let same : new ≡ own = cc in
-        let at : turn ≡ b.own_breaks.set + b.setup.period = grind (arith, nat_tests) in
-        let long : 20 ≤ b.setup.period = omega (arith, k.period, y.period) in
-        subst (λ o. own_value (turn + 1) o ≤ own_value turn b.own_breaks + 1) same (omega (
-          arith,
-          at,
-          long,
-          ap (λ x. cond x (min 8 (turn - b.own_breaks.set)) (8 - (b.own_breaks.rest - turn))) w,
-          ap (λ x. cond x (min 8 (turn + 1 - turn)) (8 - (b.own_breaks.rest - (turn + 1)))) w,
-        ))
+    go true w true d false f = grind (arith)
 
 -- A Connected account whose timers are done, with a segment to send, nothing waited for and no answer due.
 pub record Ready (z : Rates) (turn : ℕ) (a : Account) : Type 0 where
@@ -85,8 +70,7 @@ Goes turn special a said = (is_waiting said.account.outgoing ≡ true) ⊎ Held 
 
 -- there is one to send
 some-free : (z : Rates) (turn : ℕ) (a : Account) → Ready z turn a → may_send a ≡ None → ⊥
-some-free z turn a h e = let wrong : None ≡ Some a.outgoing.from = sym e
-    ∙ (ap (λ b. cond b (next_number a.outgoing) None) h.may ∙ idle-next h.sends h.idle h.more) in cc
+some-free z turn a h e = grind (arith, idle-next)
 
 -- the steps
 module _ (z : Rates) (turn : ℕ) (special : Bool) (a : Account) (y : AreRates z) (h : Ready z turn a) (s : a.special ≡ false) where
@@ -111,33 +95,21 @@ module _ (z : Rates) (turn : ℕ) (special : Bool) (a : Account) (y : AreRates z
 
   -- where no word is to be said no break is to be answered
   unasked : special ≡ false → NoWord special a → is_some a.their_breaks.ack ≡ false
-  unasked e (inl f) = let wrong : false ≡ true = sym e ∙ f in cc
-  unasked e (inr f) = ap is_some f.1
+  unasked e x = grind (arith)
 
   rejected : (i : Incoming) (x : ℕ) → i.srej ≡ false → i.rej ≡ true
       → cond (cond i.srej (record i { asked = i.asked ++ x ∷ [] }) (record i { rej = false })).srej 0
       (cond (cond i.srej (record i { asked = i.asked ++ x ∷ [] }) (record i { rej = false })).rej 16 0 + cond
       (cond i.srej (record i { asked = i.asked ++ x ∷ [] }) (record i { rej = false })).gapped 0 8) + 16
       ≡ cond i.srej 0 (cond i.rej 16 0 + cond i.gapped 0 8)
-  rejected i x e f =
-      ap (λ j. cond j.srej 0 (cond j.rej 16 0 + cond j.gapped 0 8) + 16)
-      (ap (λ b. cond b (record i { asked = i.asked ++ x ∷ [] }) (record i { rej = false })) e)
-      ∙ (ap (λ b. cond b 0 (0 + cond i.gapped 0 8) + 16) e
-      ∙ (sums (cond i.gapped 0 8)
-      ∙ sym (ap (λ b. cond b 0 (cond i.rej 16 0 + cond i.gapped 0 8)) e ∙ ap (λ b. cond b 16 0 + cond i.gapped 0 8) f)))
-    where
-      sums : (n : ℕ) → 0 + n + 16 ≡ 16 + n
-      sums n = omega arith
+  rejected i x e f = grind (arith)
 
   kept : (i : Incoming) (x : ℕ) → i.srej ≡ true
       → cond (cond i.srej (record i { asked = i.asked ++ x ∷ [] }) (record i { rej = false })).srej 0
       (cond (cond i.srej (record i { asked = i.asked ++ x ∷ [] }) (record i { rej = false })).rej 16 0 + cond
       (cond i.srej (record i { asked = i.asked ++ x ∷ [] }) (record i { rej = false })).gapped 0 8)
       ≡ 0
-  kept i x e =
-      ap (λ j. cond j.srej 0 (cond j.rej 16 0 + cond j.gapped 0 8))
-      (ap (λ b. cond b (record i { asked = i.asked ++ x ∷ [] }) (record i { rej = false })) e)
-      ∙ ap (λ b. cond b 0 (cond i.rej 16 0 + cond i.gapped 0 8)) e
+  kept i x e = grind (arith)
 
   pub steps-go : Steps (Goes turn special a) turn special a
   steps-go = record {
@@ -192,19 +164,7 @@ heard-value : (z : Rates) (total turn : ℕ) (a b : Account) → AreRates z → 
     → length a.outgoing.pieces ≤ total → TakesNumber turn a b
     → (sender_value z total turn b.outgoing b.wait.timer + ends z.room (is_waiting a.outgoing)
     (is_waiting b.outgoing) ≤ sender_value z total turn a.outgoing a.wait.timer) × (a.outgoing.front ≤ b.outgoing.front)
-heard-value z total turn a b y s all (inl n) =
-    let h = heard-well z total turn a.outgoing b.outgoing a.wait.timer y s n.0 all in
-    (omega (arith, h.falls, ap (sender_value z total turn b.outgoing) n.1), n.0.front_low)
-heard-value z total turn a b y s all (inr n) = (
-  omega (
-    arith,
-    ap (sender_value z total turn b.outgoing) n.1,
-    ap (λ o. sender_value z total turn o a.wait.timer) n.0,
-    ap (λ o. ends z.room (is_waiting a.outgoing) (is_waiting o)) n.0,
-    ends-same z.room (is_waiting a.outgoing),
-  ),
-  omega (arith, ap (λ o. o.front) n.0),
-)
+heard-value z total turn a b y s all x = grind (arith, heard-well, ends-same)
 
 module _ {z : Rates} {user : User} {turn : ℕ} {role : Role} {a : Account} {arrived : Arrived} {mid b : Account}
     (i : Hearing z user turn role a arrived mid b) where
@@ -238,8 +198,7 @@ module _ {z : Rates} {user : User} {turn : ℕ} {role : Role} {a : Account} {arr
 
       -- serving leaves the sender's part but for its pieces
       same-value : sender_value z total turn b.outgoing b.wait.timer ≡ sender_value z total turn mid.outgoing mid.wait.timer
-      same-value = ap (λ o. sender_value z total turn o b.wait.timer) s.serves.longer.outgoing
-          ∙ ap (λ w. sender_value z total turn mid.outgoing w.timer) s.serves.wait
+      same-value = grind (arith)
 
       same-waits : is_waiting b.outgoing ≡ is_waiting mid.outgoing
       same-waits = ap is_waiting s.serves.longer.outgoing
@@ -253,17 +212,13 @@ module _ {z : Rates} {user : User} {turn : ℕ} {role : Role} {a : Account} {arr
       front-said : said.account.outgoing.front ≡ b.outgoing.front
       front-said = ap (λ m. m.1) c.0
 
-      closed : Closes a mid → ⊥
-      closed e = let wrong : Closed ≡ Connected = sym e.phase ∙ s.mid_phase in cc
-
       may-said : Takes turn polled a mid → may_send_at said.account ≡ true
       may-said t = or-numbered (is_originator a.setup.role) (is_originator said.account.setup.role) a.numbered said.account.numbered
           (ap (λ x. is_originator x.role) (p.stepped.setup ∙ (p.is_timed.setup ∙ s.setup)))
           (λ n. p.stepped.numbered ∙ (p.is_timed.numbered ∙ (s.serves.numbered ∙ t.numbered n))) l.may
 
       may-served : Takes turn polled a mid → may_send_at b ≡ true
-      may-served t = or-numbered (is_originator a.setup.role) (is_originator b.setup.role) a.numbered b.numbered
-          (ap (λ x. is_originator x.role) s.setup) (λ n. s.serves.numbered ∙ t.numbered n) l.may
+      may-served t = grind (arith, or-numbered)
 
       mid-linked : Linked z (turn + 1) turn role mid
       mid-linked = subst (λ q. Stands z (turn + 1) turn role q mid) (sym i.heard.phase ∙ s.mid_phase) i.heard.stands
@@ -325,8 +280,7 @@ module _ {z : Rates} {user : User} {turn : ℕ} {role : Role} {a : Account} {arr
                   omega (arith, less, base, t.calm (sym s.serves.srej ∙ e) (ap (λ x. is_some x.ack) (sym s.serves.ack) ∙ n))
 
               by : (x : Said) → Goes turn b.special d x → Lingers x
-              by x (inl w) = inl w
-              by x (inr h) = inr (pays x h.pays)
+              by x y = grind (arith, pays)
 
       -- none is wanted: the file has ended, or the window is full
       some-left : is_whole said.account.outgoing ≡ false → said.account.outgoing.front < length said.account.outgoing.pieces
@@ -386,5 +340,4 @@ module _ {z : Rates} {user : User} {turn : ℕ} {role : Role} {a : Account} {arr
           on true e t idle less = inl (p.stepped.waits (timed-waits ∙ (sym same-waits ∙ e)))
 
       result : Closes a mid ⊎ ((mid.phase ≡ Connected) × Takes turn polled a mid) → Linger z total turn polled a said.account
-      result (inl e) = absurd (closed e)
-      result (inr t) = linger t.1
+      result x = grind (arith, linger)

@@ -1,3 +1,4 @@
+mod Names
 pub mod Truths
 pub mod Value
 pub mod Light

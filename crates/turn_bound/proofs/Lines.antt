@@ -1,32 +1,15 @@
-use Rattle.std.proofs.Common.{◌≡◌, ℕ, ◌+◌, ◌-◌, ◌*◌, ◌<◌, ◌≤◌, ◌&&◌, ◌||◌, max, Bool, true, false, cond, nat_lt, nat_le, not, List, [], ◌∷◌}
-use Rattle.std.proofs.Common.{◌++◌, length, arith, refl}
-use Rattle.link_account.proofs.Names.{is_some, AllByRecursion, nat_tests, Sent, Arrived, Account, Slot, arrives}
+use Rattle.std.proofs.Common.{◌≡◌, ℕ, ◌+◌, ◌*◌, ◌≤◌, Bool, List, [], ◌∷◌, ◌++◌, length, arith, refl}
+use Rattle.link_account.proofs.Names.{AllByRecursion, Arrived, Account, Slot}
 use Rattle.link_run.proofs.Names.{is_busy}
-use Rattle.turn_bound.proofs.Value.{one_if, is_free, weight, rnrs, arrived_weight, arrived_rnrs, dues, two_if, four_if}
-use Rattle.link_run.specs.End.{BusyLine, busy_left, busy_turns}
+use Rattle.turn_bound.proofs.Value.{one_if, weight, rnrs, arrived_weight, arrived_rnrs, dues, two_if, four_if}
+use Rattle.turn_bound.proofs.Names.{BusyLine, busy_left, busy_turns}
 use Rattle.turn_bound.proofs.Run.{arrival, left_on, weights, rnrs_on}
-use Rattle.lapm_frames.specs.declared.sent.Sent.TheVariants as slots
-use Rattle.lapm_frames.specs.declared.arrived.Arrived.TheVariants as arrivals
 
 abbrev pub IsLight : Slot → Type 0
 IsLight slot = weight slot.sent ≤ 2
 
 abbrev pub AllLight : List Slot → Type 0
 AllLight line = AllByRecursion {X = Slot} IsLight line
-
-pub arrives-weight : (sent : Sent) → arrived_weight (arrives sent) ≡ weight sent
-arrives-weight slots.Mark = refl
-arrives-weight slots.Odp = refl
-arrives-weight slots.Adp = refl
-arrives-weight slots.Flags = refl
-arrives-weight (slots.Frame frame) = refl
-
-pub arrives-rnrs : (sent : Sent) → arrived_rnrs (arrives sent) ≡ rnrs sent
-arrives-rnrs slots.Mark = refl
-arrives-rnrs slots.Odp = refl
-arrives-rnrs slots.Adp = refl
-arrives-rnrs slots.Flags = refl
-arrives-rnrs (slots.Frame frame) = refl
 
 -- what arrives of a line leaves it
 pub record Arrives (delay : ℕ) (line rest : List Slot) (arrived : Arrived) : Type 0 where
@@ -37,25 +20,7 @@ pub record Arrives (delay : ℕ) (line rest : List Slot) (arrived : Arrived) : T
 
 pub arrived-well : (delay : ℕ) (loses : Bool) (line : List Slot) → Arrives delay line (left_on delay line) (arrival delay loses line)
 arrived-well delay loses [] = record { weighs = omega arith; rnrs = omega arith; fits = λ h k. omega (arith, k); light = λ h. h }
-arrived-well delay loses (slot ∷ rest) = go (nat_lt (length (slot ∷ rest)) delay) refl loses
-  where
-    go : (short : Bool) → nat_lt (length (slot ∷ rest)) delay ≡ short → (lost : Bool)
-        → Arrives delay (slot ∷ rest) (cond short (slot ∷ rest) rest)
-        (cond short arrivals.Nothing (cond lost arrivals.Nothing (arrives slot.sent)))
-    go true e lost = record {
-      weighs = omega arith;
-      rnrs = omega arith;
-      fits = λ h k. let less : length (slot ∷ rest) < delay =
-          grind (arith, nat_tests) in omega (arith, less);
-      light = λ h. h;
-    }
-    go false e true = record { weighs = omega arith; rnrs = omega arith; fits = λ h k. omega (arith, h); light = λ h. h.1 }
-    go false e false = record {
-      weighs = omega (arith, arrives-weight slot.sent);
-      rnrs = omega (arith, arrives-rnrs slot.sent);
-      fits = λ h k. omega (arith, h);
-      light = λ h. h.1;
-    }
+arrived-well delay loses (slot ∷ rest) = grind (arith)
 
 pub weights-snoc : (line : List Slot) (slot : Slot) → weights (line ++ slot ∷ []) ≡ weights line + weight slot.sent
 weights-snoc [] slot = omega arith
@@ -83,36 +48,12 @@ one-most : (b : Bool) → one_if b ≤ 1
 one-most b = grind (arith)
 
 pub dues-most : (total : ℕ) (a : Account) → dues total a ≤ 15
-dues-most total a =
-    omega (
-      arith,
-      two-most (is_some a.owes.answer),
-      two-most a.owes.reply,
-      two-most (is_some a.their_breaks.ack),
-      two-most a.incoming.rej,
-      four-most a.wait.poll,
-      two-most a.owes.busy_told,
-      one-most (is_free total a.outgoing && not a.special),
-    )
+dues-most total a = grind (arith, two-most, four-most, one-most)
 
 -- a busy turn is one fewer to come
 pub busy-falls : (turn : ℕ) (lines : List BusyLine) → busy_left (turn + 1) lines + one_if (is_busy turn lines) ≤ busy_left turn lines
 busy-falls turn [] = omega arith
-busy-falls turn (l ∷ ls) = go (nat_le l.turn turn) refl (nat_lt turn (l.turn + l.count)) refl (busy-falls turn ls)
-  where
-    or-most : (b : Bool) → one_if (true || b) ≤ 1
-    or-most b = omega arith
-
-    go : (x : Bool) → nat_le l.turn turn ≡ x → (y : Bool) → nat_lt turn (l.turn + l.count) ≡ y
-        → busy_left (turn + 1) ls + one_if (is_busy turn ls) ≤ busy_left turn ls
-        → (l.turn + l.count - max l.turn (turn + 1)) + busy_left (turn + 1) ls + one_if ((x && y) || is_busy turn ls) ≤
-        (l.turn + l.count - max l.turn turn) + busy_left turn ls
-    go true e true f h =
-        let low : l.turn ≤ turn = grind (arith, nat_tests) in
-        let high : turn < l.turn + l.count = grind (arith, nat_tests) in
-        omega (arith, low, high, h)
-    go true e false f h = omega (arith, h)
-    go false e y f h = omega (arith, h)
+busy-falls turn (l ∷ ls) = grind (arith, busy-falls turn ls)
 
 pub busy-start : (lines : List BusyLine) → busy_left 0 lines ≡ busy_turns lines
 busy-start [] = refl

@@ -1,10 +1,10 @@
-use Rattle.std.proofs.Common.{arith, ◌≡◌, ℕ, ◌&&◌, ◌||◌, not, Bool, true, false, cond, refl, sym, ◌∙◌, ap, Option, Ok, inl, inr}
+use Rattle.std.proofs.Common.{arith, ◌≡◌, ℕ, ◌&&◌, ◌||◌, not, Bool, true, false, refl, sym, ◌∙◌, ap, Option, Ok, inl, inr}
 use Rattle.turn_bound.proofs.Truths.{or-first, or-true}
-use Rattle.link_account.proofs.Names.{Originator, Answerer, Frame, Rr, Rnr, Rej, Outgoing, is_outstanding, resumed, Arrived, Account}
-use Rattle.link_account.proofs.Names.{is_originator, hear, without_adp}
+use Rattle.link_account.proofs.Names.{Originator, Answerer, Frame, Rr, Rnr, Rej, Outgoing, resumed, Arrived, Account, is_originator, hear}
+use Rattle.link_account.proofs.Names.{without_adp}
 use Rattle.link_run.proofs.Names.{Phase, Detecting, Negotiating, Establishing, Connected, Answer, is_closed, is_released}
-use Rattle.link_account.specs.Hear.{ends_wait}
-use Rattle.link_account.proofs.HearWays.{Ways, by-ways, acked, acked_back, numbers-alike}
+use Rattle.turn_bound.proofs.Names.{acked, acked_back, ends_wait, numbers-alike}
+use Rattle.link_account.proofs.HearWays.{Ways, by-ways}
 pub use Rattle.link_run.proofs.Meeting.{is_ua as frame_ua, is_disc as frame_disc, carries as of_frame, brings as of_arrived}
 pub use Rattle.link_run.proofs.Meeting.{owes_ua as is_ua_due}
 pub use Rattle.link_account.specs.Laws.{has_begun as is_begun}
@@ -23,27 +23,15 @@ pub record OHeard (ua final : Bool) (a b : Account) : Type 0 where
   pub awaits : (a.phase ≡ Connected → a.outgoing.awaited ≡ true) → final ≡ false → b.phase ≡ Connected → b.outgoing.awaited ≡ true
 
 o-same : (ua final : Bool) (a b : Account) → b.phase ≡ a.phase → b.outgoing.awaited ≡ a.outgoing.awaited → OHeard ua final a b
-o-same ua final a b p w = record {
-  begins = λ h. or-first (is_begun a.phase) ua (ap is_begun (sym p) ∙ h);
-  released = λ h. ap is_released p ∙ h;
-  awaits = λ h f e. w ∙ h (sym p ∙ e);
-}
+o-same ua final a b p w = grind (arith)
 
 -- it is not begun after it
 o-early : (ua final : Bool) (a b : Account) (p q : Phase) → a.phase ≡ p → b.phase ≡ q → is_released p ≡ false → is_begun q ≡ false
     → OHeard ua final a b
-o-early ua final a b p q e f r n = record {
-  begins = λ h. let wrong : true ≡ false = sym h ∙ (ap is_begun f ∙ n) in cc;
-  released = λ h. let wrong : true ≡ false = sym h ∙ (ap is_released e ∙ r) in cc;
-  awaits = λ h g i. let wrong : true ≡ false = ap is_begun (sym i) ∙ (ap is_begun f ∙ n) in cc;
-}
+o-early ua final a b p q e f r n = grind (arith)
 
 pub resumed-awaited : (o : Outgoing) → (resumed o).awaited ≡ o.awaited
-resumed-awaited o = by o.paused
-  where
-    by : (b : Bool) → (cond b (record o { paused = false; count = cond (is_outstanding o || o.awaited) o.count 0 }) o).awaited ≡ o.awaited
-    by true = refl
-    by false = refl
+resumed-awaited o = grind (arith)
 
 -- a number is heard: the wait goes on unless the answer came
 acked-awaits : (command pf final : Bool) (a : Account) (n : ℕ) → ends_wait command pf a ≡ final → pf && not command ≡ false
@@ -52,11 +40,7 @@ acked-awaits command pf b a n e f = grind (arith)
 
 o-number : (ua final : Bool) (a b : Account) → a.phase ≡ Connected → b.phase ≡ Connected
     → (final ≡ false → b.outgoing.awaited ≡ a.outgoing.awaited) → OHeard ua final a b
-o-number ua final a b e f k = record {
-  begins = λ h. or-first (is_begun a.phase) ua (ap is_begun e);
-  released = λ h. let wrong : true ≡ false = sym h ∙ ap is_released e in cc;
-  awaits = λ h g i. k g ∙ h e;
-}
+o-number ua final a b e f k = grind (arith)
 
 o-ways : (turn : ℕ) (a : Account) → a.setup.role ≡ Originator
     → Ways (λ x b. OHeard (of_arrived frame_ua x) (of_arrived frame_final x) a b) turn a
@@ -119,13 +103,7 @@ closed-released p c e = grind (arith)
 
 a-same : (disc : Bool) (a b : Account) → b.phase ≡ a.phase → (is_ua_due b.owes.answer ≡ true → is_ua_due a.owes.answer ≡ true)
     → b.owes.reply ≡ a.owes.reply → b.numbered ≡ a.numbered → AHeard disc a b
-a-same disc a b p w r n = record {
-  begun = λ h. ap is_begun p ∙ h;
-  closes = λ h. closed-released a.phase disc (ap is_closed (sym p) ∙ h);
-  due = λ k h. ap is_begun p ∙ k (w h);
-  reply = λ k h. n ∙ k (sym r ∙ h);
-  numbered = λ h. n ∙ h;
-}
+a-same disc a b p w r n = grind (arith)
 
 -- a UA becomes due at an end that is begun
 a-begun : (disc : Bool) (a b : Account) → is_begun b.phase ≡ true → (is_closed b.phase ≡ true → is_released a.phase || disc ≡ true)

@@ -1,22 +1,19 @@
-use Rattle.std.proofs.Common.{◌≡◌, ◌≤◌, ℕ, ◌&&◌, not, Bool, true, false, refl, sym, ◌∙◌, ap, arith, Ok, inl, inr, ◌||◌, cond, nat_lt, List}
-use Rattle.std.proofs.Common.{[], ◌∷◌, ◌++◌, length, subst}
+use Rattle.std.proofs.Common.{◌≡◌, ◌≤◌, ℕ, ◌&&◌, not, Bool, true, false, refl, sym, ◌∙◌, ap, arith, Ok, inl, inr, ◌||◌, List, [], ◌∷◌, ◌++◌}
+use Rattle.std.proofs.Common.{length, subst}
 use Rattle.turn_bound.proofs.Truths.{not-true}
 use Rattle.link_account.proofs.Names.{Account, trying, Said, frame_for, ready_frame, nr_of, speak, AllByRecursion, Answerer, Frame, Sent}
 use Rattle.link_account.proofs.Names.{Slot, arrives}
 use Rattle.link_run.proofs.Names.{Phase, Releasing, Answer, is_closed, is_released, Connected}
-use Rattle.link_account.proofs.SpeakWays.{Steps, by-ways, steps-so, tries-alike, next-keeps, polling_at}
+use Rattle.turn_bound.proofs.Names.{Steps, by-ways, next-keeps, polling_at, steps-so, tries-alike}
 use Rattle.link_run.proofs.Keeping.{stage}
 use Rattle.link_run.proofs.Saying.{Part, is-said}
 use Rattle.link_run.proofs.Speaking.{speaks-phase}
 use Rattle.turn_bound.proofs.MeetHear.{is_begun, is_ua_due, frame_ua, frame_disc, frame_final, of_frame, of_arrived, o-hears, a-hears}
-use Rattle.link_account.specs.declared.answer.Answer.TheVariants as answers
 use Rattle.turn_bound.proofs.Value.{Rates, Stands, all_weaker}
 use Rattle.turn_bound.proofs.Run.{served_account, Link, State, Turn, GoingTurn, RunOf, start, arrival, left_on, slot_of, AreTogether}
 use Rattle.turn_bound.proofs.Serving.{serves-all}
 use Rattle.turn_bound.proofs.Falls.{Sound, Fits, state_after, after-is}
 use Rattle.turn_bound.proofs.Ending.{sound-run}
-use Rattle.lapm_frames.specs.declared.sent.Sent.TheVariants as slots
-use Rattle.lapm_frames.specs.declared.arrived.Arrived.TheVariants as arrivals
 
 -- What an end says, of either role.
 pub record SaysSo (a : Account) (said : Said) : Type 0 where
@@ -43,10 +40,7 @@ other : (w r : Bool) (said : Said) → said.account.owes.reply ≡ r → (w ≡ 
 other w r said e f l = record { final = λ h. let wrong : true ≡ false = sym h ∙ l in cc; reply = λ h. sym e ∙ h; awaits = f }
 
 answer-final : (d : Answer) (a : Account) → of_frame frame_final (frame_for d a) ≡ false
-answer-final answers.Adp a = refl
-answer-final answers.Xid a = refl
-answer-final (answers.Ua pf) a = refl
-answer-final (answers.Dm pf) a = refl
+answer-final d a = grind (arith)
 
 ready-final : (busy command pf : Bool) (nr : ℕ) → frame_final (ready_frame busy command nr pf) ≡ pf && not command
 ready-final b command pf nr = grind (arith)
@@ -112,32 +106,14 @@ abbrev pub Tells : (Frame → Bool) → Type 0 → List Slot → Type 0
 Tells f P line = AllByRecursion {X = Slot} (λ slot. of_frame f slot.sent ≡ true → P) line
 
 pub arrives-flag : (f : Frame → Bool) (sent : Sent) → of_arrived f (arrives sent) ≡ of_frame f sent
-arrives-flag f slots.Mark = refl
-arrives-flag f slots.Odp = refl
-arrives-flag f slots.Adp = refl
-arrives-flag f slots.Flags = refl
-arrives-flag f (slots.Frame frame) = refl
+arrives-flag f sent = grind (arith)
 
 arrival-tells : (f : Frame → Bool) (P : Type 0) (delay : ℕ) (loses : Bool) (line : List Slot) → Tells f P line
     → of_arrived f (arrival delay loses line) ≡ true → P
-arrival-tells f P delay loses [] h e = cc
-arrival-tells f P delay loses (slot ∷ rest) h e = go (nat_lt (length (slot ∷ rest)) delay) loses e
-  where
-    go : (short lost : Bool) → of_arrived f (cond short arrivals.Nothing (cond lost arrivals.Nothing (arrives slot.sent))) ≡ true → P
-    go true lost e = cc
-    go false true e = cc
-    go false false e = h.0 (sym (arrives-flag f slot.sent) ∙ e)
+arrival-tells f P delay loses line h e = grind (arith, arrives-flag)
 
 left-tells : (f : Frame → Bool) (P Q : Type 0) (delay : ℕ) (line : List Slot) → (P → Q) → Tells f P line → Tells f Q (left_on delay line)
-left-tells f P Q delay [] k h = tt
-left-tells f P Q delay (slot ∷ rest) k h = go (nat_lt (length (slot ∷ rest)) delay)
-  where
-    weaker : (line : List Slot) → Tells f P line → Tells f Q line
-    weaker line t = all_weaker (λ s. of_frame f s.sent ≡ true → P) (λ s. of_frame f s.sent ≡ true → Q) line (λ s g e. k (g e)) t
-
-    go : (short : Bool) → Tells f Q (cond short (slot ∷ rest) rest)
-    go true = weaker (slot ∷ rest) h
-    go false = weaker rest h.1
+left-tells f P Q delay line k h = grind (arith, all_weaker)
 
 tells-snoc : (f : Frame → Bool) (P : Type 0) (line : List Slot) (slot : Slot) → Tells f P line → (of_frame f slot.sent ≡ true → P)
     → Tells f P (line ++ slot ∷ [])
@@ -168,20 +144,10 @@ only-answ : (z : Rates) (before turn : ℕ) (p : Phase) (a : Account) → Stands
 only-answ z before turn p a h e f = grind (arith)
 
 or-either : (a b : Bool) (P : Type 0) → a || b ≡ true → (a ≡ true → P) → (b ≡ true → P) → P
-or-either true b P e f g = f refl
-or-either false b P e f g = g e
+or-either a b P e f g = grind (arith)
 
 meets-start : (link : Link) → Meets (start link)
-meets-start link = record {
-  closed = λ e. cc;
-  begun = λ e. cc;
-  due = λ e. cc;
-  reply = λ e. cc;
-  discs = tt;
-  uas = tt;
-  finals = tt;
-  awaits = λ e. cc;
-}
+meets-start link = grind (arith)
 
 meets-turn : (z : Rates) (link : Link) (turn : ℕ) (s : State) (t : Turn) (u : State) → Fits z link → Sound z link turn s → Meets s
     → (g : GoingTurn link turn s t u) → Meets (state_after link turn s g.orig_mid g.answ_mid g.orig_said g.answ_said)

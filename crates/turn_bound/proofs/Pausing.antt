@@ -1,14 +1,12 @@
 -- Where no user is busy no end tells that it is, and none counts the other as busy.
-use Rattle.std.proofs.Common.{◌≡◌, ℕ, Bool, true, false, arith, refl, sym, ◌∙◌, ap, subst, Option, Ok, inl, inr}
-use Rattle.link_account.proofs.Names.{Disc, Outgoing, Arrived, Account, is_connected, hear, on_nothing, trying, Said, speak}
-use Rattle.link_account.proofs.Names.{speak_releasing, Incoming, frame_for}
-use Rattle.link_run.proofs.Names.{Phase, Connected, Releasing, Answer, is_released}
+use Rattle.std.proofs.Common.{◌≡◌, ℕ, Bool, true, false, arith, refl, sym, ◌∙◌, ap, Option, Ok, inl, inr}
+use Rattle.link_account.proofs.Names.{Outgoing, Arrived, Account, is_connected, hear, on_nothing, trying, Said, speak, speak_releasing}
+use Rattle.link_account.proofs.Names.{Incoming}
+use Rattle.link_run.proofs.Names.{Phase, Connected, Releasing, is_released}
 use Rattle.turn_bound.proofs.Value.{arrived_rnrs}
-use Rattle.link_account.proofs.HearWays.{numbered_with, acked, acked_back, resumed-unpaused}
-use Rattle.link_account.proofs.SpeakWays.{OnSaid, Steps, linked-alike, tries-alike, by-tries, retimed, next-keeps}
+use Rattle.turn_bound.proofs.Names.{Steps, acked, acked_back, by-tries, linked-alike, numbered_with, resumed-unpaused, retimed, tries-alike}
 use Rattle.turn_bound.proofs.MeetHear.{is_begun, of_frame}
 use Rattle.turn_bound.proofs.Taking.{frame_poll}
-use Rattle.link_account.specs.declared.answer.Answer.TheVariants as answers
 use Rattle.link_account.proofs.HearWays as HearWays
 use Rattle.link_account.proofs.SpeakWays as SpeakWays
 
@@ -32,31 +30,12 @@ linked-open : (a : Account) → a.phase ≡ Connected → is_released a.phase �
 linked-open a e h = let wrong : false ≡ true = sym (ap is_released e) ∙ h in cc
 
 same-goes : (a b : Account) → b.phase ≡ a.phase → b.owes.busy_told ≡ a.owes.busy_told → b.outgoing ≡ a.outgoing → Goes a b
-same-goes a b p t o =
-    record {
-      begun = λ h. ap is_begun p ∙ h;
-      released = λ h. ap is_released p ∙ h;
-      early = λ h. ap is_released p ∙ unbegun a.phase h;
-      late = λ h. o;
-      paused = λ h. ap (λ x. x.paused) o ∙ h;
-      told = t;
-    }
+same-goes a b p t o = grind (arith)
 
 -- what only goes on from a phase before Connected
 early-goes : (a b : Account) → is_begun a.phase ≡ false → is_released b.phase ≡ false
     → (a.outgoing.paused ≡ false → b.outgoing.paused ≡ false) → b.owes.busy_told ≡ a.owes.busy_told → Goes a b
-early-goes a b e r p t =
-    record {
-      begun = λ h. let wrong : true ≡ false = sym h ∙ e in cc;
-      released = λ h. absurd (none a.phase e h);
-      early = λ h. r;
-      late = λ h. absurd (none a.phase e h);
-      paused = p;
-      told = t;
-    }
-  where
-    none : (q : Phase) → is_begun q ≡ false → is_released q ≡ true → ⊥
-    none p f h = grind (arith)
+early-goes a b e r p t = grind (arith)
 
 pub goes-on : (turn : ℕ) (arrived : Arrived) (a mid : Account) → arrived_rnrs arrived ≡ 0 → hear turn arrived a ≡ Ok mid → Goes a mid
 goes-on turn arrived a mid n e = HearWays.by-ways (λ x b. arrived_rnrs x ≡ 0 → Goes a b) turn a (record {
@@ -109,14 +88,7 @@ goes-on turn arrived a mid n e = HearWays.by-ways (λ x b. arrived_rnrs x ≡ 0 
 
     number : a.phase ≡ Connected → (new : Outgoing) (incoming : Incoming) (timer : Option ℕ) (reply urgent : Bool)
         → (a.outgoing.paused ≡ false → new.paused ≡ false) → Goes a (numbered_with a new incoming timer reply urgent)
-    number p new incoming timer reply urgent k = record {
-      begun = λ h. h;
-      released = λ h. h;
-      early = λ h. absurd (linked-begun a p h);
-      late = λ h. absurd (linked-open a p h);
-      paused = k;
-      told = refl;
-    }
+    number p new incoming timer reply urgent k = grind (arith)
 
 -- Speaking: an end that isn't busy tells that it isn't. Its front stays.
 abbrev pub mark : Outgoing → Bool × ℕ
@@ -126,18 +98,7 @@ abbrev pub Calm : Account → Said → Type 0
 Calm a said = (mark said.account.outgoing ≡ mark a.outgoing) × (a.owes.busy_told ≡ false → said.account.owes.busy_told ≡ false)
 
 steps-calm : (turn : ℕ) (special : Bool) (a : Account) → a.owes.busy ≡ false → Steps (Calm a) turn special a
-steps-calm turn special a calm = record {
-  answers = λ d e. (refl, λ h. h);
-  final = λ n e. (refl, λ h. calm);
-  poll = λ n r e. (refl, λ h. calm);
-  segment = λ b u n e. let k = next-keeps a.outgoing in (rw (k.paused, k.front) refl, λ h. h);
-  brkack = λ b s word e. (refl, λ h. h);
-  brk = λ b s k word e. (refl, λ h. h);
-  tell = λ b w e. (refl, λ h. calm);
-  rej = λ b w n e. (refl, λ h. refl);
-  srej = λ b w s n e. (refl, λ h. h);
-  flags = λ i. (refl, λ h. h);
-}
+steps-calm turn special a calm = grind (arith)
 
 pub says-calm : (turn : ℕ) (release : Bool) (a : Account) (said : Said) → (is_connected a.phase ≡ true → a.owes.busy ≡ false)
     → speak turn release a ≡ Ok said → Calm a said
@@ -158,26 +119,9 @@ says-calm turn release a said calm e = SpeakWays.by-ways (Calm a) turn release a
 abbrev pub Unpolled : Said → Type 0
 Unpolled said = of_frame frame_poll said.sent ≡ false
 
-answer-unpolled : (d : Answer) (a : Account) → of_frame frame_poll (frame_for d a) ≡ false
-answer-unpolled answers.Adp a = refl
-answer-unpolled answers.Xid a = refl
-answer-unpolled (answers.Ua pf) a = refl
-answer-unpolled (answers.Dm pf) a = refl
-
 pub says-unpolled : (turn : ℕ) (release : Bool) (a : Account) (said : Said) → is_connected a.phase ≡ false → speak turn release a ≡ Ok said
     → of_frame frame_poll said.sent ≡ false
-says-unpolled turn release a said c e = SpeakWays.by-ways Unpolled turn release a (record {
-  answers = λ alone d f. answer-unpolled d a;
-  flags = λ alone f. refl;
-  mark = λ p r f. refl;
-  odp = λ p r l. refl;
-  xid = λ p r. tries-alike _ turn _ a (λ w. refl) refl;
-  sabme = λ p. tries-alike _ turn _ a (λ w. refl) refl;
-  linked = λ p r. let wrong : true ≡ false = sym (ap is_connected p) ∙ c in cc;
-  releases = λ p r. let wrong : true ≡ false = sym (ap is_connected p) ∙ c in cc;
-  disc = λ p. tries-alike _ turn _ a (λ w. refl) refl;
-}) said e
+says-unpolled turn release a said c e = grind (arith)
 
 pub releases-unpolled : (turn : ℕ) (a : Account) (said : Said) → speak_releasing turn a ≡ Ok said → of_frame frame_poll said.sent ≡ false
-releases-unpolled turn a said e = subst (OnSaid Unpolled) e
-    (by-tries Unpolled turn (Disc true) a (tries-alike Unpolled turn (Disc true) a (λ w. refl) refl))
+releases-unpolled turn a said e = grind (arith, by-tries, tries-alike)

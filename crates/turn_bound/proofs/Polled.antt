@@ -1,16 +1,12 @@
 -- An end's polls become due once in a whole period, and so once in nineteen turns.
-use Rattle.std.proofs.Common.{◌≡◌, ℕ, ◌+◌, ◌-◌, ◌≤◌, min, Bool, true, false, cond, nat_lt, inl, inr, arith, refl, ap, Option, Some, None}
-use Rattle.std.proofs.Common.{Ok, ◌&&◌, ◌∙◌, subst}
-use Rattle.link_account.proofs.Names.{Role, Outgoing, Sent, Account, Said, nr_of, ready_frame, speak_linked, frame_for, is_originator}
-use Rattle.link_account.proofs.Names.{Frame, Disc, Arrived, is_connected, trying, speak, speak_in, speak_releasing}
-use Rattle.link_run.proofs.Names.{Connected, Answer, Phase, Detecting, Negotiating, Establishing, Releasing, Closed, User, is_released}
-use Rattle.link_account.specs.Hear.{timer_after}
-use Rattle.link_account.specs.Speak.{running, u_try}
+use Rattle.std.proofs.Common.{◌≡◌, ℕ, ◌+◌, ◌-◌, ◌≤◌, min, Bool, true, false, cond, inl, inr, arith, refl, ap, Option, Ok, ◌&&◌, ◌∙◌, subst}
+use Rattle.link_account.proofs.Names.{Role, Outgoing, Sent, Account, Said, speak_linked, is_originator, Frame, Disc, Arrived, is_connected}
+use Rattle.link_account.proofs.Names.{trying, speak, speak_in, speak_releasing}
+use Rattle.link_run.proofs.Names.{Connected, Phase, Detecting, Negotiating, Establishing, Releasing, Closed, User, is_released}
+use Rattle.turn_bound.proofs.Names.{Steps, by-linked, by-tries, polling_at, steps-so, timer_after, tries-alike, u_try}
 use Rattle.turn_bound.proofs.Value.{Rates, AreRates, IsOf, Stands, arrived_weight, arrived_rnrs}
-use Rattle.link_account.proofs.SpeakWays.{Steps, steps-so, by-linked, polling_at, OnSaid, tries-alike, by-tries}
 use Rattle.turn_bound.proofs.MeetHear.{of_frame, is_begun, of_arrived}
-use Rattle.turn_bound.proofs.Taking.{frame_poll, timer_value, poll_value, TakesNumber, Takes, poll-most, takes}
-use Rattle.link_account.specs.declared.answer.Answer.TheVariants as answers
+use Rattle.turn_bound.proofs.Taking.{frame_poll, timer_value, poll_value, Takes, poll-most, takes}
 use Rattle.turn_bound.proofs.OneTurn.{Hearing}
 use Rattle.turn_bound.proofs.Meeting.{SaysSo, speaks-so}
 use Rattle.turn_bound.proofs.Pausing.{Goes, goes-on, says-unpolled, releases-unpolled}
@@ -23,53 +19,17 @@ polls sent = nineteen_if (of_frame frame_poll sent)
 
 -- hearing sets a timer now, stops it or leaves it
 heard-timer : (turn : ℕ) (o new : Outgoing) (timer : Option ℕ) → timer_value turn (timer_after turn o new timer) ≤ timer_value turn timer
-heard-timer turn o new timer = go _ (nat_lt o.front new.front) _
-  where
-    go : (x y w : Bool) → timer_value turn (cond x None (cond y (cond w (Some turn) None) timer)) ≤ timer_value turn timer
-    go b y w = grind (arith)
+heard-timer turn o new timer = grind (arith)
 
 pub heard-polls : (turn : ℕ) (p : Bool) (a b : Account) → Takes turn p a b → poll_value turn Connected b ≤ poll_value turn Connected a
-heard-polls turn p a b t = omega (arith, ap nineteen_if t.poll, by t.number)
-  where
-    by : TakesNumber turn a b → timer_value turn b.wait.timer ≤ timer_value turn a.wait.timer
-    by (inl n) = omega (arith, ap (timer_value turn) n.1, heard-timer turn a.outgoing b.outgoing a.wait.timer)
-    by (inr n) = omega (arith, ap (timer_value turn) n.1)
+heard-polls turn p a b t = grind (arith, heard-timer)
 
 -- what is said of a Connected account whose timers are done
 abbrev pub Rated : ℕ → Account → Said → Type 0
 Rated turn a said = poll_value (turn + 1) Connected said.account + polls said.sent ≤ poll_value (turn + 1) Connected a
 
-ready-polls : (busy pf : Bool) (nr : ℕ) → frame_poll (ready_frame busy false nr pf) ≡ false
-ready-polls b pf nr = grind (arith)
-
-ready-most : (busy pf : Bool) (nr : ℕ) → nineteen_if (frame_poll (ready_frame busy true nr pf)) ≤ 19
-ready-most busy pf nr = go (frame_poll (ready_frame busy true nr pf))
-  where
-    go : (b : Bool) → nineteen_if b ≤ 19
-    go b = grind (arith)
-
-answer-rated : (turn : ℕ) (a b : Account) (d : Answer) → polls (frame_for d b) ≡ 0
-answer-rated turn a b answers.Adp = refl
-answer-rated turn a b answers.Xid = refl
-answer-rated turn a b (answers.Ua pf) = refl
-answer-rated turn a b (answers.Dm pf) = refl
-
 steps-rated : (turn : ℕ) (special : Bool) (a : Account) → Steps (Rated turn a) turn special a
-steps-rated turn special a = record {
-  answers = λ d e. omega (arith, answer-rated turn a a d);
-  final = λ n e. omega (arith, ap nineteen_if (ready-polls a.owes.busy true (nr_of a)));
-  poll = λ n r e. omega (arith, ap nineteen_if e, ready-most a.owes.busy true (nr_of a));
-  segment = λ b u n e. omega (arith, set a.wait.timer);
-  brkack = λ b s word e. omega arith;
-  brk = λ b s k word e. omega arith;
-  tell = λ b w e. omega (arith, ap nineteen_if (ready-polls a.owes.busy false (nr_of a)));
-  rej = λ b w n e. omega arith;
-  srej = λ b w s n e. omega arith;
-  flags = λ i. omega arith;
-}
-  where
-    set : (timer : Option ℕ) → timer_value (turn + 1) (running turn timer) ≤ timer_value (turn + 1) timer
-    set b = grind (arith)
+steps-rated turn special a = grind (arith)
 
 -- the timers come first: an expiry makes a poll due
 abbrev pub SaysRated : ℕ → Account → Said → Type 0
@@ -98,8 +58,7 @@ same-polls : (turn : ℕ) (p : Phase) (b m : Account) → b.wait ≡ m.wait → 
 same-polls turn p b m w = grind (arith)
 
 try-phase : (turn : ℕ) (frame : Frame) (a : Account) (said : Said) → u_try turn frame a ≡ Ok said → said.account.phase ≡ a.phase
-try-phase turn frame a said e = subst (OnSaid (λ s. s.account.phase ≡ a.phase)) e
-    (by-tries (λ s. s.account.phase ≡ a.phase) turn frame a (tries-alike _ turn frame a (λ w. refl) refl))
+try-phase turn frame a said e = grind (arith, by-tries, tries-alike)
 
 -- One turn of one end.
 pub poll-turn : {z : Rates} {user : User} {turn : ℕ} {role : Role} {a : Account} {arrived : Arrived} {mid b : Account}
@@ -139,8 +98,7 @@ poll-turn {z} {user} {turn} {role} {a} {arrived} {mid} {b} i release said light 
     speaking Establishing e = omega (arith, nothing (ap is_connected e), poll-most (turn + 1) said.account.phase said.account)
     speaking Releasing e =
         omega (arith, nothing (ap is_connected e), late-none (turn + 1) said.account.phase said.account (so.released (ap is_released e)))
-    speaking Closed e = omega
-        (arith, nothing (ap is_connected e), late-none (turn + 1) said.account.phase said.account (so.released (ap is_released e)))
+    speaking Closed e = grind (arith, late-none)
     speaking Connected e = by (release && is_originator b.setup.role) (subst (λ q. speak_in q turn release b ≡ Ok said) e speaks)
       where
         by : (r : Bool) → cond r (speak_releasing turn (trying Releasing turn b)) (speak_linked turn b) ≡ Ok said

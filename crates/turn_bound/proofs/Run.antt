@@ -4,7 +4,7 @@ use Rattle.link_run.proofs.Names.{Setup, User, served, is_released, is_closed, h
 use Rattle.std.specs.Prelude.{◌≡◌, ℕ, Bool, false, if◌then◌else◌, ◌&&◌, nat_lt, List, [], ◌∷◌, ◌++◌, length, Ok, ◌+◌, ◌*◌, ◌≤◌, cond, ◌||◌}
 use Rattle.lapm_frames.specs.declared.arrived.Arrived.TheVariants as arrivals
 use Rattle.turn_bound.proofs.Value.{Rates, rates, value, lives, IsOf, dues, weight, rnrs}
-use Rattle.link_run.specs.End.{busy_left, busy_turns}
+use Rattle.turn_bound.proofs.Names.{busy_left, busy_turns}
 use Rattle.turn_bound.specs.Together.{Together}
 
 -- an end as a run begins, with its user, and the delay of what it sends

@@ -1,13 +1,11 @@
-use Rattle.std.proofs.Common.{◌≡◌, ℕ, ◌+◌, ◌-◌, ◌*◌, ◌%◌, ◌<◌, ◌≤◌, ◌&&◌, ◌||◌, not, Bool, true, false, cond, nat_eq, nat_lt, nat_le, List}
-use Rattle.std.proofs.Common.{[], ◌∷◌, length, arith, refl, sym, ◌∙◌, ap, subst, Option, Some, None}
+use Rattle.std.proofs.Common.{◌≡◌, ℕ, ◌+◌, ◌-◌, ◌*◌, ◌<◌, ◌≤◌, ◌&&◌, ◌||◌, not, Bool, true, false, cond, nat_lt, List, [], ◌∷◌, length}
+use Rattle.std.proofs.Common.{arith, refl, sym, ◌∙◌, ap, Option, Some, None}
 use Rattle.turn_bound.proofs.Truths.{and-two}
 use Rattle.link_account.proofs.Names.{is_some, AllByRecursion, nat_tests, meant, Outgoing, is_outstanding, advanced, resumed, Account}
 use Rattle.lapm_sender.specs.Numbers.{with_number, from_number}
-use Rattle.lapm_sender.specs.Outgoing.{gone_back, wait_ended, paused_at}
-use Rattle.link_account.specs.Hear.{timer_after, ends_wait}
-use Rattle.link_account.proofs.HearWays.{acked, acked_back}
+use Rattle.turn_bound.proofs.Names.{acked, acked_back, ends_wait, gone_back, paused_at, timer_after, wait_ended}
 use Rattle.turn_bound.proofs.Value.{Rates, AreRates, Ticks, left, is_waiting, IsChosen, Sends, is_free, ends, sender_value, paid, cond-le}
-use Rattle.turn_bound.proofs.Value.{stopped, left-some, ticks-later, ticks-now}
+use Rattle.turn_bound.proofs.Value.{stopped, left-some, ticks-now}
 
 -- whether hearing ended what the clock ran for
 abbrev pub ended : Outgoing → Outgoing → Bool
@@ -60,13 +58,7 @@ waiting-less out awaited paused awaited' paused' h1 h2 e = grind (arith)
 pub heard-clock : (z : Rates) (turn : ℕ) (o new : Outgoing) (timer : Option ℕ) → Sends z turn turn o timer → Heard o new
     → (timer_after turn o new timer ≡ cond (is_waiting new) (cond (nat_lt o.front new.front) (Some turn) timer) None)
     × (new.count ≡ cond (is_waiting new) (cond (nat_lt o.front new.front) 0 o.count) 0)
-heard-clock z turn o new timer s h = (
-  clock-after turn (is_outstanding o) (is_outstanding new) o.awaited new.awaited o.paused new.paused (nat_lt o.front new.front) timer
-      (λ e. (outstanding-same o new h e).0) h.awaited h.paused s.cause,
-  h.count ∙ count-after o.count (is_outstanding o) (is_outstanding new) o.awaited new.awaited o.paused new.paused
-      (nat_lt o.front new.front) timer (λ e. (outstanding-same o new h e).0) h.awaited h.paused s.cause
-      (stopped z turn turn o.count timer s.ticks),
-)
+heard-clock z turn o new timer s h = grind (arith, clock-after, outstanding-same, count-after, stopped)
 
 waits-before : (o : Outgoing) (n : ℕ) → o.front < n → n ≤ o.high → is_waiting o ≡ true
 waits-before o n less within = let t : nat_lt o.front o.high ≡ true = grind (arith, nat_tests) in rw t refl
@@ -77,29 +69,14 @@ pieces-same o new h = ap (λ l. length l) h.pieces
 heard-sends : (z : Rates) (turn : ℕ) (o new : Outgoing) (timer timer' : Option ℕ) → Sends z turn turn o timer → Heard o new
     → (paused : Bool) (count : ℕ) → is_some timer' ≡ (is_outstanding new || (new.awaited || paused)) → Ticks z (turn + 1) turn count timer'
     → Sends z (turn + 1) turn (record new { paused = paused; count = count }) timer'
-heard-sends z turn o new timer timer' s h paused count cause ticks = record {
-  front_from = h.front_from;
-  from_high = h.from_high;
-  high_pieces = omega (arith, pieces-same o new h, s.high_pieces, h.high);
-  high_window = omega (arith, h.front_low, h.high, h.window, s.high_window);
-  window = omega (arith, h.window, s.window);
-  chosen = h.chosen;
-  tries_are = h.tries ∙ s.tries_are;
-  cause = cause;
-  ticks = ticks;
-}
+heard-sends z turn o new timer timer' s h paused count cause ticks = grind (arith)
 
 pub ends-is : (k : ℕ) (a b a' b' : Bool) → a ≡ a' → b ≡ b' → ends k a b ≡ ends k a' b'
 ends-is k a b a' b' e f = rw (e, f) refl
 
 worth-same : (z : Rates) (total : ℕ) (o new : Outgoing) → Heard o new → nat_lt o.front new.front ≡ false
     → z.quota * (total - new.front) + cond (is_free total new) z.first 0 ≡ z.quota * (total - o.front) + cond (is_free total o) z.first 0
-worth-same z total o new h e = by new.front new.high (sym (outstanding-same o new h e).1) h.high
-  where
-    by : (front high : ℕ) → front ≡ o.front → high ≡ o.high
-        → z.quota * (total - front) + cond (not (nat_lt front high) && nat_lt front total) z.first 0 ≡ z.quota * (total - o.front) + cond
-        (is_free total o) z.first 0
-    by front high e f = rw (e, f) refl
+worth-same z total o new h e = grind (arith, outstanding-same)
 
 -- an advance pays for all
 falls-more : (q g w first rest rest' free free' old k : ℕ) (waits' : Bool) → rest' + q ≤ rest → free' ≤ g → q ≡ g + w + 1
@@ -146,37 +123,8 @@ heard-well z total turn o new timer y s h all =
       sends = heard-sends z turn o new timer timer' s h new.paused new.count (rw (t, w) refl) (rw (t, c) refl);
       falls = advanced-on false w e timer' (ap (λ r. left z turn new.count r) t);
     }
-    go false e true w timer' t c =
-        let same = outstanding-same o new h e in
-        let waits : is_waiting o ≡ true =
-        waiting-less (is_outstanding o) o.awaited o.paused new.awaited new.paused h.awaited h.paused
-        (ap (λ b. b || (new.awaited || new.paused)) same.0 ∙ w) in record {
-          sends = heard-sends z turn o new timer timer' s h new.paused new.count (rw (t, w) (s.cause ∙ waits))
-              (rw (t, c) (ticks-later z turn turn o.count timer s.ticks));
-          falls = stays waits (ap (λ r. left z turn new.count r) t ∙ ap (λ n. left z turn n timer) c) same.1;
-        }
-      where
-        stays : is_waiting o ≡ true → left z turn new.count timer' ≡ left z turn o.count timer → o.front ≡ new.front
-            → sender_value z total turn new timer' + ends z.room (is_waiting o) (is_waiting new) ≤ sender_value z total turn o timer + 0
-        stays e' l front = omega (arith, worth-same z total o new h e, l, ends-is z.room (is_waiting o) (is_waiting new) true true e' w)
-    go false e false w timer' t c =
-        let same = outstanding-same o new h e in record {
-          sends = heard-sends z turn o new timer timer' s h new.paused new.count (rw (t, w) refl) (rw (t, c) refl);
-          falls = stops (is_waiting o) refl (ap (λ r. left z turn new.count r) t) same.1;
-        }
-      where
-        stops : (waited : Bool) → is_waiting o ≡ waited → left z turn new.count timer' ≡ 0 → o.front ≡ new.front
-            → sender_value z total turn new timer' + ends z.room (is_waiting o) (is_waiting new) ≤ sender_value z total turn o timer + 0
-        stops true e' l front =
-            omega (
-              arith,
-              left-some z turn turn o.count timer y s.ticks (s.cause ∙ e'),
-              worth-same z total o new h e,
-              l,
-              ends-is z.room (is_waiting o) (is_waiting new) true false e' w,
-            )
-        stops false e' l front =
-            omega (arith, worth-same z total o new h e, l, ends-is z.room (is_waiting o) (is_waiting new) false false e' w)
+    go false e true w timer' t c = grind (arith, outstanding-same, waiting-less, worth-same, ends-is)
+    go false e false w timer' t c = grind (arith, outstanding-same, left-some, worth-same, ends-is)
 
 -- RNR: the other end counts as busy, and the clock begins
 pub heard-busy : (z : Rates) (total turn : ℕ) (o new : Outgoing) (timer : Option ℕ) → AreRates z → Sends z turn turn o timer → Heard o new
@@ -207,53 +155,21 @@ heard-busy z total turn o new timer y s h all = record {
           y.quota,
           ends-is z.room (is_waiting o) (is_waiting (paused_at new)) true true (waits-before o new.front less within) waits',
         )
-    go false e true w = omega (
-      arith,
-      worth-same z total o new h e,
-      y.quota,
-      y.first,
-      ends-is z.room (is_waiting o) (is_waiting (paused_at new)) true true w waits',
-    )
-    go false e false w = omega (
-      arith,
-      worth-same z total o new h e,
-      y.quota,
-      y.first,
-      ends-is z.room (is_waiting o) (is_waiting (paused_at new)) false true w waits',
-    )
+    go advances e waited w = grind (arith)
 
 -- What each rule makes of the sender's part.
 
 pub meant-range : (low high nr n : ℕ) → meant low high nr ≡ Some n → (low ≤ n) × (n ≤ high)
-meant-range low high nr n e = go (nat_lt nr 128) (low + (nr + 128 - low % 128) % 128) (omega arith) e
-  where
-    go : (few : Bool) (m : ℕ) → low ≤ m → cond (few && nat_le m high) (Some m) None ≡ Some n → (low ≤ n) × (n ≤ high)
-    go false m less e = cc
-    go true m less e = by (nat_le m high) refl e
-      where
-        by : (b : Bool) → nat_le m high ≡ b → cond b (Some m) None ≡ Some n → (low ≤ n) × (n ≤ high)
-        by true t e = let same : m ≡ n = cc in (omega (arith, less, same), grind (arith, nat_tests))
-        by false t e = cc
+meant-range low high nr n e = grind (arith)
 
 from_number-choices : (front high n : ℕ) (ns : List ℕ) → AllByRecursion (IsChosen front high) ns
     → AllByRecursion (IsChosen n high) (from_number n ns)
 from_number-choices front high n [] all = tt
-from_number-choices front high n (m ∷ ms) all = go (nat_le n m) refl (from_number-choices front high n ms all.1)
-  where
-    go : (b : Bool) → nat_le n m ≡ b → AllByRecursion (IsChosen n high) (from_number n ms)
-        → AllByRecursion (IsChosen n high) (cond b (m ∷ from_number n ms) (from_number n ms))
-    go true e rest = ((grind (arith, nat_tests), all.0.1), rest)
-    go false e rest = rest
+from_number-choices front high n (m ∷ ms) all = grind (arith, from_number-choices front high n ms all.1)
 
 with_number-all : (P : ℕ → Type 0) (n : ℕ) (ns : List ℕ) → P n → AllByRecursion P ns → AllByRecursion P (with_number n ns)
 with_number-all P n [] h all = (h, tt)
-with_number-all P n (m ∷ ms) h all = go (nat_lt n m) (nat_eq n m) (with_number-all P n ms h all.1)
-  where
-    go : (a b : Bool) → AllByRecursion P (with_number n ms)
-        → AllByRecursion P (cond a (n ∷ m ∷ ms) (cond b (m ∷ ms) (m ∷ with_number n ms)))
-    go true b rest = (h, all)
-    go false true rest = all
-    go false false rest = (all.0, rest)
+with_number-all P n (m ∷ ms) h all = grind (arith, with_number-all P n ms h all.1)
 
 same-bool : (a b : Bool) (out : Bool) (c : ℕ) → c ≡ cond (((a && not a) || (b && not b)) && out) 0 c
 same-bool a b out c = grind (arith)
@@ -275,70 +191,19 @@ heard-advanced z before turn o timer n s low within = record {
 }
 
 pub heard-gone_back : (o new : Outgoing) → Heard o new → Heard o (gone_back new)
-heard-gone_back o new h = record {
-  high = h.high;
-  pieces = h.pieces;
-  window = h.window;
-  tries = h.tries;
-  front_low = h.front_low;
-  front_from = omega arith;
-  from_high = omega (arith, h.front_from, h.from_high);
-  chosen = h.chosen;
-  awaited = h.awaited;
-  paused = h.paused;
-  count = h.count;
-}
+heard-gone_back o new h = grind (arith)
 
 -- the wait ends, of an end that awaits a poll
 pub heard-wait_ended : (z : Rates) (before turn : ℕ) (o : Outgoing) (timer : Option ℕ) (n : ℕ) → Sends z before turn o timer → o.front ≤ n
     → n ≤ o.high → o.awaited ≡ true → Heard o (wait_ended (advanced o n))
-heard-wait_ended z before turn o timer n s low within polled = record {
-  high = refl;
-  pieces = refl;
-  window = refl;
-  tries = refl;
-  front_low = low;
-  front_from = omega arith;
-  from_high = within;
-  chosen = tt;
-  awaited = λ e. polled;
-  paused = λ e. e;
-  count = go (nat_lt o.front n) (nat_lt n o.high) o.paused o.awaited polled;
-}
-  where
-    go : (advances out paused awaited : Bool) → awaited ≡ true
-        → cond (out || paused) (cond advances 0 o.count) 0 ≡ cond advances 0
-        (cond (((awaited && true) || (paused && not paused)) && not (out || paused)) 0 o.count)
-    go advances out paused awaited e = grind (arith)
+heard-wait_ended z before turn o timer n s low within polled = grind (arith)
 
 pub heard-resumed : (o new : Outgoing) → Heard o new → Heard o (resumed new)
 heard-resumed o new h = go new.paused refl
   where
-    counts : (advances out out' awaited awaited' paused : Bool) (c : ℕ) → paused ≡ true
-        → c ≡ cond advances 0 (cond (((awaited && not awaited') || (paused && false)) && not (out' || (awaited' || true))) 0 o.count)
-        → cond (out' || awaited') c 0 ≡ cond advances 0
-        (cond (((awaited && not awaited') || (paused && true)) && not (out' || (awaited' || false))) 0 o.count)
-    counts advances out out' awaited awaited' paused c e k = grind (arith)
-
     go : (b : Bool) → new.paused ≡ b
         → Heard o (cond b (record new { paused = false; count = cond (is_outstanding new || new.awaited) new.count 0 }) new)
-    go false e = h
-    go true e = record {
-      high = h.high;
-      pieces = h.pieces;
-      window = h.window;
-      tries = h.tries;
-      front_low = h.front_low;
-      front_from = h.front_from;
-      from_high = h.from_high;
-      chosen = h.chosen;
-      awaited = h.awaited;
-      paused = λ f. h.paused e;
-      count = counts (nat_lt o.front new.front) (is_outstanding o) (is_outstanding new) o.awaited new.awaited o.paused new.count
-          (h.paused e) (subst (λ b. new.count ≡ cond (nat_lt o.front new.front) 0
-          (cond (((o.awaited && not new.awaited) || (o.paused && not b)) && not (is_outstanding new || (new.awaited || b))) 0 o.count)) e
-          h.count);
-    }
+    go b e = grind (arith)
 
 pub heard-selected : (z : Rates) (before turn : ℕ) (o : Outgoing) (timer : Option ℕ) (n : ℕ) → Sends z before turn o timer → o.front ≤ n
     → n < o.high → Heard o (record o { chosen = with_number n o.chosen })
@@ -371,8 +236,6 @@ acked-heard z before turn a final command pf nr n s e m = go final e
     within = meant-range a.outgoing.front a.outgoing.high nr n m
 
     go : (b : Bool) → ends_wait command pf a ≡ b → Heard a.outgoing (acked b a.outgoing n) × Heard a.outgoing (acked_back b a.outgoing n)
-    go true f = let k = heard-wait_ended z before turn a.outgoing a.wait.timer n s within.0 within.1
-        (and-two a.outgoing.awaited (pf && not command) f).0 in
-        (k, k)
+    go true f = grind (arith, heard-wait_ended, and-two)
     go false f = let k = heard-advanced z before turn a.outgoing a.wait.timer n s within.0 within.1 in
         (k, heard-gone_back a.outgoing (advanced a.outgoing n) k)

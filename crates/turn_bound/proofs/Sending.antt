@@ -1,11 +1,10 @@
 use Rattle.std.proofs.Common.{◌≡◌, ℕ, ◌+◌, ◌<◌, ◌≤◌, ◌&&◌, ◌||◌, not, max, Bool, true, false, cond, nat_eq, nat_lt, List, [], ◌∷◌, length}
 use Rattle.std.proofs.Common.{arith, refl, sym, ◌∙◌, ap, subst, Option, Some, None, ◌-◌, ◌*◌, ◌%◌, nat_le, ◌++◌, length-append}
 use Rattle.link_account.proofs.Names.{is_some, AllByRecursion, nat_tests, Outgoing, is_outstanding, next_number}
-use Rattle.lapm_sender.specs.Outgoing.{next_among, sent_among, after_next}
-use Rattle.link_account.specs.Speak.{running}
+use Rattle.turn_bound.proofs.Names.{OwnBreaks, after_answer, after_ask, after_brk, after_next, next_among, running, sent_among, ticked}
+use Rattle.turn_bound.proofs.Names.{waits}
 use Rattle.turn_bound.proofs.Value.{Rates, AreRates, Ticks, left, is_waiting, IsChosen, Sends, is_free, one_if, sender_value, tries_fit}
 use Rattle.turn_bound.proofs.Value.{ticks-later, all_weaker, Breaks, is_breaking, break_left, break_value, ends, paid}
-use Rattle.break_signals.specs.Breaks.{OwnBreaks, waits, after_ask, ticked, after_brk, after_answer}
 
 -- The turn goes on to the next one.
 
@@ -18,17 +17,7 @@ pub record WaitedWell (z : Rates) (total turn : ℕ) (o : Outgoing) (timer : Opt
 with-clock : {z : Rates} {before turn before' turn' : ℕ} {o : Outgoing} {timer timer' : Option ℕ} → Sends z before turn o timer
     → (count : ℕ) (awaited : Bool) → is_some timer' ≡ (is_outstanding o || (awaited || o.paused)) → Ticks z before' turn' count timer'
     → Sends z before' turn' (record o { count = count; awaited = awaited }) timer'
-with-clock s count awaited cause ticks = record {
-  front_from = s.front_from;
-  from_high = s.from_high;
-  high_pieces = s.high_pieces;
-  high_window = s.high_window;
-  window = s.window;
-  chosen = s.chosen;
-  tries_are = s.tries_are;
-  cause = cause;
-  ticks = ticks;
-}
+with-clock s count awaited cause ticks = grind (arith)
 
 -- without an expiry
 pub waited-quiet : (z : Rates) (total turn : ℕ) (o : Outgoing) (timer : Option ℕ) → AreRates z → Sends z (turn + 1) turn o timer
@@ -100,25 +89,12 @@ sent-on z total turn o timer from high chosen y s idle front_from from_high high
 
     sends : (timer' : Option ℕ) → is_some timer' ≡ true → Ticks z (turn + 1) (turn + 1) o.count timer'
         → Sends z (turn + 1) (turn + 1) (record o { from = from; high = high; chosen = chosen }) timer'
-    sends timer' runs ticks = record {
-      front_from = front_from;
-      from_high = from_high;
-      high_pieces = high_pieces;
-      high_window = high_window;
-      window = s.window;
-      chosen = choices;
-      tries_are = s.tries_are;
-      cause = runs ∙ sym waits';
-      ticks = ticks;
-    }
+    sends timer' runs ticks = grind (arith)
 
     go : (out : Bool) → is_outstanding o ≡ out → (timer' : Option ℕ) → Ticks z (turn + 1) (turn + 1) o.count timer'
         → is_some timer' ≡ is_waiting o
         → SentWell z total turn o timer' (record o { from = from; high = high; chosen = chosen }) (running turn timer')
-    go true e (Some set) ticks cause =
-        let free : cond (is_free total o) z.first 0 ≡ 0 = rw e refl in
-        let w : cond (is_waiting o) 0 (z.room + 1) ≡ 0 = rw e refl in
-        record { sends = sends (Some set) refl ticks; waits = waits'; falls = omega (arith, free, free', w) }
+    go true e (Some set) ticks cause = grind (arith)
     go true e None ticks cause = let w : is_waiting o ≡ true = rw e refl in let wrong : false ≡ true = cause ∙ w in cc
     go false e (Some set) ticks cause = let w : is_waiting o ≡ false = rw (e, idle) refl in let wrong : true ≡ false = cause ∙ w in cc
     go false e None ticks cause =
@@ -139,10 +115,7 @@ sent-on z total turn o timer from high chosen y s idle front_from from_high high
         from-now = omega arith
 
 pub may-be : (b c : Bool) (m : Option ℕ) (n : ℕ) → cond (b || c) None m ≡ Some n → (b || c ≡ false) × (m ≡ Some n)
-may-be b c m n e = go (b || c) e
-  where
-    go : (d : Bool) → cond d None m ≡ Some n → (d ≡ false) × (m ≡ Some n)
-    go b e = grind (arith)
+may-be b c m n e = grind (arith)
 
 pub sent-well : (z : Rates) (total turn : ℕ) (o : Outgoing) (timer : Option ℕ) (n : ℕ) → AreRates z → Sends z (turn + 1) (turn + 1) o timer
     → length o.pieces ≤ total → next_number o ≡ Some n
@@ -171,41 +144,20 @@ sent-well z total turn o timer n y s all e =
             (omega (arith, s.front_from)) (omega (arith, s.front_from, some, all))
             (all_weaker (IsChosen o.front o.high) (IsChosen o.front (max o.high (o.from + 1))) o.chosen
             (λ k c. (c.0, omega (arith, c.1))) s.chosen))
-        in-order true ea false eb f = cc
-        in-order false ea b eb f = cc
-    go (m ∷ rest) h f =
-        sent-on z total turn o timer o.from (max o.high (m + 1)) rest y s idle s.front_from (omega (arith, s.from_high))
-        (omega (arith, s.high_pieces, h.0.1)) (omega (arith, s.high_window, h.0.1))
-        (omega (arith, h.0.0)) (omega (arith, h.0.0, h.0.1, s.high_pieces, all))
-        (all_weaker (IsChosen o.front o.high) (IsChosen o.front (max o.high (m + 1))) rest (λ k c. (c.0, omega (arith, c.1))) h.1)
+        in-order a ea b eb f = grind (arith)
+    go (m ∷ rest) h f = grind (arith, sent-on, all_weaker)
 
 -- Pieces are offered.
 pub offered-sends : (z : Rates) (before turn : ℕ) (o : Outgoing) (timer : Option ℕ) (pieces : List (List ℕ)) (ended : Bool)
     → Sends z before turn o timer → length o.pieces ≤ length pieces
     → Sends z before turn (record o { pieces = pieces; ended = ended }) timer
-offered-sends z before turn o timer pieces ended s more = record {
-  front_from = s.front_from;
-  from_high = s.from_high;
-  high_pieces = omega (arith, s.high_pieces, more);
-  high_window = s.high_window;
-  window = s.window;
-  chosen = s.chosen;
-  tries_are = s.tries_are;
-  cause = s.cause;
-  ticks = s.ticks;
-}
+offered-sends z before turn o timer pieces ended s more = grind (arith)
 
 pub later-sends : (z : Rates) (turn : ℕ) (o : Outgoing) (timer : Option ℕ) → Sends z turn turn o timer → Sends z (turn + 1) turn o timer
 later-sends z turn o timer s = with-clock s o.count o.awaited s.cause (ticks-later z turn turn o.count timer s.ticks)
 
 pub later-breaks : (z : Rates) (turn : ℕ) (b : OwnBreaks) → Breaks z turn turn b → Breaks z (turn + 1) turn b
-later-breaks z turn b s = record {
-  low = s.low;
-  high = s.high;
-  due = s.due;
-  clock = λ w. let r = s.clock w in record { tied = r.tied; started = omega (arith, r.started); within = r.within; tried = r.tried };
-  rests = omega (arith, s.rests);
-}
+later-breaks z turn b s = grind (arith)
 
 -- within a turn
 pub record ChangedWell (z : Rates) (breaks turn : ℕ) (b c : OwnBreaks) : Type 0 where
@@ -343,21 +295,7 @@ ticked-well z breaks turn b c y s t = go (waits b) refl (nat_eq turn (b.set + z.
 
         resting : (n : Bool) → nat_lt turn b.rest ≡ n
             → break_value z breaks (turn + 1) b + one_if (is_breaking turn b) ≤ break_value z breaks turn b
-        resting true f =
-            let less : turn < b.rest = grind (arith, nat_tests) in
-            let live : one_if (is_breaking turn b) ≡ 1 = counts (is_breaking turn b) _ (or-false (waits b) (nat_lt turn b.rest) e ∙ f) in
-            let old : break_left z turn b ≡ b.rest - turn =
-            ap (λ w. cond w (b.set + z.whole + 9 - (b.count * z.period + turn)) (b.rest - turn)) e in
-            let new : break_left z (turn + 1) b ≡ b.rest - (turn + 1) =
-            ap (λ w. cond w (b.set + z.whole + 9 - (b.count * z.period + (turn + 1))) (b.rest - (turn + 1))) e in
-            omega (arith, old, new, live)
-        resting false f =
-            let live : one_if (is_breaking turn b) ≡ 0 = counts (is_breaking turn b) _ (or-false (waits b) (nat_lt turn b.rest) e ∙ f) in
-            let old : break_left z turn b ≡ b.rest - turn =
-            ap (λ w. cond w (b.set + z.whole + 9 - (b.count * z.period + turn)) (b.rest - turn)) e in
-            let new : break_left z (turn + 1) b ≡ b.rest - (turn + 1) =
-            ap (λ w. cond w (b.set + z.whole + 9 - (b.count * z.period + (turn + 1))) (b.rest - (turn + 1))) e in
-            omega (arith, old, new, live)
+        resting n f = grind (arith, or-false)
 
     go : (w : Bool) → waits b ≡ w → (due : Bool) → nat_eq turn (b.set + z.period) ≡ due → (spent : Bool) → nat_eq b.count z.tries ≡ spent
         → cond (w && due) (cond spent None (Some (record b { brk = true; set = turn; count = b.count + 1 }))) (Some b) ≡ Some c

@@ -1,13 +1,13 @@
 use Rattle.std.proofs.Common.{◌≡◌, ℕ, zero, suc, ◌+◌, ◌<◌, ◌≤◌, ◌&&◌, ◌⊎◌, not, Bool, true, false, cond, nat_lt, nat_le, List, [], ◌∷◌}
-use Rattle.std.proofs.Common.{length, length-append, inl, inr, arith, refl, sym, ◌∙◌, ap, subst, Option, Some, None, ◌-◌, ◌*◌, ◌++◌}
-use Rattle.link_account.proofs.Names.{slice_get, nat_tests, Outgoing, wanted, with_piece, after_ask, Account, is_connected, wants}
-use Rattle.link_account.proofs.Names.{piece_size, after_offer, after_given, after_busy, Role, Originator, Answerer, OwnBreaks, waits}
+use Rattle.std.proofs.Common.{length, length-append, inl, inr, arith, refl, sym, ◌∙◌, ap, subst, Option, Some, None}
+use Rattle.link_account.proofs.Names.{slice_get, Outgoing, wanted, with_piece, after_ask, Account, is_connected, wants, piece_size}
+use Rattle.link_account.proofs.Names.{after_offer, after_given, after_busy, Role, OwnBreaks}
 use Rattle.link_run.proofs.Names.{User, BreakLine, delivered, piece_at, offered_at, offered_times, room_for, offered, is_busy, next_break}
-use Rattle.link_run.proofs.Names.{Phase, Detecting, Negotiating, Establishing, Connected, Releasing, Closed}
+use Rattle.link_run.proofs.Names.{Phase, Connected}
 use Rattle.turn_bound.proofs.Run.{served_account}
-use Rattle.link_run.specs.End.{asked, asked_at}
-use Rattle.turn_bound.proofs.Value.{Rates, AreRates, is_waiting, Sends, ends, worth, sender_value, is_breaking, time_left, try_left, value}
-use Rattle.turn_bound.proofs.Value.{linked_lives, lives, Unlinked, IsAck, IsSilent, Linked, Tries, Stands}
+use Rattle.turn_bound.proofs.Names.{asked, asked_at}
+use Rattle.turn_bound.proofs.Value.{Rates, AreRates, Sends, ends, sender_value, is_breaking, time_left, try_left, value, linked_lives}
+use Rattle.turn_bound.proofs.Value.{lives, Unlinked, IsAck, IsSilent, Linked, Tries, Stands}
 use Rattle.turn_bound.proofs.Sending.{offered-sends, ChangedWell, asked-well, same-breaks, ends-same}
 use Rattle.turn_bound.proofs.Sender.{ends-is}
 use Rattle.turn_bound.proofs.Hearing.{ends-both, same-unlinked}
@@ -23,20 +23,13 @@ same-longer : (connected : Bool) (o : Outgoing) → Longer connected o o
 same-longer connected o = record { outgoing = refl; longer = omega arith; ended = λ e. (refl, e); unlinked = λ e. refl }
 
 piece-longer : (o : Outgoing) (piece : List ℕ) → o.ended ≡ false → Longer true o (with_piece piece o)
-piece-longer o [] e = record { outgoing = refl; longer = omega arith; ended = λ f. cc; unlinked = λ f. cc }
-piece-longer o (octet ∷ octets) e =
-    record { outgoing = refl; longer = omega (arith, length-append {A = List ℕ}); ended = λ f. cc; unlinked = λ f. cc }
+piece-longer o piece e = grind (arith, length-append {A = List ℕ})
 
 abbrev pub with_pieces : List (List ℕ) → Bool → Outgoing → Outgoing
 with_pieces pieces ended o = record o { pieces = pieces; ended = ended }
 
 more-longer : (connected : Bool) (o n m : Outgoing) → Longer connected o n → Longer connected n m → Longer connected o m
-more-longer connected o n m h k = record {
-  outgoing = k.outgoing ∙ ap (with_pieces m.pieces m.ended) h.outgoing;
-  longer = omega (arith, h.longer, k.longer);
-  ended = λ e. let a = h.ended e in let b = k.ended a.1 in (b.0 ∙ a.0, b.1);
-  unlinked = λ e. k.unlinked e ∙ h.unlinked e;
-}
+more-longer connected o n m h k = grind (arith)
 
 -- offers: the account with another sender's part
 abbrev pub with_outgoing : Outgoing → Account → Account
@@ -92,11 +85,7 @@ none-more n file a again h =
     stays e = ap wants (none-stays n file a e) ∙ e
 
     takes : (piece : List ℕ) → wants (offered_times n file (after_offer piece a)) ≡ None
-    takes [] = ap wants (none-stays n file (after_offer [] a) (none (is_connected a.phase))) ∙ none (is_connected a.phase)
-      where
-        none : (c : Bool) → cond {A = Option ℕ} c None None ≡ None
-        none true = refl
-        none false = refl
+    takes [] = grind (arith, none-stays)
     takes (octet ∷ octets) = again (after_offer (octet ∷ octets) a) (omega (arith, h, length-append {A = List ℕ}))
 
     go : (c : Bool) → is_connected a.phase ≡ c → (e : Bool) → a.outgoing.ended ≡ e → (l : Bool)
@@ -109,15 +98,7 @@ none-more n file a again h =
 
 none-wanted : (n : ℕ) (file : List ℕ) (a : Account) → a.outgoing.front + a.outgoing.window ≤ length a.outgoing.pieces + n
     → wants (offered_times n file a) ≡ None
-none-wanted zero file a h = go (is_connected a.phase) a.outgoing.ended
-  where
-    go : (c e : Bool) → cond c
-        (cond (not e && nat_lt (length a.outgoing.pieces) (a.outgoing.front + a.outgoing.window)) (Some (length a.outgoing.pieces)) None)
-        None ≡ None
-    go false e = refl
-    go true true = refl
-    go true false = let full : nat_lt (length a.outgoing.pieces) (a.outgoing.front + a.outgoing.window) ≡ false =
-        grind (arith, nat_tests) in rw full refl
+none-wanted zero file a h = grind (arith)
 none-wanted (suc n) file a h = none-more n file a (λ b k. none-wanted n file b k) h
 
 pub offers-well : (file : List ℕ) (a : Account) → Offers a (offered file a) × (wants (offered file a) ≡ None)
@@ -330,9 +311,7 @@ unserved-unlinked : (a b : Account) → Unserved a b → Unlinked a → Unlinked
 unserved-unlinked a b h u = same-unlinked a b u h.outgoing (ap (λ w. w.timer) h.wait) h.own (ap (λ t. t.ack) h.ack) h.terms
 
 unserved-tries : (z : Rates) (before turn : ℕ) (a b : Account) → Unserved a b → Tries z before turn a → Tries z before turn b
-unserved-tries z before turn a b h t =
-    subst (λ w. Tries z before turn (record a { wait = w })) (sym h.wait)
-    (record { tied = t.tied; started = t.started; within = t.within; tried = t.tried })
+unserved-tries z before turn a b h t = grind (arith)
 
 unserved-try : (z : Rates) (turn : ℕ) (a b : Account) → Unserved a b → try_left z turn b ≡ try_left z turn a
 unserved-try z turn a b h = ap (λ w. try_left z turn (record a { wait = w })) h.wait
@@ -341,24 +320,10 @@ unserved : (z : Rates) (turn : ℕ) (role : Role) (p : Phase) (a b : Account) �
     → Stands z (turn + 1) turn role p a
     → Stands z (turn + 1) turn role p b × (lives turn role p b ≡ lives turn role p a)
     × (time_left z turn role p b ≡ time_left z turn role p a)
-unserved z turn role Connected a b c h s = cc
-unserved z turn role Closed a b c h s = (tt, refl, refl)
-unserved z turn Originator Detecting a b c h s = (unserved-unlinked a b h s, refl, refl)
-unserved z turn Originator Negotiating a b c h s =
-    ((unserved-unlinked a b h s.0, unserved-tries z (turn + 1) turn a b h s.1), refl, unserved-try z turn a b h)
-unserved z turn Originator Establishing a b c h s =
-    ((unserved-unlinked a b h s.0, unserved-tries z (turn + 1) turn a b h s.1), refl, unserved-try z turn a b h)
-unserved z turn Originator Releasing a b c h s = (unserved-tries z (turn + 1) turn a b h s, refl, unserved-try z turn a b h)
-unserved z turn Answerer Detecting a b c h s = (unserved-unlinked a b h s, refl, refl)
-unserved z turn Answerer Negotiating a b c h s = (unserved-unlinked a b h s, refl, refl)
-unserved z turn Answerer p a b c h s = absurd s
+unserved z turn role p a b c h s = grind (arith, unserved-unlinked, unserved-tries, unserved-try)
 
 asked-length : (turn l breaks : ℕ) (b : OwnBreaks) → length b.lengths < breaks → length (after_ask turn l b).lengths ≤ breaks
-asked-length turn l breaks b h = go (not (waits b) && nat_le b.rest turn)
-  where
-    go : (c : Bool) → length (cond c (record b { lengths = b.lengths ++ l ∷ []; brk = true; set = turn; count = 0 }) b).lengths ≤ breaks
-    go true = omega (arith, h, length-append {A = ℕ})
-    go false = omega (arith, h)
+asked-length turn l breaks b h = grind (arith, length-append {A = ℕ})
 
 -- where it is
 served-connected : (z : Rates) (total breaks turn : ℕ) (busy : Bool) (role : Role) (a b : Account) → AreRates z
@@ -373,15 +338,10 @@ served-connected z total breaks turn busy role a b y h e s = record {
     timer = ap (λ w. w.timer) s.wait
 
     sends : Sends z (turn + 1) turn b.outgoing b.wait.timer
-    sends = subst (λ r. Sends z (turn + 1) turn b.outgoing r) (sym timer)
-        (subst (λ o. Sends z (turn + 1) turn o a.wait.timer) (sym s.longer.outgoing)
-        (offered-sends z (turn + 1) turn a.outgoing a.wait.timer b.outgoing.pieces b.outgoing.ended h.sends s.longer.longer))
+    sends = grind (arith, offered-sends)
 
     sender : sender_value z total turn b.outgoing b.wait.timer ≡ sender_value z total turn a.outgoing a.wait.timer
     sender = ap (λ r. sender_value z total turn b.outgoing r) timer ∙ ap (λ o. sender_value z total turn o a.wait.timer) s.longer.outgoing
-
-    waiting : is_waiting b.outgoing ≡ is_waiting a.outgoing
-    waiting = ap is_waiting s.longer.outgoing
 
     changed : (b.own_breaks ≡ a.own_breaks)
         ⊎ ((l : ℕ) × (b.own_breaks ≡ after_ask turn l a.own_breaks) × (length a.own_breaks.lengths < breaks)
@@ -396,16 +356,10 @@ served-connected z total breaks turn busy role a b y h e s = record {
 
     both : ends z.room (linked_lives turn a) (linked_lives turn b) ≤ 0 + ends z.room (is_breaking turn a.own_breaks)
         (is_breaking turn b.own_breaks)
-    both = omega (
-      arith,
-      ends-both z.room (is_waiting a.outgoing) (is_breaking turn a.own_breaks) (is_waiting b.outgoing) (is_breaking turn b.own_breaks),
-      ends-is z.room (is_waiting a.outgoing) (is_waiting b.outgoing) (is_waiting a.outgoing) (is_waiting a.outgoing) refl waiting,
-      ends-same z.room (is_waiting a.outgoing),
-    )
+    both = grind (arith, ends-both, ends-is, ends-same)
 
     silent : (r : Role) → IsSilent r a.numbered a.outgoing.high a.wait.timer → IsSilent r b.numbered b.outgoing.high b.wait.timer
-    silent Originator i = tt
-    silent Answerer i = λ n. let k = i (sym s.numbered ∙ n) in (ap (λ o. o.high) s.longer.outgoing ∙ k.0, timer ∙ k.1)
+    silent r i = grind (arith)
 
 pub serves-well : (z : Rates) (total breaks turn : ℕ) (busy : Bool) (role : Role) (p : Phase) (a b : Account) → AreRates z
     → Stands z (turn + 1) turn role p a → a.phase ≡ p → Served turn breaks busy a b
@@ -416,25 +370,10 @@ serves-well z total breaks turn busy role p a b y h e s = go (is_connected p) re
         → (b.own_breaks ≡ a.own_breaks)
         ⊎ ((l : ℕ) × (b.own_breaks ≡ after_ask turn l a.own_breaks) × (length a.own_breaks.lengths < breaks)
         × (is_connected a.phase ≡ true)) → b.own_breaks ≡ a.own_breaks
-    dead c (inl same) = same
-    dead c (inr (l, same, less, linked)) = let wrong : true ≡ false = sym linked ∙ (ap is_connected e ∙ c) in cc
+    dead c x = grind (arith)
 
     go : (c : Bool) → is_connected p ≡ c → ServesAs z total breaks turn role p a b
-    go false c =
-        let outgoing : b.outgoing ≡ a.outgoing = s.longer.unlinked (ap is_connected e ∙ c) in
-        let own = dead c s.own in
-        let u = unserved z turn role p a b c (record { terms = s.terms; wait = s.wait; ack = s.ack; outgoing = outgoing; own = own }) h in
-        record {
-          stands = u.0;
-          falls = omega (
-            arith,
-            u.2,
-            ap (worth z total) outgoing,
-            ap (λ o. z.quota * (breaks - length o.lengths)) own,
-            ends-is z.room (lives turn role p a) (lives turn role p b) (lives turn role p a) (lives turn role p a) refl u.1,
-            ends-same z.room (lives turn role p a),
-          );
-        }
+    go false c = grind (arith, dead, unserved)
     go true c = connected p c h e
       where
         connected : (q : Phase) → is_connected q ≡ true → Stands z (turn + 1) turn role q a → a.phase ≡ q

@@ -1,17 +1,13 @@
-use Rattle.std.proofs.Common.{◌≡◌, ℕ, ◌+◌, ◌-◌, ◌*◌, ◌≤◌, ◌||◌, Bool, true, false, cond, nat_eq, length, arith, refl, sym, ◌∙◌, ap, subst}
+use Rattle.std.proofs.Common.{◌≡◌, ℕ, ◌+◌, ◌*◌, ◌≤◌, ◌||◌, Bool, true, false, cond, nat_eq, length, arith, refl, sym, ◌∙◌, ap, subst}
 use Rattle.std.proofs.Common.{Option, Some, None, Ok, ◌<◌, ◌&&◌, nat_le}
 use Rattle.link_account.proofs.Names.{nat_tests, Role, Originator, Answerer, Outgoing, next_number, BreakWord, OwnBreaks, ticked, Account}
-use Rattle.link_account.proofs.Names.{is_connected, is_originator, Said, may_send, speak_linked, Frame, trying, speak, speak_in}
-use Rattle.link_account.proofs.Names.{speak_releasing, is_some}
+use Rattle.link_account.proofs.Names.{is_connected, is_originator, Said, may_send, speak_linked, Frame, trying, speak, is_some}
 use Rattle.link_run.proofs.Names.{Setup, Phase, Connected, is_closed, Detecting, Negotiating, Establishing, Releasing}
-use Rattle.lapm_sender.specs.Outgoing.{after_next}
-use Rattle.break_signals.specs.Breaks.{after_brk}
-use Rattle.link_account.specs.Speak.{timer_expires, breaking, running, says_segment}
-use Rattle.link_account.proofs.SpeakWays.{AllSaid, Steps, steps-so, polling_at, Expired, ConnectedWays, by-linked, next-keeps}
-use Rattle.link_account.proofs.SpeakWays.{Tries as TryWays, linked-so, Ways, by-ways, answers_alone}
-use Rattle.turn_bound.proofs.Value.{Rates, AreRates, is_waiting, Sends, lasts, one_if, sender_value, Breaks, is_breaking, break_left, value}
-use Rattle.turn_bound.proofs.Value.{lives, IsOf, IsAck, IsSilent, LinkedIn, Linked, Stands, Runs, left, time_left, try_left, linked_lives}
-use Rattle.turn_bound.proofs.Value.{Tries, tries_fit}
+use Rattle.turn_bound.proofs.Names.{AllSaid, Expired, Steps, Ways, after_brk, after_next, answers_alone, breaking, by-linked, by-ways}
+use Rattle.turn_bound.proofs.Names.{linked-so, next-keeps, polling_at, running, says_segment, steps-so, timer_expires}
+use Rattle.link_account.proofs.SpeakWays.{ConnectedWays, Tries as TryWays}
+use Rattle.turn_bound.proofs.Value.{Rates, AreRates, is_waiting, Sends, lasts, sender_value, Breaks, is_breaking, break_left, value, lives}
+use Rattle.turn_bound.proofs.Value.{IsOf, IsAck, IsSilent, LinkedIn, Linked, Stands, Runs, left, try_left, linked_lives, Tries, tries_fit}
 use Rattle.turn_bound.proofs.Sending.{WaitedWell, waited-quiet, waited-expired, sent-well, TickedWell, ticked-well, brk-sent}
 use Rattle.link_account.specs.declared.owes.Owes.{Owes}
 use Rattle.shared_terms.specs.Timer.{expires}
@@ -106,10 +102,7 @@ module _ (z : Rates) (total breaks turn : ℕ) (role : Role) (a : Account) (y : 
 
       heard-of : (r : Role) → a.setup.role ≡ r → is_originator a.setup.role || a.numbered ≡ true → (high : ℕ) (timer : Option ℕ)
           → IsSilent r a.numbered high timer
-      heard-of Originator f g high timer = tt
-      heard-of Answerer f g high timer = λ n. let none : is_originator a.setup.role ≡ false = ap is_originator f in
-          let wrong : false || false ≡ true =
-          subst (λ k. k || false ≡ true) none (subst (λ k. is_originator a.setup.role || k ≡ true) n g) in cc
+      heard-of r f g high timer = grind (arith)
 
   pub steps-well : (special : Bool) → Steps (λ s. Stepped z total breaks turn role a s.account) turn special a
   steps-well special = record {
@@ -178,8 +171,7 @@ module _ (z : Rates) (total breaks turn : ℕ) (role : Role) (a : Account) (y : 
       due q = grind (arith, nat_tests, q)
 
       loud : (r : Role) → IsSilent r a.numbered a.outgoing.high a.wait.timer → IsSilent r a.numbered a.outgoing.high (Some turn)
-      loud Originator s = tt
-      loud Answerer s = λ n. let wrong : Some set ≡ None = sym x.timer ∙ (s n).1 in cc
+      loud r s = grind (arith)
 
   pub spoke-ways : a.setup.role ≡ role → length a.outgoing.pieces ≤ total → ConnectedWays (Spoke z total breaks turn role a) turn a
   spoke-ways er all = record {
@@ -220,33 +212,9 @@ pub record SpeaksAs (z : Rates) (total breaks turn : ℕ) (role : Role) (p : Pha
   pub falls : value z total breaks (turn + 1) role q b + lasts z.room (lives turn role p a)
       (lives (turn + 1) role q b) ≤ value z total breaks turn role p a
 
-lasts-both : (k : ℕ) (w b w' b' : Bool) → (b ≡ false → b' ≡ false)
-    → lasts k (w || b) (w' || b') ≤ one_if w + cond w 0 (cond w' (k + 1) 0) + one_if b
-lasts-both k w b w' b' h = grind (arith)
-
 pub spoken-linked : (z : Rates) (total breaks turn : ℕ) (role : Role) (a : Account) (said : Said) → a.phase ≡ Connected
     → Spoke z total breaks turn role a said → SpeaksAs z total breaks turn role Connected a Connected said.account
-spoken-linked z total breaks turn role a said e x = let t = x.is_timed in let s = x.stepped in let c = said.account in record {
-  phase = s.phase ∙ (t.phase ∙ e);
-  keeps = λ f. refl;
-  opens = λ f. refl;
-  stands = s.linked;
-  setup = s.setup ∙ t.setup;
-  pieces = s.pieces ∙ t.pieces;
-  ended = s.ended ∙ t.ended;
-  lengths = s.lengths ∙ t.ticked.lengths;
-  falls = omega (
-    arith,
-    t.waited.falls,
-    t.ticked.falls,
-    s.falls,
-    s.left,
-    lasts-both z.room (is_waiting a.outgoing) (is_breaking turn a.own_breaks) (is_waiting c.outgoing)
-        (is_breaking (turn + 1) c.own_breaks) (λ f. s.breaking ∙ t.ticked.lives f),
-    ap (λ w. cond w 0 (cond (is_waiting c.outgoing) (z.room + 1) 0)) t.waited.waits,
-    ap (λ l. z.quota * (breaks - length l)) s.lengths,
-  );
-}
+spoken-linked z total breaks turn role a said e x = grind (arith)
 
 -- A U try goes on, with this in its account's wait.
 module _ (z : Rates) (turn : ℕ) (frame : Frame) (a : Account) (y : AreRates z) (k : IsOf z a.setup) (h : Tries z (turn + 1) turn a)
@@ -254,28 +222,10 @@ module _ (z : Rates) (turn : ℕ) (frame : Frame) (a : Account) (y : AreRates z)
     → left z (turn + 1) count (Some set) + 1 ≤ try_left z turn a
     → Q (record a { wait = record a.wait { try = try; try_set = set; try_count = count } })) where
   try-stood : expires a.wait.try_set a.setup.period turn ≡ false → (try : Bool) → Q (record a { wait = record a.wait { try = try } })
-  try-stood x try =
-      let f : nat_eq turn (a.wait.try_set + z.period) ≡ false = ap (λ p. nat_eq turn (a.wait.try_set + p)) (sym k.period) ∙ x in
-      let later : turn + 1 ≤ a.wait.try_set + z.period = grind (arith, nat_tests, h.within) in
-      goes try a.wait.try_set a.wait.try_count (record { tied = h.tied; started = h.started; within = later; tried = h.tried })
-      (omega (arith, tries_fit z a.wait.try_count y h.tried, h.within))
+  try-stood x try = grind (arith, tries_fit)
 
   pub tries-well : TryWays (λ s. Q s.account) turn frame a
-  tries-well = record {
-    sent = λ x e. try-stood x false;
-    again = λ x n.
-        let f : nat_eq turn (a.wait.try_set + z.period) ≡ true = ap (λ p. nat_eq turn (a.wait.try_set + p)) (sym k.period) ∙ x in
-        let now : turn ≡ a.wait.try_set + z.period = grind (arith, nat_tests) in
-        let g : nat_eq a.wait.try_count z.tries ≡ false = ap (nat_eq a.wait.try_count) (sym k.tries) ∙ n in
-        let fewer : a.wait.try_count < z.tries = grind (arith, nat_tests, h.tried) in
-        goes false turn (a.wait.try_count + 1) (record {
-          tied = omega (arith, h.tied, now);
-          started = omega arith;
-          within = omega (arith, y.period);
-          tried = omega (arith, fewer);
-        }) (omega (arith, tries_fit z (a.wait.try_count + 1) y (omega (arith, fewer)), now));
-    flags = λ x e. try-stood x a.wait.try;
-  }
+  tries-well = grind (arith, try-stood, tries_fit)
 
 -- Speaking: whatever the role and the phase.
 module _ (z : Rates) (total breaks turn : ℕ) (release : Bool) (role : Role) (a : Account) (y : AreRates z) (k : IsOf z a.setup)
@@ -289,25 +239,7 @@ module _ (z : Rates) (total breaks turn : ℕ) (release : Bool) (role : Role) (a
   now p e q b w = (q, subst (λ p. SpeaksAs z total breaks turn role p a q b) (sym e) w)
 
   alone : (o : Owes) → answers_alone a.phase a.setup.role ≡ true → P (record a { owes = o })
-  alone o t = let r = rests role a.phase (ap (answers_alone a.phase) (sym er) ∙ t) (st a.phase refl) in (
-    a.phase,
-    record {
-      phase = refl;
-      keeps = λ x. refl;
-      opens = λ x. x;
-      stands = r.0;
-      setup = refl;
-      pieces = refl;
-      ended = refl;
-      lengths = refl;
-      falls = omega (arith, r.1, r.2);
-    },
-  )
-    where
-      rests : (r : Role) (p : Phase) → answers_alone p r ≡ true → Stands z (turn + 1) turn r p a
-          → Stands z (turn + 1) (turn + 1) r p (record a { owes = o }) × (time_left z (turn + 1) r p (record a { owes = o }) ≡ 0)
-          × (lasts z.room (lives turn r p a) (lives (turn + 1) r p (record a { owes = o })) ≡ 0)
-      rests r p e s = grind (arith)
+  alone o t = grind (arith, lives)
 
   linked : a.phase ≡ Connected → ConnectedWays (λ s. P s.account) turn a
   linked e = linked-so _ _ turn a (λ s x. now Connected e Connected s.account (spoken-linked z total breaks turn role a s e x))
@@ -322,18 +254,7 @@ module _ (z : Rates) (total breaks turn : ℕ) (release : Bool) (a : Account) (y
       → value z total breaks (turn + 1) Originator q b + lasts z.room (lives turn Originator p a) (lives (turn + 1) Originator q b)
       ≤ value z total breaks turn Originator p a
       → P z total breaks turn release Originator a y k st er all b
-  tried p e q b phase keeps opens stands setup outgoing own falls = now z total breaks turn release Originator a y k st er all p e q b
-      (record {
-        phase = phase;
-        keeps = keeps;
-        opens = λ x. opens;
-        stands = stands;
-        setup = setup;
-        pieces = ap (λ o. o.pieces) outgoing;
-        ended = ap (λ o. o.ended) outgoing;
-        lengths = ap (λ o. o.lengths) own;
-        falls = falls;
-      })
+  tried p e q b phase keeps opens stands setup outgoing own falls = grind (arith)
 
   o-ways : Ways (λ s. P z total breaks turn release Originator a y k st er all s.account) turn release a
   o-ways = record {
@@ -358,10 +279,7 @@ module _ (z : Rates) (total breaks turn : ℕ) (release : Bool) (a : Account) (y
       lasts-most b = grind (arith)
 
       before : nat_le ((a.setup.tries + 1) * a.setup.period) turn ≡ false → turn < z.whole
-      before l =
-          let f : nat_le z.whole turn ≡ false = ap (λ w. nat_le w turn) (sym (ap (λ n. (n + 1) * a.setup.period) k.tries
-          ∙ ap (λ p. (z.tries + 1) * p) k.period ∙ sym y.whole)) ∙ l in
-          grind (arith, nat_tests)
+      before l = grind (arith)
 
 module _ (z : Rates) (total breaks turn : ℕ) (release : Bool) (a : Account) (y : AreRates z) (k : IsOf z a.setup)
     (st : (p : Phase) → a.phase ≡ p → Stands z (turn + 1) turn Answerer p a) (er : a.setup.role ≡ Answerer)
@@ -403,8 +321,4 @@ stopped b e = grind (arith)
 -- an end that stays Connected isn't told to release
 pub linked-says : (turn : ℕ) (release : Bool) (a : Account) (said : Said) → a.phase ≡ Connected → is_connected said.account.phase ≡ true
     → speak turn release a ≡ Ok said → (speak_linked turn a ≡ Ok said) × (release && is_originator a.setup.role ≡ false)
-linked-says turn release a said e c h = go (release && is_originator a.setup.role) (sym (ap (λ p. speak_in p turn release a) e) ∙ h)
-  where
-    go : (x : Bool) → cond x (speak_releasing turn (trying Releasing turn a)) (speak_linked turn a) ≡ Ok said
-        → (speak_linked turn a ≡ Ok said) × (x ≡ false)
-    go b q = grind (arith)
+linked-says turn release a said e c h = grind (arith)

@@ -1,57 +1,32 @@
 use Rattle.std.proofs.Common.{◌≡◌, ℕ, ◌+◌, ◌%◌, ◌≤◌, ◌&&◌, ◌||◌, not, Bool, true, false, cond, nat_eq, nat_lt, List, arith, refl, sym, ◌∙◌}
-use Rattle.std.proofs.Common.{ap, Option, Some, None, Ok, ◌-◌, ◌<◌, [], ◌∷◌, ◌++◌, length, slice_index_or, subst, inl, inr, Err, nat_le}
-use Rattle.std.proofs.Common.{length-append}
+use Rattle.std.proofs.Common.{ap, Option, Some, None, Ok, ◌-◌, ◌<◌, [], ◌∷◌, ◌++◌, length, slice_index_or, subst, inl, inr, length-append}
 use Rattle.turn_bound.proofs.Truths.{neither-first, and-second, is-true, or-false-both, not-true}
 use Rattle.link_account.proofs.Names.{is_some, nat_tests, Role, Outgoing, is_outstanding, Incoming, after_kind, kind_of, offset, Took}
-use Rattle.link_account.proofs.Names.{InOrder, Kept, Repeat, Gap, OwnBreaks, after_answer, waits, Arrived, Account, hear, without_adp}
-use Rattle.link_account.proofs.Names.{next_number, BreakWord, Brk, Ack, is_originator, Said, frame_for, nr_of, may_send, ready_frame}
-use Rattle.link_account.proofs.Names.{AllByRecursion, wanted, after_ask, is_connected, after_break_asked, speak, speak_linked, ticked}
-use Rattle.link_run.proofs.Names.{Connected, Answer, User, BreakLine, is_busy, has_finished, next_break}
+use Rattle.link_account.proofs.Names.{OwnBreaks, after_answer, waits, Arrived, Account, hear, without_adp, next_number, BreakWord, Brk}
+use Rattle.link_account.proofs.Names.{is_originator, Said, frame_for, nr_of, may_send, ready_frame, wanted, after_ask, is_connected, speak}
+use Rattle.link_account.proofs.Names.{speak_linked, ticked}
+use Rattle.link_run.proofs.Names.{Connected, Answer, User, is_busy, has_finished, next_break}
 use Rattle.turn_bound.proofs.Value.{Rates, is_waiting, Sends, is_free, one_if, Linked, two_if, dues, frame_weight, word_weight}
-use Rattle.turn_bound.proofs.Value.{arrived_weight, AreRates, IsChosen, four_if, weight, IsAck, connected-is, linked_lives, IsOf, Stands}
-use Rattle.turn_bound.proofs.Value.{Breaks, is_breaking}
+use Rattle.turn_bound.proofs.Value.{arrived_weight, AreRates, four_if, weight, connected-is, linked_lives, IsOf, Stands, Breaks}
+use Rattle.turn_bound.proofs.Value.{is_breaking}
 use Rattle.turn_bound.proofs.Sender.{Heard, meant-range, heard-advanced, heard-resumed, acked-heard}
-use Rattle.link_account.proofs.HearWays.{ConnectedWays, numbered_with, acked, by-linked}
-use Rattle.link_account.specs.declared.answer.Answer.TheVariants as answers
-use Rattle.lapm_sender.specs.Outgoing.{next_among, is_whole}
-use Rattle.lapm_receiver.specs.Held.{first_outside, missing_from}
+use Rattle.link_account.proofs.HearWays.{by-linked}
+use Rattle.turn_bound.proofs.Names.{AllSaid, ConnectedWays, Steps, acked, after_ack, break_waits, breaking, differs, is_done, is_ready}
+use Rattle.turn_bound.proofs.Names.{is_whole, numbered_with, says_segment, says_word, tells}
 use Rattle.lapm_receiver.specs.Incoming.{asks}
-use Rattle.break_signals.specs.declared.fault.BreakFault.TheVariants.{Number}
-use Rattle.link_account.specs.Speak.{says_segment, tells, differs, says_word, breaking}
 use Rattle.turn_bound.proofs.Sending.{sent-well}
-use Rattle.break_signals.specs.Breaks.{after_ack}
-use Rattle.link_account.proofs.SpeakWays.{AllSaid, Steps}
-use Rattle.link_account.specs.Account.{is_done, break_waits}
 use Rattle.turn_bound.proofs.Run.{served_account}
-use Rattle.link_run.specs.End.{asked_at, is_ready}
-use Rattle.turn_bound.proofs.Serving.{Served, serves-phase, serves-own, before_asking}
+use Rattle.turn_bound.proofs.Serving.{Served, serves-phase, serves-own}
 use Rattle.turn_bound.proofs.Speaking.{Spoke, spoke, untimed, linked-says, stopped}
 use Rattle.turn_bound.proofs.OneTurn.{Hearing, spoken-as}
 
 -- where nothing is outstanding, what is heard leaves the front where it is
 free-same : (z : Rates) (total before turn : ℕ) (o new : Outgoing) (timer : Option ℕ) → Sends z before turn o timer → is_waiting o ≡ false
     → Heard o new → is_free total new ≡ is_free total o
-free-same z total before turn o new timer s e h =
-    let idle : nat_lt o.front o.high ≡ false = neither-first (nat_lt o.front o.high) (o.awaited || o.paused) e in
-    let same : new.front ≡ o.front = grind (arith, nat_tests, h.front_low, h.front_from, h.from_high, h.high, s.front_from, s.from_high) in
-    by new.front new.high same h.high
-  where
-    by : (front high : ℕ) → front ≡ o.front → high ≡ o.high → not (nat_lt front high) && nat_lt front total ≡ is_free total o
-    by front high e f = rw (e, f) refl
-
-or-two : (a b : Bool) → two_if (a || b) ≤ two_if a + two_if b
-or-two c b = grind (arith)
+free-same z total before turn o new timer s e h = grind (arith, neither-first)
 
 take-rej : (k : Took) (n : ℕ) (info : List ℕ) (i : Incoming) → two_if (after_kind k n info i).rej ≤ two_if i.rej + 2
-take-rej InOrder n info i = omega arith
-take-rej Kept n info i = omega arith
-take-rej Repeat n info i = omega arith
-take-rej Gap n info i = go i.rej (not i.gapped)
-  where
-    go : (a b : Bool) → two_if (a || b) ≤ two_if a + 2
-    go true b = omega arith
-    go false true = omega arith
-    go false false = omega arith
+take-rej k n info i = grind (arith)
 
 -- what hearing leaves due, where nothing is waited for before and after it
 pub record HeardStill (total more : ℕ) (a b : Account) : Type 0 where
@@ -61,18 +36,11 @@ pub record HeardStill (total more : ℕ) (a b : Account) : Type 0 where
   pub phase : b.phase ≡ Connected
   pub own : waits a.own_breaks ≡ false → b.own_breaks ≡ a.own_breaks
 
-free-one : (f g s : Bool) → f ≡ g → one_if (f && not s) ≡ one_if (g && not s)
-free-one f g s e = rw e refl
-
 some-two : (b : Bool) → two_if true ≤ two_if b + 2
 some-two b = grind (arith)
 
 unanswered : (turn number : ℕ) (b : OwnBreaks) → waits b ≡ false → after_answer turn number b ≡ b
-unanswered turn number b e = go (waits b) (nat_eq number (b.answered % 2)) e
-  where
-    go : (w n : Bool) → w ≡ false → cond (w && n) (record b { answered = b.answered + 1; brk = false; count = 0; rest = turn + 8 }) b ≡ b
-    go true n e = cc
-    go false n e = refl
+unanswered turn number b e = grind (arith)
 
 -- Hearing, where nothing is waited for before and after it.
 module _ (z : Rates) (total turn : ℕ) (role : Role) (a : Account) (h : Linked z turn turn role a) (e : is_waiting a.outgoing ≡ false) where
@@ -82,20 +50,7 @@ module _ (z : Rates) (total turn : ℕ) (role : Role) (a : Account) (h : Linked 
   number : (more : ℕ) (new : Outgoing) (incoming : Incoming) (timer : Option ℕ) (asks urgent : Bool) → Heard a.outgoing new
       → two_if incoming.rej + two_if asks ≤ two_if a.incoming.rej + more → a.phase ≡ Connected
       → HeardStill total more a (numbered_with a new incoming timer (a.owes.reply || asks) urgent)
-  number more new incoming timer asks urgent k less p =
-      let free = free-same z total turn turn a.outgoing new a.wait.timer h.sends e k in
-      record {
-        dues = omega (
-          arith,
-          or-two a.owes.reply asks,
-          less,
-          free-one (is_free total new) (is_free total a.outgoing) a.special free,
-        );
-        free = free;
-        numbered = λ n. refl;
-        phase = p;
-        own = λ x. refl;
-      }
+  number more new incoming timer asks urgent k less p = grind (arith, free-same)
 
   same : (more : ℕ) → a.phase ≡ Connected → HeardStill total more a a
   same more p = record { dues = omega arith; free = refl; numbered = λ n. n; phase = p; own = λ x. refl }
@@ -192,51 +147,19 @@ ready-weight b command pf nr = grind (arith)
 -- with nothing to wait for and none chosen the next one goes, where there is one and the window has room
 pub front-next : (o : Outgoing) → o.awaited || o.paused ≡ false → o.chosen ≡ [] → o.from < length o.pieces → o.from < o.front + o.window
     → next_number o ≡ Some o.from
-front-next o w c below within =
-    let one : nat_lt o.from (length o.pieces) ≡ true = grind (arith, nat_tests, below) in
-    let two : nat_lt o.from (o.front + o.window) ≡ true = grind (arith, nat_tests, within) in
-    ap (λ b. cond b None (next_among o.chosen o)) w ∙ (ap (λ l. next_among l o) c ∙ rw (one, two) refl)
+front-next o w c below within = grind (arith)
 
 pub idle-next : {z : Rates} {before turn : ℕ} {o : Outgoing} {timer : Option ℕ} → Sends z before turn o timer → is_waiting o ≡ false
     → o.front < length o.pieces → next_number o ≡ Some o.from
-idle-next {z} {before} {turn} {o} {timer} s idle more = front-next o parts.1 (nothing-chosen o.chosen s.chosen)
-    (omega (arith, s.front_from, s.from_high, le, more)) (omega (arith, s.front_from, s.from_high, le, s.window))
-  where
-    split : (out awaited paused : Bool) → out || (awaited || paused) ≡ false → (out ≡ false) × (awaited || paused ≡ false)
-    split b awaited paused e = grind (arith)
-
-    parts : (is_outstanding o ≡ false) × (o.awaited || o.paused ≡ false)
-    parts = split (is_outstanding o) o.awaited o.paused idle
-
-    le : o.high ≤ o.front
-    le = let t : nat_lt o.front o.high ≡ false = parts.0 in grind (arith, nat_tests)
-
-    nothing-chosen : (l : List ℕ) → AllByRecursion (IsChosen o.front o.high) l → l ≡ []
-    nothing-chosen [] k = refl
-    nothing-chosen (n ∷ l) k = let wrong : o.front < o.front = omega (arith, k.0.0, k.0.1, le) in absurd (omega (arith, wrong))
+idle-next {z} {before} {turn} {o} {timer} s idle more = grind (arith, front-next)
 
 -- where none can be sent nothing is free
 none-free : (z : Rates) (total turn : ℕ) (role : Role) (a : Account) → Idle z total turn role a → may_send a ≡ None
     → is_free total a.outgoing ≡ false
-none-free z total turn role a h e = go (is_free total a.outgoing) refl
-  where
-    o : Outgoing
-    o = a.outgoing
-
-    go : (b : Bool) → is_free total o ≡ b → is_free total o ≡ false
-    go false f = f
-    go true f =
-        let less : o.front < total = let t = and-second (not (is_outstanding o)) (nat_lt o.front total) f in grind (arith, nat_tests, t) in
-        let wrong : None ≡ Some o.from = sym e
-        ∙ (ap (λ b. cond b (next_number o) None) h.may ∙ idle-next h.linked.sends h.idle (h.more less)) in cc
+none-free z total turn role a h e = grind (arith, and-second, idle-next)
 
 pub asks-rej : (i : Incoming) (n : ℕ) → i.srej ≡ false → asks i ≡ Some n → i.rej ≡ true
-asks-rej i n e g = by i.srej e i.rej g
-  where
-    by : (b : Bool) → b ≡ false → (r : Bool)
-        → cond b (first_outside i.asked (missing_from (length i.taken) i.held)) (cond r (Some (length i.taken)) None) ≡ Some n
-        → r ≡ true
-    by b e r g = grind (arith)
+asks-rej i n e g = grind (arith)
 
 rej-after : (i : Incoming) (n : ℕ) (b : Bool)
     → (cond b (record i { asked = i.asked ++ n ∷ [] }) (record i { rej = false })).rej ≡ cond b i.rej false
@@ -247,22 +170,10 @@ module _ (z : Rates) (total turn : ℕ) (role : Role) (a : Account) (special : B
   pays-tells : (b : Account) (command pf : Bool) → b.owes.busy ≡ a.owes.busy → b.outgoing ≡ a.outgoing
       → base (record b { owes = record b.owes { busy_told = false } }) + two_if (command && pf) + 2 ≤ base a
       → Pays total a special (tells command pf b)
-  pays-tells b command pf g o less = λ w.
-      omega (
-        arith,
-        less,
-        ready-weight b.owes.busy command pf (nr_of b),
-        one-less (is_free total b.outgoing) (not b.special),
-        one-most (is_free total b.outgoing),
-        ap two_if (g ∙ h.busy),
-        ap (λ x. one_if (is_free total x)) o,
-      )
+  pays-tells b command pf g o less = grind (arith, ready-weight, one-less, one-most)
 
   light : (answer : Answer) → weight (frame_for answer a) ≡ 0
-  light answers.Adp = refl
-  light answers.Xid = refl
-  light (answers.Ua pf) = refl
-  light (answers.Dm pf) = refl
+  light answer = grind (arith)
 
   -- a segment makes the end wait
   sends : (n : ℕ) → may_send a ≡ Some n → AllSaid (Pays total a special) (says_segment turn (Some n) a)
@@ -272,19 +183,7 @@ module _ (z : Rates) (total turn : ℕ) (role : Role) (a : Account) (special : B
 
   acknowledges : (word : BreakWord) → a.their_breaks.ack ≡ Some word → Pays total a special
       (says_word (length a.their_breaks.lengths - 1) word (record a { their_breaks = after_ack a.their_breaks }))
-  acknowledges (Brk number length_octet) e = absurd (subst IsAck e h.linked.ack)
-  acknowledges (Ack number length_octet) e = λ w.
-      omega (
-        arith,
-        ack-weight (nat_lt number 2),
-        ap (λ m. two_if (is_some m)) e,
-        one-none (is_free total a.outgoing),
-        one-most (is_free total a.outgoing),
-      )
-    where
-      ack-weight : (b : Bool) → word_weight (cond b (Ok (Ack number length_octet)) (Err (Number number))) ≡ 0
-      ack-weight true = refl
-      ack-weight false = refl
+  acknowledges word e = grind (arith, one-none, one-most)
 
   none-due : (b : Bool) (word : BreakWord) → b ≡ false
       → cond b (Some (Brk (a.own_breaks.answered % 2) (slice_index_or a.own_breaks.lengths a.own_breaks.answered 0))) None ≡ Some word → ⊥
@@ -344,15 +243,7 @@ module _ (z : Rates) (total turn : ℕ) (role : Role) (a : Account) (special : B
 -- what waits goes on waiting
 pub keeps-waiting : (z : Rates) (total breaks turn : ℕ) (role : Role) (b : Account) (said : Said) → Spoke z total breaks turn role b said
     → linked_lives (turn + 1) said.account ≡ false → (is_waiting b.outgoing ≡ false) × (waits b.own_breaks ≡ false)
-keeps-waiting z total breaks turn role b said s dead =
-    let parts = or-false-both (is_waiting said.account.outgoing) (is_breaking (turn + 1) said.account.own_breaks) dead in (
-      not-true (is_waiting b.outgoing)
-          (λ w. let wrong : true ≡ false = sym (s.stepped.waits (s.is_timed.waited.waits ∙ w)) ∙ parts.0 in cc),
-      not-true (waits b.own_breaks)
-          (λ w. let lives : is_breaking (turn + 1) said.account.own_breaks ≡ true =
-          s.stepped.breaking ∙ ap (λ x. x || nat_lt (turn + 1) s.timed.own_breaks.rest) (s.is_timed.ticked.waiting ∙ w) in
-          let wrong : true ≡ false = sym lives ∙ parts.1 in cc),
-    )
+keeps-waiting z total breaks turn role b said s dead = grind (arith, or-false-both, not-true)
 
 -- Speaking, where nothing lives after it.
 pub speaks-still : (z : Rates) (total breaks turn : ℕ) (role : Role) (b : Account) (said : Said) → AreRates z → IsOf z b.setup
@@ -427,20 +318,7 @@ module _ {z : Rates} {user : User} {turn : ℕ} {role : Role} {a : Account} {arr
 
 served-dues : (turn breaks total : ℕ) (busy : Bool) (m c : Account) → Served turn breaks busy m c
     → is_free total c.outgoing ≡ is_free total m.outgoing → dues total c ≡ dues total m
-served-dues turn breaks total busy m c s f =
-    omega (
-      arith,
-      ap (λ x. two_if (is_some x)) s.answer,
-      ap two_if s.reply,
-      ap (λ t. two_if (is_some t.ack)) s.ack,
-      ap two_if s.rej,
-      ap (λ w. four_if w.poll) s.wait,
-      ap two_if s.busy_told,
-      last (is_free total c.outgoing) (is_free total m.outgoing) c.special m.special f s.special,
-    )
-  where
-    last : (f g x y : Bool) → f ≡ g → x ≡ y → one_if (f && not x) ≡ one_if (g && not y)
-    last f g x y e k = rw (e, k) refl
+served-dues turn breaks total busy m c s f = grind (arith)
 
 pub or-numbered : (o o' n n' : Bool) → o' ≡ o → (n ≡ true → n' ≡ true) → o || n ≡ true → o' || n' ≡ true
 or-numbered o o' n n' e f g = grind (arith)
@@ -485,39 +363,13 @@ module _ {z : Rates} {user : User} {turn : ℕ} {role : Role} {a : Account} {arr
 -- a break that is ready is asked for, and then waits
 waits-then : (turn l : ℕ) (b : OwnBreaks) → b.answered ≤ length b.lengths → waits b ≡ false → nat_lt turn b.rest ≡ false
     → waits (after_ask turn l b) ≡ true
-waits-then turn l b low w r =
-    let rested : nat_le b.rest turn ≡ true = grind (arith, nat_tests) in
-    let longer : length (b.lengths ++ l ∷ []) ≡ length b.lengths + 1 = omega (arith, length-append {A = ℕ}) in
-    let waiting : nat_lt b.answered (length (b.lengths ++ l ∷ [])) ≡ true = grind (arith, nat_tests) in
-    go (waits b) w (nat_le b.rest turn) rested waiting
-  where
-    go : (x : Bool) → x ≡ false → (y : Bool) → y ≡ true → nat_lt b.answered (length (b.lengths ++ l ∷ [])) ≡ true
-        → waits (cond (not x && y) (record b { lengths = b.lengths ++ l ∷ []; brk = true; set = turn; count = 0 }) b) ≡ true
-    go b e y f t = grind (arith)
+waits-then turn l b low w r = grind (arith, length-append {A = ℕ})
 
 unready : (user : User) (turn : ℕ) (mid : Account) → mid.phase ≡ Connected → mid.own_breaks.answered ≤ length mid.own_breaks.lengths
     → waits mid.own_breaks ≡ false → nat_lt turn mid.own_breaks.rest ≡ false
     → waits (served_account user turn false mid).own_breaks ≡ false
     → is_ready turn (next_break user.breaks (served_account user turn false mid)) ≡ false
-unready user turn mid e low w r after = go (next_break user.breaks m) refl after
-  where
-    m : Account
-    m = before_asking user turn mid
-
-    asks : (l : ℕ) (x : Bool) → x ≡ true → waits (cond x (record m { own_breaks = after_ask turn l m.own_breaks }) m).own_breaks ≡ false → ⊥
-    asks l true f g = let wrong : true ≡ false =
-        sym (waits-then turn l mid.own_breaks low w r) ∙ (ap (λ o. waits (after_ask turn l o)) (sym (serves-own user turn mid)) ∙ g) in cc
-    asks l false f g = cc
-
-    go : (n : Option BreakLine) → next_break user.breaks m ≡ n → waits (asked_at turn n m).own_breaks ≡ false
-        → is_ready turn (next_break user.breaks (asked_at turn n m)) ≡ false
-    go None f g = ap (is_ready turn) f
-    go (Some br) f g = by (nat_le br.turn turn) refl g
-      where
-        by : (x : Bool) → nat_le br.turn turn ≡ x → waits (cond x (after_break_asked turn br.length_octet m) m).own_breaks ≡ false
-            → is_ready turn (next_break user.breaks (cond x (after_break_asked turn br.length_octet m) m)) ≡ false
-        by true h k = absurd (asks br.length_octet (is_connected m.phase) (ap is_connected (serves-phase user turn mid ∙ e)) k)
-        by false h k = ap (is_ready turn) f ∙ h
+unready user turn mid e low w r after = grind (arith, waits-then, serves-own, serves-phase)
 
 -- An end with nothing outstanding and nothing free has finished, unless a break is ready: that would be asked for.
 pub finished : {z : Rates} {total more : ℕ} {user : User} {turn : ℕ} {role : Role} {a mid : Account} {release : Bool} {said : Said}
@@ -536,9 +388,6 @@ finished {z} {total} {more} {user} {turn} {role} {a} {mid} s t own all dead none
 
     o : Outgoing
     o = b.outgoing
-
-    idle : nat_lt o.front o.high ≡ false
-    idle = (or-false-both (is_outstanding o) (o.awaited || o.paused) t.idle).0
 
     whole-front : o.front ≡ length o.pieces
     whole-front = let a1 = s.linked.sends.front_from in let a2 = s.linked.sends.from_high in let a3 = s.linked.sends.high_pieces in
@@ -562,9 +411,7 @@ finished {z} {total} {more} {user} {turn} {role} {a} {mid} s t own all dead none
     unbroken = ap (λ c. cond c (waits b.own_breaks) false) (ap is_connected s.phase) ∙ t.unbroken
 
     still-own : (waits a.own_breaks ≡ false) × (nat_lt turn a.own_breaks.rest ≡ false)
-    still-own = or-false-both (waits a.own_breaks) (nat_lt turn a.own_breaks.rest)
-        (or-false-both (is_waiting a.outgoing) (is_breaking turn a.own_breaks) dead).1
+    still-own = grind (arith, or-false-both)
 
     ready : is_ready turn (next_break user.breaks b) ≡ false
-    ready = unready user turn mid s.mid_phase (subst (λ x. x.answered ≤ length x.lengths) (sym t.own) own.low)
-        (ap waits t.own ∙ still-own.0) (ap (λ x. nat_lt turn x.rest) t.own ∙ still-own.1) t.unbroken
+    ready = grind (arith, unready, still-own)

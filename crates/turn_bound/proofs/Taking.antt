@@ -1,19 +1,17 @@
 -- What an end may be held up by before it sends a segment, as a number that each turn in which it is held up lowers by three, but for a
 -- poll
 -- that is heard in it. A poll of the other end has a value too: one becomes due in nineteen turns at most.
-use Rattle.std.proofs.Common.{ℕ, ◌+◌, ◌-◌, ◌≤◌, ◌&&◌, min, Bool, true, false, cond, arith, Option, Some, None, ◌≡◌, ◌%◌, ◌<◌, ◌||◌, ◌⊎◌}
-use Rattle.std.proofs.Common.{not, nat_eq, nat_lt, List, length, inl, inr, refl, sym, ◌∙◌, ap, subst, Ok, nat_le, [], ◌∷◌, ◌++◌}
-use Rattle.std.proofs.Common.{length-append}
+use Rattle.std.proofs.Common.{ℕ, ◌+◌, ◌-◌, ◌≤◌, ◌&&◌, min, Bool, true, false, cond, arith, Option, Some, None, ◌≡◌, ◌<◌, ◌||◌, ◌⊎◌, List}
+use Rattle.std.proofs.Common.{inl, inr, refl, sym, ◌∙◌, ap, Ok, length-append}
 use Rattle.turn_bound.proofs.Truths.{or-false}
 use Rattle.link_account.proofs.Names.{is_some, Frame, Rr, Rnr, Rej, Incoming, BreakWord, OwnBreaks, waits, Account, nat_tests, Role}
 use Rattle.link_account.proofs.Names.{Answerer, is_originator, I, meant, Outgoing, is_outstanding, advanced, after_kind, kind_of, offset}
-use Rattle.link_account.proofs.Names.{Took, InOrder, Kept, Repeat, Gap, after_answer, Arrived, hear, without_adp, after_take, on_nothing}
-use Rattle.link_account.proofs.Names.{after_ask}
-use Rattle.link_run.proofs.Names.{Phase, Detecting, Negotiating, Establishing, Connected, Releasing, Closed}
+use Rattle.link_account.proofs.Names.{Took, after_answer, Arrived, hear, without_adp, after_take, on_nothing, after_ask}
+use Rattle.link_run.proofs.Names.{Phase, Connected, Releasing, Closed}
 use Rattle.lapm_sender.specs.Numbers.{with_number}
-use Rattle.link_account.specs.Hear.{timer_after}
+use Rattle.turn_bound.proofs.Names.{ConnectedWays, Plain, numbered_with, timer_after}
 use Rattle.turn_bound.proofs.Value.{Rates, Breaks, Linked, frame_weight, arrived_weight, arrived_rnrs}
-use Rattle.link_account.proofs.HearWays.{ConnectedWays, by-linked, numbered_with, Plain}
+use Rattle.link_account.proofs.HearWays.{by-linked}
 use Rattle.turn_bound.proofs.Sender.{acked-heard, Heard, meant-range, heard-advanced, heard-resumed, heard-selected}
 use Rattle.turn_bound.proofs.MeetHear.{of_arrived}
 use Rattle.turn_bound.proofs.Serving.{Served}
@@ -30,24 +28,7 @@ abbrev pub held_value : ℕ → Account → ℕ
 held_value turn a = owing a.incoming a.their_breaks.ack + cond a.special 0 4 + own_value turn a.own_breaks + cond a.wait.poll 16 0
 
 pub held-most : (turn : ℕ) (a : Account) → held_value turn a ≤ 68
-held-most turn a = go a.incoming.srej a.incoming.rej a.incoming.gapped (is_some a.their_breaks.ack) a.special a.own_breaks.brk
-    (waits a.own_breaks) a.wait.poll (turn - a.own_breaks.set) (a.own_breaks.rest - turn)
-  where
-    if-most : (b : Bool) (n : ℕ) → (cond b n 0 ≤ n) × (cond b 0 n ≤ n)
-    if-most b n = grind (arith)
-
-    either-most : (b : Bool) (m n k : ℕ) → m ≤ k → n ≤ k → cond b m n ≤ k
-    either-most b m n k h1 h2 = grind (arith)
-
-    go : (srej rej gapped ack special brk w poll : Bool) (s r : ℕ)
-        → cond srej 0 (cond rej 16 0 + cond gapped 0 8) + cond ack 8 0 + cond special 0 4 +
-        (cond brk 8 0 + cond w (min 8 s) (8 - r)) + cond poll 16 0 ≤ 68
-    go srej rej gapped ack special brk w poll s r =
-        let first : cond srej 0 (cond rej 16 0 + cond gapped 0 8) ≤ 24 =
-        either-most srej 0 (cond rej 16 0 + cond gapped 0 8) 24 (omega arith)
-        (omega (arith, (if-most rej 16).0, (if-most gapped 8).1)) in
-        let last : cond w (min 8 s) (8 - r) ≤ 8 = either-most w (min 8 s) (8 - r) 8 (omega arith) (omega arith) in
-        omega (arith, first, (if-most ack 8).0, (if-most special 4).1, (if-most brk 8).0, last, (if-most poll 16).0)
+held-most turn a = grind (arith)
 
 -- a command that asks for an answer at once
 abbrev pub frame_poll : Frame → Bool
@@ -71,16 +52,7 @@ timer-most : (turn : ℕ) (timer : Option ℕ) → timer_value turn timer ≤ 19
 timer-most turn b = grind (arith)
 
 pub poll-most : (turn : ℕ) (p : Phase) (a : Account) → poll_value turn p a ≤ 38
-poll-most turn Detecting a = omega arith
-poll-most turn Negotiating a = omega arith
-poll-most turn Establishing a = omega arith
-poll-most turn Connected a = go a.wait.poll
-  where
-    go : (b : Bool) → cond b 19 0 + timer_value turn a.wait.timer ≤ 38
-    go true = omega (arith, timer-most turn a.wait.timer)
-    go false = omega (arith, timer-most turn a.wait.timer)
-poll-most turn Releasing a = omega arith
-poll-most turn Closed a = omega arith
+poll-most turn p a = grind (arith, timer-most)
 
 -- What a Connected end makes of what it hears, as far as it may hold up a segment.
 abbrev pub owed_by : Account → ℕ
@@ -122,80 +94,23 @@ TakesSo turn polls a b = Closes a b ⊎ ((b.phase ≡ Connected) × Takes turn p
 take-owes : (k : Took) (n : ℕ) (info : List ℕ) (i : Incoming) (ack : Option BreakWord)
     → ((after_kind k n info i).srej ≡ i.srej) × (owing (after_kind k n info i) ack ≤ owing i ack + 8)
     × (i.srej ≡ true → owing (after_kind k n info i) ack ≤ owing i ack)
-take-owes Kept n info i ack = (refl, omega arith, λ e. omega arith)
-take-owes Repeat n info i ack = (refl, omega arith, λ e. omega arith)
-take-owes InOrder n info i ack = (refl, go i.srej i.rej i.gapped, λ e. by i.srej i.rej i.gapped e)
-  where
-    x : ℕ
-    x = cond (is_some ack) 8 0
-
-    go : (s r g : Bool) → cond s 0 (cond r 16 0 + cond false 0 8) + x ≤ cond s 0 (cond r 16 0 + cond g 0 8) + x + 8
-    go b r g = grind (arith)
-
-    by : (s r g : Bool) → s ≡ true → cond s 0 (cond r 16 0 + cond false 0 8) + x ≤ cond s 0 (cond r 16 0 + cond g 0 8) + x
-    by b r g e = grind (arith)
-take-owes Gap n info i ack = (refl, go i.srej i.rej i.gapped, λ e. by i.srej i.rej i.gapped e)
-  where
-    x : ℕ
-    x = cond (is_some ack) 8 0
-
-    go : (s r g : Bool) → cond s 0 (cond (r || not g) 16 0 + cond true 0 8) + x ≤ cond s 0 (cond r 16 0 + cond g 0 8) + x + 8
-    go b r g = grind (arith)
-
-    by : (s r g : Bool) → s ≡ true → cond s 0 (cond (r || not g) 16 0 + cond true 0 8) + x ≤ cond s 0 (cond r 16 0 + cond g 0 8) + x
-    by b r g e = grind (arith)
+take-owes k n info i ack = grind (arith)
 
 -- a frame that leaves all but an N(R) and a reply as it is
 number-takes : (turn : ℕ) (polls : Bool) (a b : Account) → TakesNumber turn a b → b.setup ≡ a.setup → b.phase ≡ Connected
     → b.incoming ≡ a.incoming → b.special ≡ a.special → b.wait.poll ≡ a.wait.poll → b.owes.busy_told ≡ a.owes.busy_told
     → b.owes.answer ≡ a.owes.answer → (a.numbered ≡ true → b.numbered ≡ true) → b.own_breaks ≡ a.own_breaks
     → b.their_breaks ≡ a.their_breaks → b.owes.reply ≡ a.owes.reply || polls → (b.phase ≡ Connected) × Takes turn polls a b
-number-takes turn polls a b number setup phase incoming special poll told answer numbered own their reply = (
-  phase,
-  record {
-    number = number;
-    setup = setup;
-    srej = ap (λ i. i.srej) incoming;
-    special = special;
-    poll = poll;
-    told = told;
-    answer = λ e m. answer ∙ e;
-    numbered = numbered;
-    own = omega (arith, ap (own_value turn) own);
-    gain = omega (arith, same);
-    calm = λ s k. omega (arith, same);
-    asked = λ e f. (polled a.owes.reply polls e (sym reply ∙ f), omega (arith, same));
-  },
-)
-  where
-    same : owed_by b ≡ owed_by a
-    same = ap (λ i. owing i b.their_breaks.ack) incoming ∙ ap (λ t. owing a.incoming t.ack) their
-
-    polled : (r p : Bool) → r ≡ false → r || p ≡ true → p ≡ true
-    polled b p e f = grind (arith)
+number-takes turn polls a b number setup phase incoming special poll told answer numbered own their reply = grind (arith)
 
 same-takes : (turn : ℕ) (a : Account) → a.phase ≡ Connected → (b : Account) → b.outgoing ≡ a.outgoing → b.wait ≡ a.wait → b.setup ≡ a.setup
     → b.phase ≡ a.phase → b.incoming ≡ a.incoming → b.special ≡ a.special → b.owes ≡ a.owes → b.numbered ≡ a.numbered
     → b.own_breaks ≡ a.own_breaks → b.their_breaks ≡ a.their_breaks → TakesSo turn false a b
-same-takes turn a e b outgoing wait setup phase incoming special owes numbered own their =
-    inr (number-takes turn false a b (inr (outgoing, ap (λ w. w.timer) wait)) setup (phase ∙ e) incoming special (ap (λ w. w.poll) wait)
-    (ap (λ o. o.busy_told) owes) (ap (λ o. o.answer) owes) (λ x. numbered ∙ x) own their
-    (ap (λ o. o.reply) owes ∙ sym (or-false a.owes.reply)))
+same-takes turn a e b outgoing wait setup phase incoming special owes numbered own their = grind (arith, number-takes, or-false)
 
 answered-own : (z : Rates) (turn number : ℕ) (b : OwnBreaks) → Breaks z turn turn b
     → own_value turn (after_answer turn number b) ≤ own_value turn b
-answered-own z turn number b s = go (waits b) (nat_eq number (b.answered % 2))
-  where
-    done : nat_lt (b.answered + 1) (length b.lengths) ≡ false
-    done = let high = s.high in grind (arith, nat_tests, high)
-
-    new : cond (nat_lt (b.answered + 1) (length b.lengths)) (min 8 (turn - b.set)) (8 - (turn + 8 - turn)) ≡ 8 - (turn + 8 - turn)
-    new = ap (λ w. cond w (min 8 (turn - b.set)) (8 - (turn + 8 - turn))) done
-
-    go : (w right : Bool)
-        → own_value turn (cond (w && right) (record b { answered = b.answered + 1; brk = false; count = 0; rest = turn + 8 }) b) ≤ own_value
-        turn b
-    go b right = grind (arith)
+answered-own z turn number b s = grind (arith)
 
 -- nothing but this changes
 module _ (z : Rates) (turn : ℕ) (role : Role) (a : Account) (h : Linked z turn turn role a) (e : a.phase ≡ Connected) where
@@ -212,23 +127,7 @@ module _ (z : Rates) (turn : ℕ) (role : Role) (a : Account) (h : Linked z turn
       → b.special ≡ a.special → b.owes.busy_told ≡ a.owes.busy_told → b.owes.reply ≡ a.owes.reply → b.numbered ≡ a.numbered
       → (a.owes.answer ≡ None → may_send_at a ≡ true → b.owes.answer ≡ None) → own_value turn b.own_breaks ≤ own_value turn a.own_breaks
       → owed_by b ≤ owed_by a + 8 → (is_some b.their_breaks.ack ≡ false → owed_by b ≤ owed_by a) → TakesSo turn false a b
-  other b o w s p i u t r n d v g c = inr (
-    p ∙ e,
-    record {
-      number = inr (o, ap (λ x. x.timer) w);
-      setup = s;
-      srej = ap (λ x. x.srej) i;
-      special = u;
-      poll = ap (λ x. x.poll) w;
-      told = t;
-      answer = d;
-      numbered = λ x. n ∙ x;
-      own = v;
-      gain = g;
-      calm = λ x y. c y;
-      asked = λ x y. let wrong : false ≡ true = sym x ∙ (sym r ∙ y) in cc;
-    },
-  )
+  other b o w s p i u t r n d v g c = grind (arith)
 
   one-more : (b : Bool) → 8 ≤ cond b 8 0 + 8
   one-more b = grind (arith)
@@ -261,10 +160,7 @@ module _ (z : Rates) (turn : ℕ) (role : Role) (a : Account) (h : Linked z turn
       none b f g = grind (arith)
 
   plain : (frame : Frame) → Plain frame → TakesSo turn (frame_poll frame) a a
-  plain frame p = subst (λ b. TakesSo turn b a a) (sym (kind p)) same
-    where
-      kind : Plain frame → frame_poll frame ≡ false
-      kind b = grind (arith)
+  plain frame p = grind (arith)
 
   -- an own frame is heard: of no weight above two, and no RNR
   ways : ConnectedWays (λ x b. arrived_weight x ≤ 2 → arrived_rnrs x ≡ 0 → TakesSo turn (of_arrived frame_poll x) a b) turn a
@@ -319,35 +215,11 @@ module _ (z : Rates) (turn : ℕ) (role : Role) (a : Account) (h : Linked z turn
 
 -- a break is asked for
 asked-own : (z : Rates) (turn l : ℕ) (b : OwnBreaks) → Breaks z (turn + 1) turn b → own_value turn (after_ask turn l b) ≤ own_value turn b
-asked-own z turn l b s = go (waits b) refl (nat_le b.rest turn) refl
-  where
-    go : (w : Bool) → waits b ≡ w → (rested : Bool) → nat_le b.rest turn ≡ rested
-        → own_value turn (cond (not w && rested)
-        (record b { lengths = b.lengths ++ l ∷ []; brk = true; set = turn; count = 0 }) b) ≤ own_value turn b
-    go true e rested f = omega arith
-    go false e false f = omega arith
-    go false e true f =
-        let longer : length (b.lengths ++ l ∷ []) ≡ length b.lengths + 1 = omega (arith, length-append {A = ℕ}) in
-        let low : b.answered ≤ length b.lengths = s.low in
-        let waiting : nat_lt b.answered (length (b.lengths ++ l ∷ [])) ≡ true = grind (arith, nat_tests, longer, low) in
-        let rested : b.rest ≤ turn = grind (arith, nat_tests) in
-        let new : cond (nat_lt b.answered (length (b.lengths ++ l ∷ []))) (min 8 (turn - turn)) (8 - (b.rest - turn)) ≡ min 8
-        (turn - turn) = ap (λ w. cond w (min 8 (turn - turn)) (8 - (b.rest - turn))) waiting in
-        let old : cond (waits b) (min 8 (turn - b.set)) (8 - (b.rest - turn)) ≡ 8 - (b.rest - turn) =
-        ap (λ w. cond w (min 8 (turn - b.set)) (8 - (b.rest - turn))) e in
-        let any : 0 ≤ cond b.brk 8 0 = omega arith in
-        omega (arith, new, old, rested, any)
+asked-own z turn l b s = grind (arith, length-append {A = ℕ})
 
 pub served-own : (z : Rates) (turn breaks : ℕ) (busy : Bool) (a b : Account) → Breaks z (turn + 1) turn a.own_breaks
     → Served turn breaks busy a b → own_value turn b.own_breaks ≤ own_value turn a.own_breaks
-served-own z turn breaks busy a b h s = elim s.own [
-  | inl e ↦ omega (arith, ap (own_value turn) e)
-  | inr x ↦ omega (arith, ap (own_value turn) x.1, asked-own z turn x.0 a.own_breaks h)
-]
+served-own z turn breaks busy a b h s = grind (arith, asked-own)
 
 pub served-owes : (turn breaks : ℕ) (busy : Bool) (a b : Account) → Served turn breaks busy a b → owed_by b ≡ owed_by a
-served-owes turn breaks busy a b s = by b.incoming.srej b.incoming.rej b.incoming.gapped s.srej s.rej s.gapped
-  where
-    by : (srej rej gapped : Bool) → srej ≡ a.incoming.srej → rej ≡ a.incoming.rej → gapped ≡ a.incoming.gapped
-        → cond srej 0 (cond rej 16 0 + cond gapped 0 8) + cond (is_some b.their_breaks.ack) 8 0 ≡ owed_by a
-    by srej rej gapped e f g = rw (e, f, g, s.ack) refl
+served-owes turn breaks busy a b s = grind (arith)

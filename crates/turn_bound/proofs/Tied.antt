@@ -6,9 +6,8 @@ use Rattle.link_account.proofs.Names.{hear, Slot, arrives}
 use Rattle.link_run.proofs.Names.{is_released, Link, Accounts, Spoken, Turn, GoingTurn, RunOf, Crosses, Carries, IsCarried, sent_in}
 use Rattle.link_run.proofs.Names.{sent_ago}
 use Rattle.link_run.specs.Carried.{HasDelays, has_message}
-use Rattle.turn_bound.specs.Time.{KeepsTime}
+use Rattle.turn_bound.proofs.Names.{KeepsTime}
 use Rattle.turn_bound.proofs.Run.{arrival, left_on, slot_of, served_account, State, Keeps}
-use Rattle.lapm_frames.specs.declared.sent.Sent.TheVariants as slots
 use Rattle.lapm_frames.specs.declared.arrived.Arrived.TheVariants as arrivals
 use Rattle.link_run.specs.Run as runs
 use Rattle.turn_bound.proofs.Run as queued
@@ -43,11 +42,7 @@ part (suc n) role (t ∷ ts) = go (part n role ts)
     ago = ap (λ k. sent_in role (slice_get (t ∷ ts) k)) (less (suc n)) ∙ ap (λ k. sent_in role (slice_get ts k)) (sym (less n))
 
     go : Part n role ts → Part (suc n) role (t ∷ ts)
-    go (Short few same none) =
-        Short (omega (arith, few, length-append {A = Option Sent})) (ap (λ l. l ++ sent_of (of role t).sent ∷ []) same) (ago ∙ none)
-    go (Full all first) =
-        Full (omega (arith, all, length-append {A = Option Sent}))
-        (ap (λ l. l ++ sent_of (of role t).sent ∷ []) first ∙ ap (λ m. sent_of m ∷ sents (suc n) role (t ∷ ts)) (sym ago))
+    go x = grind (arith, length-append {A = Option Sent}, ago)
 
 -- what is on a line is what was sent in the last turns
 abbrev pub in_slot : Slot → Option Sent
@@ -67,22 +62,14 @@ same-length [] = refl
 same-length (slot ∷ rest) = ap suc (same-length rest)
 
 silent : (sent : Sent) → has_message sent ≡ false → arrives sent ≡ arrivals.Nothing
-silent slots.Mark e = refl
-silent slots.Flags e = refl
-silent p e = cc
+silent p e = grind (arith)
 
 pub none-heard : (m : Option Spoken) (heard : Heard) → m ≡ None → Crosses m heard → arrivals.Nothing ≡ runs.arrival heard
 none-heard b heard e c = grind (arith)
 
 pub one-heard : (m : Option Spoken) (sent : Sent) (heard : Heard) → sent_of m ≡ Some sent → Crosses m heard
     → cond (is_lost heard) arrivals.Nothing (arrives sent) ≡ runs.arrival heard
-one-heard None sent heard e c = cc
-one-heard (Some slot) sent heard e c =
-    let same : slot.sent ≡ sent = cc in
-    subst (λ s. cond (is_lost heard) arrivals.Nothing (arrives s) ≡ runs.arrival heard) same (by heard c)
-  where
-    by : (h : Heard) → Crosses (Some slot) h → cond (is_lost h) arrivals.Nothing (arrives slot.sent) ≡ runs.arrival h
-    by b c = grind (arith)
+one-heard m sent heard e c = grind (arith)
 
 map-snoc : (line : List Slot) (slot : Slot) → map in_slot (line ++ slot ∷ []) ≡ map in_slot line ++ Some slot.sent ∷ []
 map-snoc [] slot = refl
@@ -100,8 +87,7 @@ heads slot rest m l e = (cc, cc)
 
 next-lies : (n : ℕ) (role : Role) (ts : List Turn) (left : List Slot) → map in_slot left ≡ sents n role ts → (t : Turn) (slot : Slot)
     → sent_of (of role t).sent ≡ Some slot.sent → Lies (suc n) role (t ∷ ts) (left ++ slot ∷ [])
-next-lies n role ts left h t slot e =
-    map-snoc left slot ∙ (ap (λ l. l ++ Some slot.sent ∷ []) h ∙ ap (λ m. sents n role ts ++ m ∷ []) (sym e))
+next-lies n role ts left h t slot e = grind (arith, map-snoc)
 
 crossed : (delay : ℕ) (role : Role) (ts : List Turn) (line : List Slot) (heard : Heard) → 1 ≤ delay → Lies delay role ts line
     → Crosses (sent_ago delay role ts) heard → Crossed delay role ts line heard
@@ -112,10 +98,7 @@ crossed (suc n) role ts line heard some h c = go line h (part n role ts)
     long l h = sym (same-length l) ∙ ap (λ m. length m) h
 
     go : (l : List Slot) → Lies (suc n) role ts l → Part n role ts → Crossed (suc n) role ts l heard
-    go [] h (Short few same none) = record {
-      arrives_so = none-heard (sent_ago (suc n) role ts) heard none c;
-      lies_next = next-lies n role ts [] (h ∙ sym same);
-    }
+    go [] h (Short few same none) = grind (arith)
     go [] h (Full all first) = let wrong : [] ≡ sent_of (sent_ago (suc n) role ts) ∷ sents n role ts = h ∙ first in cc
     go (slot ∷ rest) h (Short few same none) =
         let short : nat_lt (length (slot ∷ rest)) (suc n) ≡ true = let e : length (slot ∷ rest) ≡ length (sents (suc n) role ts) =
@@ -161,8 +144,7 @@ turns-length [] = refl
 turns-length (t ∷ ts) = ap suc (turns-length ts)
 
 none-sent : (delay : ℕ) (role : Role) → sents delay role [] ≡ []
-none-sent zero role = refl
-none-sent (suc n) role = refl
+none-sent delay role = grind (arith)
 
 forth : (delay : Role → ℕ) (link : Link) (t : Turn) (ts : List Turn) (ends : Accounts) → HasDelays delay → (h : Tied delay link ts ends)
     → Carries delay ts t → Crossed (delay Originator) Originator ts h.forward t.answ.heard
@@ -224,8 +206,7 @@ tied delay link [] ends some run c = record {
   lies_back = sym (none-sent (delay Answerer) Answerer);
   run = ap (λ e. state_of e [] []) run;
 }
-tied delay link (t ∷ ts) ends some (before, run, g) c =
-    tied-turn delay link t ts before ends some (tied delay link ts before some run c.1) g c.0
+tied delay link (t ∷ ts) ends some (before, run, g) c = grind (arith, tied delay link ts before some run c.1, tied-turn)
 
 pub keeps : (tries period : ℕ) (delay : Role → ℕ) (link : Link) → KeepsTime tries period delay link
     → Keeps tries period (link_of delay link)

@@ -8,7 +8,7 @@ use Rattle.std.proofs.Math.Nat.{mul-le-mul_left, mul-le-mul_right}
 use Rattle.link_run.proofs.Names.{Setup, Phase, Detecting, Negotiating, Establishing, Connected, Releasing, Closed}
 use Rattle.link_account.specs.Laws.{has_begun}
 use Rattle.xid_params.specs.declared.terms.Terms.{Terms}
-use Rattle.break_signals.specs.Breaks.{no_breaks}
+use Rattle.turn_bound.proofs.Names.{no_breaks}
 use Rattle.lapm_sender.specs.Outgoing as outgoing
 use Rattle.lapm_frames.specs.declared.sent.Sent.TheVariants as slots
 use Rattle.lapm_frames.specs.declared.arrived.Arrived.TheVariants as arrivals
@@ -125,10 +125,7 @@ lasts k lives lives' = cond lives 1 (cond lives' (k + 1) 0)
 
 -- a try more fits
 pub tries_fit : (z : Rates) (count : ℕ) → AreRates z → count ≤ z.tries → count * z.period + z.period ≤ z.whole
-tries_fit z count y h =
-    let more : (count + 1) * z.period ≤ (z.tries + 1) * z.period =
-    mul-le-mul_right {m = count + 1} {n = z.tries + 1} z.period (omega (arith, h)) in
-    omega (arith, more, y.whole)
+tries_fit z count y h = grind (arith, mul-le-mul_right {m = count + 1})
 
 pub paid : (q m n : ℕ) → m < n → q * m + q ≤ q * n
 paid q m n h = let more : q * (m + 1) ≤ q * n = mul-le-mul_left {m = m + 1} {n = n} q (omega (arith, h)) in omega (arith, more)
@@ -150,9 +147,7 @@ left-some z before turn count b y h e = grind (arith)
 -- later within a turn
 pub ticks-later : (z : Rates) (before turn count : ℕ) (timer : Option ℕ) → Ticks z before turn count timer
     → Ticks z (before + 1) turn count timer
-ticks-later z before turn count None h = h
-ticks-later z before turn count (Some set) h =
-    record { tied = h.tied; started = omega (arith, h.started); within = h.within; tried = h.tried }
+ticks-later z before turn count timer h = grind (arith)
 
 pub ticks-now : (z : Rates) (turn : ℕ) → Ticks z (turn + 1) turn 0 (Some turn)
 ticks-now z turn = record { tied = omega arith; started = omega arith; within = omega arith; tried = omega arith }

@@ -6,16 +6,12 @@ use Rattle.link_account.proofs.Names.{nat_tests, Role, Originator, Answerer, is_
 use Rattle.link_account.proofs.Names.{trying, Said, speak, speak_in, speak_linked, speak_releasing}
 use Rattle.link_run.proofs.Names.{Phase, Detecting, Negotiating, Establishing, Connected, Releasing, Closed, User, is_busy, is_released}
 use Rattle.link_run.proofs.Names.{has_finished, Link, Accounts, Turn, RunOf, arrival, releases, IsCarried}
-use Rattle.lapm_sender.specs.Outgoing.{is_whole}
-use Rattle.link_account.specs.Account.{is_done}
-use Rattle.link_run.specs.Run.{finished_at, served_ends}
-use Rattle.turn_bound.specs.Time.{KeepsTime}
-use Rattle.turn_bound.specs.Advance.{NeverBusy}
+use Rattle.turn_bound.proofs.Names.{KeepsTime, NeverBusy, finished_at, is_whole, served_ends}
 use Rattle.turn_bound.proofs.Value.{Rates, rates, AreRates, IsOf, Linked, Stands, arrived_weight, arrived_rnrs, unlinked-of, connected-is}
 use Rattle.turn_bound.proofs.Run.{served_account}
 use Rattle.turn_bound.proofs.Speaking.{spoke}
 use Rattle.turn_bound.proofs.MeetHear.{is_begun, of_arrived}
-use Rattle.turn_bound.proofs.Taking.{frame_poll, TakesNumber, Takes, Closes, takes}
+use Rattle.turn_bound.proofs.Taking.{frame_poll, Takes, Closes, takes}
 use Rattle.turn_bound.proofs.Pausing.{goes-on, says-calm}
 use Rattle.turn_bound.proofs.Ending.{fits}
 use Rattle.turn_bound.proofs.Tied.{keeps, Tied, tied, link_of, turn_of, state_of}
@@ -28,10 +24,7 @@ abbrev pub IsWhole : Outgoing → Type 0
 IsWhole o = (o.ended ≡ true) × (o.front ≡ length o.pieces)
 
 pub whole-is : (o : Outgoing) → is_whole o ≡ true → IsWhole o
-whole-is o e = go o.ended refl (nat_eq o.front (length o.pieces)) refl e
-  where
-    go : (d : Bool) → o.ended ≡ d → (n : Bool) → nat_eq o.front (length o.pieces) ≡ n → d && n ≡ true → IsWhole o
-    go b f n g h = grind (arith)
+whole-is o e = grind (arith)
 
 pub is-whole : (o : Outgoing) → IsWhole o → is_whole o ≡ true
 is-whole o (e, f) = let same : nat_eq o.front (length o.pieces) ≡ true = grind (arith, nat_tests, f) in rw (e, same) refl
@@ -72,15 +65,13 @@ module _ {z : Rates} {user : User} {turn : ℕ} {role : Role} {a : Account} {arr
   whole-stays light quiet w = said-whole (served (hearing-so a.phase refl))
     where
       served : IsWhole mid.outgoing → IsWhole b.outgoing
-      served v = let e = i.serves.longer.ended v.0 in
-          (e.1, ap (λ o. o.front) i.serves.longer.outgoing ∙ (v.1 ∙ ap (λ x. length x) (sym e.0)))
+      served v = grind (arith)
 
       same : mid.outgoing ≡ a.outgoing → IsWhole mid.outgoing
       same e = subst IsWhole (sym e) w
 
       early : is_begun a.phase ≡ false → IsWhole mid.outgoing
-      early e = let none : a.outgoing.ended ≡ false = ap (λ o. o.ended) (unlinked-of z turn turn role a.phase a i.stands e).outgoing in
-          let wrong : true ≡ false = sym w.0 ∙ none in cc
+      early e = grind (arith, unlinked-of)
 
       late : is_released a.phase ≡ true → IsWhole mid.outgoing
       late e = same ((goes-on turn arrived a mid quiet i.hears).late e)
@@ -96,25 +87,8 @@ module _ {z : Rates} {user : User} {turn : ℕ} {role : Role} {a : Account} {arr
           linked : Linked z turn turn role a
           linked = subst (λ q. Stands z turn turn role q a) e i.stands
 
-          number : TakesNumber turn a mid → IsWhole mid.outgoing
-          number (inl n) = (
-            i.heard.ended ∙ w.0,
-            omega (
-              arith,
-              n.0.front_low,
-              n.0.front_from,
-              n.0.from_high,
-              n.0.high,
-              linked.sends.high_pieces,
-              w.1,
-              ap (λ x. length x) i.heard.pieces,
-            ),
-          )
-          number (inr n) = same n.0
-
           by : Closes a mid ⊎ ((mid.phase ≡ Connected) × Takes turn (of_arrived frame_poll arrived) a mid) → IsWhole mid.outgoing
-          by (inl c) = same c.outgoing
-          by (inr t) = number t.1.number
+          by x = grind (arith)
 
 -- An end that is told to release, of one that isn't: it was Connected, and told now.
 pub told-now : (z : Rates) (turn : ℕ) (role : Role) (release : Bool) (b : Account) (said : Said) → AreRates z → Spoken z turn role b said
@@ -137,18 +111,14 @@ told-now z turn role release b said y s e open_ told = go (is_connected b.phase)
             let wrong : true ≡ false = sym told ∙ ap is_released (p.stepped.phase ∙ (p.is_timed.phase ∙ linked)) in cc
 
 finished-whole : (user : User) (turn : ℕ) (a : Account) → has_finished user turn a ≡ true → IsWhole a.outgoing
-finished-whole user turn a e = whole-is a.outgoing (by (is_connected a.phase) (and-two (is_done a) _ e).0)
-  where
-    by : (c : Bool) → cond c (is_whole a.outgoing) false ≡ true → is_whole a.outgoing ≡ true
-    by b h = grind (arith)
+finished-whole user turn a e = grind (arith, whole-is, and-two)
 
 -- Once the originator is told to release both ends are whole.
 pub released-whole : (tries period : ℕ) (delay : Role → ℕ) (link : Link) (ts : List Turn) (ends : Accounts)
     → KeepsTime tries period delay link
     → NeverBusy link → RunOf link ts ends → IsCarried delay ts
     → is_released ends.orig.phase ≡ true → (role : Role) → IsWhole (of role ends).outgoing
-released-whole tries period delay link [] ends k n run c e role = let wrong : true ≡ false =
-    sym e ∙ ap (λ (x : Accounts). is_released x.orig.phase) run in cc
+released-whole tries period delay link [] ends k n run c e role = grind (arith)
 released-whole tries period delay link (t ∷ ts) ends k n (before, run, g) c e role =
     go (λ f. released-whole tries period delay link ts before k n run c.1 f) (is_released before.orig.phase) refl
   where
@@ -178,8 +148,7 @@ released-whole tries period delay link (t ∷ ts) ends k n (before, run, g) c e 
       where
         b : (finished_at link turn (served_ends link turn g.mid) Originator ≡ true) ×
             (finished_at link turn (served_ends link turn g.mid) Answerer ≡ true)
-        b = and-two (finished_at link turn (served_ends link turn g.mid) Originator)
-            (finished_at link turn (served_ends link turn g.mid) Answerer) told
+        b = grind (arith, and-two)
 
         of-both : (q : Role) → has_finished (of q link).user turn
             (served_account (of q link).user turn (is_released g.mid.orig.phase) (of q g.mid)) ≡ true

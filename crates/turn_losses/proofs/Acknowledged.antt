@@ -34,42 +34,19 @@ record Told (g : Arrived → Option ℕ) (k : Sent → Option ℕ) : Type 0 wher
   pub same : (s : Sent) → g (arrives s) ≡ k s
 
 nr-told : Told nr_heard nr_sent
-nr-told = record { nothing = refl; same = λ s. by s }
-  where
-    by : (s : Sent) → nr_heard (arrives s) ≡ nr_sent s
-    by slots.Mark = refl
-    by slots.Odp = refl
-    by slots.Adp = refl
-    by slots.Flags = refl
-    by (slots.Frame frame) = refl
+nr-told = grind (arith)
 
 ns-told : Told ns_heard ns_sent
-ns-told = record { nothing = refl; same = λ s. by s }
-  where
-    by : (s : Sent) → ns_heard (arrives s) ≡ ns_sent s
-    by slots.Mark = refl
-    by slots.Odp = refl
-    by slots.Adp = refl
-    by slots.Flags = refl
-    by (slots.Frame frame) = refl
+ns-told = grind (arith)
 
 told-from : (g : Arrived → Option ℕ) (k : Sent → Option ℕ) → Told g k → (delay turn : ℕ) (loses : Bool) (f : ℕ → Sent) (arrived : Arrived)
     → ArrivesLate delay turn loses f arrived → (n : ℕ) → g arrived ≡ Some n
     → (delay ≤ turn) × (k (f (turn - delay)) ≡ Some n)
-told-from g k w delay turn loses f arrived h n e = elim (cases_lt turn delay) [
-  | inl l ↦ (let wrong : None ≡ Some n = sym (ap g (h.early l) ∙ w.nothing) ∙ e in cc)
-  | inr m ↦ (m, by loses (ap g (sym (h.late m)) ∙ e))
-]
-  where
-    by : (b : Bool) → g (cond b arrivals.Nothing (arrives (f (turn - delay)))) ≡ Some n → k (f (turn - delay)) ≡ Some n
-    by b q = grind (arith)
+told-from g k w delay turn loses f arrived h n e = grind (arith)
 
 told-to : (g : Arrived → Option ℕ) (k : Sent → Option ℕ) → Told g k → (delay turn : ℕ) (loses : Bool) (f : ℕ → Sent) (arrived : Arrived)
     → ArrivesLate delay (turn + delay) loses f arrived → loses ≡ false → g arrived ≡ k (f turn)
-told-to g k w delay turn loses f arrived h none =
-    let back : turn + delay - delay ≡ turn = omega arith in
-    ap g (h.late (omega arith)
-    ∙ (ap (λ b. cond b arrivals.Nothing (arrives (f (turn + delay - delay)))) none ∙ ap (λ n. arrives (f n)) back)) ∙ w.same (f turn)
+told-to g k w delay turn loses f arrived h none = grind (arith)
 
 is-some : (m : Option ℕ) → is_some m ≡ true → (n : ℕ) × (m ≡ Some n)
 is-some b e = grind (arith)
@@ -78,22 +55,11 @@ final-nr : (frame : Frame) → is_final frame ≡ true → is_some (frame_nr fra
 final-nr p e = grind (arith)
 
 final-told : (x : Arrived) → of_arrived is_final x ≡ true → (n : ℕ) × (nr_heard x ≡ Some n)
-final-told arrivals.Nothing e = cc
-final-told (arrivals.Pattern seen) e = cc
-final-told (arrivals.Frame frame) e = is-some (frame_nr frame) (final-nr frame e)
+final-told x e = grind (arith, is-some, final-nr)
 
 -- a number that is meant is the least from the low end that agrees
 meant-is : (low high nr n : ℕ) → meant low high nr ≡ Some n → (low ≤ n) × (n < low + 128) × (n % 128 ≡ nr)
-meant-is low high nr n e = go (nat_lt nr 128) refl (nat_le (low + (nr + 128 - low % 128) % 128) high) e
-  where
-    go : (x : Bool) → nat_lt nr 128 ≡ x → (y : Bool) → cond (x && y) (Some (low + (nr + 128 - low % 128) % 128)) None ≡ Some n
-        → (low ≤ n) × (n < low + 128) × (n % 128 ≡ nr)
-    go false q y f = cc
-    go true q false f = cc
-    go true q true f =
-        let less : nr < 128 = grind (arith, nat_tests, q) in
-        let same : low + (nr + 128 - low % 128) % 128 ≡ n = cc in
-        (omega (arith, same), omega (arith, same), omega (arith, same, less))
+meant-is low high nr n e = grind (arith)
 
 one-number : (low n r nr : ℕ) → low ≤ n → n ≤ r → r ≤ low + 127 → n % 128 ≡ nr → nr ≡ r % 128 → n ≡ r
 one-number low n r nr h1 h2 h3 h4 h5 = omega (arith, h1, h2, h3, h4, h5)

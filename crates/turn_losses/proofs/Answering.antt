@@ -48,26 +48,7 @@ record Ended (n : Outgoing) : Type 0 where
   pub idle : is_outstanding n ≡ false → n.count ≡ 0
 
 ended-resumed : (o : Outgoing) → Ended (resumed (wait_ended o))
-ended-resumed o = by o.paused refl
-  where
-    by : (p : Bool) → o.paused ≡ p
-        → Ended (cond p (record
-        (wait_ended o) { paused = false; count = cond (is_outstanding o || false) (cond (is_outstanding o || o.paused) o.count 0) 0 })
-        (wait_ended o))
-    by true e = record {
-      awaited = refl;
-      from = refl;
-      chosen = refl;
-      paused = refl;
-      idle = λ h. ap (λ b. cond (b || false) (cond (is_outstanding o || o.paused) o.count 0) 0) h;
-    }
-    by false e = record {
-      awaited = refl;
-      from = refl;
-      chosen = refl;
-      paused = e;
-      idle = λ h. ap (λ b. cond (b || o.paused) o.count 0) h ∙ ap (λ b. cond (false || b) o.count 0) e;
-    }
+ended-resumed o = grind (arith)
 
 -- what arrived is the answer
 module _ (turn : ℕ) (a : Account) (w : a.outgoing.awaited ≡ true) where
@@ -78,68 +59,18 @@ module _ (turn : ℕ) (a : Account) (w : a.outgoing.awaited ≡ true) where
       → (final ≡ true → new ≡ wait_ended (advanced a.outgoing n)) → pf && not command ≡ true
       → AnswerHeard false a
       (numbered_with a (resumed new) a.incoming timer (a.owes.reply || (command && pf)) (a.wait.urgent || final))
-  resumes n new timer false true true g h f =
-      let k : Ended (resumed new) = subst (λ o. Ended (resumed o)) (sym (h refl)) (ended-resumed (advanced a.outgoing n)) in record {
-        phase = refl;
-        numbered = refl;
-        awaited = k.awaited;
-        from = k.from;
-        chosen = k.chosen;
-        paused = λ r. k.paused;
-        urgent = λ r. or-true a.wait.urgent;
-        busy = λ r. cc;
-        idle = λ r e. k.idle e;
-        reply = or-false a.owes.reply;
-        answer = refl;
-        poll = refl;
-      }
-  resumes n new timer false true false g h f = let wrong : true ≡ false = sym (ap (λ b. b && true) w) ∙ g in cc
-  resumes n new timer true true final g h f = cc
-  resumes n new timer command false final g h f = cc
+  resumes n new timer command pf final g h f = grind (arith, ended-resumed)
 
   pauses : (n : ℕ) (command pf final : Bool) → ends_wait command pf a ≡ final → pf && not command ≡ true
       → AnswerHeard true a
       (numbered_with a (paused_at (acked final a.outgoing n)) a.incoming (Some turn) (a.owes.reply || (command && pf)) a.wait.urgent)
-  pauses n false true true g f = record {
-    phase = refl;
-    numbered = refl;
-    awaited = refl;
-    from = refl;
-    chosen = refl;
-    paused = λ r. cc;
-    urgent = λ r. cc;
-    busy = λ r. refl;
-    idle = λ r. cc;
-    reply = or-false a.owes.reply;
-    answer = refl;
-    poll = refl;
-  }
-  pauses n false true false g f = let wrong : true ≡ false = sym (ap (λ b. b && true) w) ∙ g in cc
-  pauses n true true final g f = cc
-  pauses n command false final g f = cc
+  pauses n command pf final g f = grind (arith)
 
   plain : (frame : Frame) → Plain frame → P (arrivals.Frame frame) a
-  plain frame (IsUa pf q) f = let wrong : true ≡ false = sym f ∙ ap is_final q in cc
-  plain frame (IsXid command pf info q) f = let wrong : true ≡ false = sym f ∙ ap is_final q in cc
-  plain frame (IsTest command pf info q) f = let wrong : true ≡ false = sym f ∙ ap is_final q in cc
-  plain frame (IsNoWord command pf info fault e q) f = let wrong : true ≡ false = sym f ∙ ap is_final q in cc
+  plain frame q1 f = grind (arith)
 
   answer-ways : ConnectedWays P turn a
-  answer-ways = record {
-    pattern = λ seen f. cc;
-    plain = plain;
-    numbers = record {
-      i = λ ns nr pf info n m f. cc;
-      rr = λ command pf nr n final g m f. resumes n _ _ command pf final g (ap (λ b. acked b a.outgoing n)) f;
-      rej = λ command pf nr n final g m f. resumes n _ _ command pf final g (ap (λ b. acked_back b a.outgoing n)) f;
-      rnr = λ command pf nr n final g m f. pauses n command pf final g f;
-      srej = λ command pf nr n g m f. cc;
-    };
-    sabme = λ pf n r f. cc;
-    disc = λ pf r f. cc;
-    brk = λ command pf info number length_octet q f. cc;
-    brkack = λ command pf info number length_octet q f. cc;
-  }
+  answer-ways = grind (arith)
 
   pub answer-hears : (frame : Frame) (mid : Account) → a.phase ≡ Connected → is_final frame ≡ true
       → hear turn (arrivals.Frame frame) a ≡ Ok mid → AnswerHeard (frame_rnr frame) a mid
@@ -178,21 +109,10 @@ urgent-says turn n a said h t e1 e2 e3 e4 e5 =
 pub front-may : (z : Rates) (before turn : ℕ) (a : Account) → Sends z before turn a.outgoing a.wait.timer → a.numbered ≡ true
     → a.outgoing.awaited ≡ false → a.outgoing.paused ≡ false → a.outgoing.from ≡ a.outgoing.front → a.outgoing.chosen ≡ []
     → is_outstanding a.outgoing ≡ true → may_send a ≡ Some a.outgoing.front
-front-may z before turn a s n w p f c o =
-    ap (λ y. cond (is_originator a.setup.role || y) (next_number a.outgoing) None) n
-    ∙ (ap (λ y. cond y (next_number a.outgoing) None) (or-true (is_originator a.setup.role))
-    ∙ (front-next a.outgoing (ap (λ x. x || a.outgoing.paused) w ∙ p) c (omega (arith, f, less, s.high_pieces)) (omega (arith, f, s.window))
-    ∙ ap (λ x. Some x) f))
-  where
-    less : a.outgoing.front < a.outgoing.high
-    less = grind (arith, nat_tests, o)
+front-may z before turn a s n w p f c o = grind (arith, or-true, front-next)
 
 not-expires : (turn : ℕ) (a : Account) (m : Option ℕ) → ((s : ℕ) → m ≡ Some s → turn < s + a.setup.period) → timer_expires turn a m ≡ false
-not-expires turn a None h = refl
-not-expires turn a (Some s) h = let less = h s refl in apart turn (s + a.setup.period) less
-  where
-    apart : (x y : ℕ) → x < y → nat_eq x y ≡ false
-    apart x y l = grind (arith, nat_tests, l)
+not-expires turn a m h = grind (arith)
 
 -- the turn of one end in which it hears the answer
 module _ {tries period : ℕ} {link : Link} {role : Role} {turn : ℕ} {a : Account} {arrived : Arrived} {mid b : Account}
@@ -226,11 +146,7 @@ module _ {tries period : ℕ} {link : Link} {role : Role} {turn : ℕ} {a : Acco
               (ap is_connected (sym (s.phase ∙ i.heard.phase)) ∙ ap is_connected phase)).sends
 
           unexpired : timer_expires turn b b.wait.timer ≡ false
-          unexpired = not-expires turn b b.wait.timer (λ n e. within n (polls.timer c n (ap (λ v. v.timer) (sym s.wait) ∙ e)))
-            where
-              within : (n : ℕ) → (n ≡ turn) ⊎ (a.wait.timer ≡ Some n) → turn < n + b.setup.period
-              within n (inl e) = omega (arith, e, i.b_period, i.long)
-              within n (inr e) = let l = bound n e in omega (arith, l, i.b_period)
+          unexpired = grind (arith, not-expires)
 
           sent : frame_rnr frame ≡ false → is_outstanding mid.outgoing ≡ true → SendsSegment mid.outgoing.front b said
           sent r o =

@@ -46,19 +46,7 @@ answer-heard : (turn : ℕ) (command pf : Bool) (info : List ℕ) (number length
     → (w : Bool) → waits a.own_breaks ≡ w → (x : Bool) → nat_eq number (a.own_breaks.answered % 2) ≡ x
     → BreakHeard turn (arrivals.Frame (Ui command pf info)) a
     (record a { own_breaks = cond (w && x) (answered_own turn a.own_breaks) a.own_breaks })
-answer-heard turn command pf info number length_octet a e w v x y = record {
-  special = refl;
-  own = own w v x y;
-  asked = λ n h. let wrong : true ≡ false = sym h ∙ ap (is_word (brk_of n)) e in cc;
-  kept = λ h. refl;
-  urgent = λ u. inl u;
-}
-  where
-    own : (w : Bool) → waits a.own_breaks ≡ w → (x : Bool) → nat_eq number (a.own_breaks.answered % 2) ≡ x
-        → ((cond (w && x) (answered_own turn a.own_breaks) a.own_breaks ≡ a.own_breaks)
-        × Unanswered (arrivals.Frame (Ui command pf info)) a.own_breaks)
-        ⊎ ((waits a.own_breaks ≡ true) × (cond (w && x) (answered_own turn a.own_breaks) a.own_breaks ≡ answered_own turn a.own_breaks))
-    own b v x y = grind (arith)
+answer-heard turn command pf info number length_octet a e w v x y = grind (arith)
 
 pub break-heard : (arrived : Arrived) (turn : ℕ) (a mid : Account) → a.phase ≡ Connected → is_connected mid.phase ≡ true
     → hear turn arrived a ≡ Ok mid → BreakHeard turn arrived a mid
@@ -94,38 +82,11 @@ pub record SameOld (arrived : Arrived) (a b : Account) : Type 0 where
 -- it isn't Connected after it either
 unlinked-old : (arrived : Arrived) (a b : Account) → b.own_breaks ≡ a.own_breaks → b.their_breaks ≡ a.their_breaks → b.special ≡ a.special
     → b.wait.urgent ≡ a.wait.urgent → is_connected b.phase ≡ false → SameOld arrived a b
-unlinked-old arrived a b o t s u n = record {
-  own = o;
-  their = t;
-  special = s;
-  urgent = u;
-  plain = λ c. let wrong : true ≡ false = sym c
-      ∙ n in cc;
-}
+unlinked-old arrived a b o t s u n = grind (arith)
 
 first-urgent : (r : Role) (turn : ℕ) (a : Account) → (first_wait r turn a.wait).urgent ≡ a.wait.urgent
 first-urgent b turn a = grind (arith)
 
 pub old-heard : (arrived : Arrived) (turn : ℕ) (a mid : Account) → is_linked a.phase ≡ false → hear turn arrived a ≡ Ok mid
     → SameOld arrived a mid
-old-heard arrived turn a mid l h = HearWays.by-ways (λ x b. SameOld x a b) turn a (record {
-  nothing = unlinked-old arrivals.Nothing a (on_nothing a) refl refl refl refl (unlinked-connected a.phase l);
-  linked = λ p. let wrong : true ≡ false = sym (ap is_linked p) ∙ l in cc;
-  early = λ c. record {
-    ignores = λ x f. unlinked-old x a a refl refl refl refl c;
-    detects = λ p r. unlinked-old _ a _ refl refl refl refl refl;
-    detected = λ p r. unlinked-old _ a (owing answers.Adp a) refl refl refl refl c;
-    xid = λ p r pf info offer f. unlinked-old _ a _ refl refl refl refl refl;
-    agrees = λ p r pf info offer f. unlinked-old _ a _ refl refl refl refl refl;
-    sabme_first = λ p r pf. begins _ _ refl refl refl (first-urgent a.setup.role turn a) (λ f. refl) refl;
-    sabme = λ p r pf. begins _ _ refl refl refl (first-urgent a.setup.role turn a) (λ f. refl) refl;
-    ua = λ p. begins _ _ refl refl refl (first-urgent a.setup.role turn a) (λ f. refl) refl;
-    disc = λ p pf. unlinked-old _ a (owing (answers.Dm pf) a) refl refl refl refl c;
-    closes = λ p frame f. let wrong : true ≡ false = sym (ap is_linked p) ∙ l in cc;
-  };
-}) arrived mid h
-  where
-    begins : (x : Arrived) (b : Account) → b.own_breaks ≡ a.own_breaks → b.their_breaks ≡ a.their_breaks → b.special ≡ a.special
-        → b.wait.urgent ≡ a.wait.urgent → ((f : BreakWord → Bool) → of_arrived (of_word f) x ≡ false) → of_arrived is_final x ≡ false
-        → SameOld x a b
-    begins x b o t s u w f = record { own = o; their = t; special = s; urgent = u; plain = λ c. (w, f) }
+old-heard arrived turn a mid l h = grind (arith, unlinked-old, unlinked-connected)

@@ -58,22 +58,13 @@ brk-spelled : (n l : ℕ) → nat_lt n 2 ≡ true → is_word (brk_of n) (word_i
 brk-spelled n l e = ap (λ b. is_word (brk_of n) (cond b (Ok (Brk n l)) (Err (Number n)))) e ∙ same-number n
 
 ack-spelled : (n m l : ℕ) → n < 2 → nat_eq m n ≡ true → is_word (ack_of n) (word_in (spelled (Ack m l))) ≡ true
-ack-spelled n m l s e =
-    let same : m ≡ n = grind (arith, nat_tests, e) in
-    let less : nat_lt m 2 ≡ true = is-small m (omega (arith, same, s)) in
-    ap (λ b. is_word (ack_of n) (cond b (Ok (Ack m l)) (Err (Number m)))) less ∙ e
+ack-spelled n m l s e = grind (arith, is-small)
 
 ack-no-brk : (m l : ℕ) → is_word any_brk (word_in (spelled (Ack m l))) ≡ false
-ack-no-brk m l = by (nat_lt m 2)
-  where
-    by : (b : Bool) → is_word any_brk (cond b (Ok (Ack m l)) (Err (Number m))) ≡ false
-    by b = grind (arith)
+ack-no-brk m l = grind (arith)
 
 undue : (o : OwnBreaks) → own_due o ≡ None → o.brk ≡ false
-undue o n = by o.brk n
-  where
-    by : (b : Bool) → cond b (Some (Brk (o.answered % 2) (slice_index_or o.lengths o.answered 0))) None ≡ None → b ≡ false
-    by b f = grind (arith)
+undue o n = grind (arith)
 
 module _ (special : Bool) (a : Account) where
   abbrev P : Said → Type 0
@@ -101,23 +92,16 @@ module _ (special : Bool) (a : Account) where
   }
 
   none-due : {A : Type 0} → (own_due a.own_breaks ≡ None) × (a.their_breaks.ack ≡ None) → Due → A
-  none-due x (inl y) = clash a.own_breaks.brk y (undue a.own_breaks x.0)
-  none-due x (inr y) = clash (pends a.their_breaks.ack) y (ap pends x.1)
+  none-due x q1 = grind (arith, clash, undue)
 
   -- one that goes only where none is due, or in the turn after a word
   idle : (said : Said) → said.account.own_breaks ≡ a.own_breaks → said.account.their_breaks ≡ a.their_breaks
       → said.account.special ≡ false → (said.account.wait.urgent ≡ true → a.wait.urgent ≡ true)
       → of_frame (of_word any_brk) said.sent ≡ false → NoWord special a → P said
-  idle said o t s u b w = quiet said o t s u b false (λ e. cc) (λ d. elim w [
-    | inl x ↦ or-late (of_frame is_final said.sent) _ (or-late (of_frame is_poll said.sent) _ (or-first special _ x))
-    | inr x ↦ none-due x d
-  ])
+  idle said o t s u b w = grind (arith, or-late, or-first, none-due)
 
   answer-plain : (d : Answer) → of_frame (of_word any_brk) (frame_for d a) ≡ false
-  answer-plain answers.Adp = refl
-  answer-plain answers.Xid = refl
-  answer-plain (answers.Ua pf) = refl
-  answer-plain (answers.Dm pf) = refl
+  answer-plain d = grind (arith)
 
   own-said : a.their_breaks.ack ≡ None → (word : BreakWord) → own_due a.own_breaks ≡ Some word
       → P (says_word a.own_breaks.answered word (record a { own_breaks = after_brk a.own_breaks }))
@@ -126,42 +110,11 @@ module _ (special : Bool) (a : Account) where
       by : (b : Bool) → a.own_breaks.brk ≡ b
           → cond b (Some (Brk (a.own_breaks.answered % 2) (slice_index_or a.own_breaks.lengths a.own_breaks.answered 0))) None ≡ Some word
           → P (says_word a.own_breaks.answered word (record a { own_breaks = after_brk a.own_breaks }))
-      by false f g = cc
-      by true f g = record {
-        hurries = false;
-        acks = false;
-        own = inr (
-          f,
-          refl,
-          subst (λ w. is_word (brk_of (a.own_breaks.answered % 2)) (word_in (spelled w)) ≡ true) same
-              (brk-spelled (a.own_breaks.answered % 2) (slice_index_or a.own_breaks.lengths a.own_breaks.answered 0)
-              (small a.own_breaks.answered)),
-        );
-        ack = inl (refl, refl);
-        hurried = λ h. cc;
-        calm = λ u. u;
-        held = λ d. elim d [ inl x ↦ cc | inr x ↦ clash (pends a.their_breaks.ack) x (ap pends p) ];
-        special_own = λ x y. cc;
-        special_ack = λ x y. clash (pends a.their_breaks.ack) y (ap pends p);
-      }
-        where
-          same : Brk (a.own_breaks.answered % 2) (slice_index_or a.own_breaks.lengths a.own_breaks.answered 0) ≡ word
-          same = cc
+      by b f g = grind (arith)
 
   acked : (w : BreakWord) → a.their_breaks.ack ≡ Some w → IsAck (Some w)
       → P (says_word (length a.their_breaks.lengths - 1) w (record a { their_breaks = after_ack a.their_breaks }))
-  acked (Brk m l) g i = absurd i
-  acked (Ack m l) g i = record {
-    hurries = false;
-    acks = true;
-    own = inl (refl, ack-no-brk m l);
-    ack = inr (refl, ap pends g, (λ n s h. ack-spelled n m l s (ap (pends_of n) (sym g) ∙ h)));
-    hurried = λ h. cc;
-    calm = λ u. u;
-    held = λ d. refl;
-    special_own = λ x y. refl;
-    special_ack = λ x y. cc;
-  }
+  acked w g i = grind (arith)
 
   asked : NoWord special a → special ≡ false → (n : ℕ)
       → P (record {
@@ -170,39 +123,10 @@ module _ (special : Bool) (a : Account) where
         account = record a
             { incoming = after_asked n a.incoming; special = true };
       })
-  asked (inl x) s n = let wrong : true ≡ false = sym x ∙ s in cc
-  asked (inr x) s n = record {
-    hurries = false;
-    acks = false;
-    own = inl (refl, refl);
-    ack = inl (refl, refl);
-    hurried = λ h. cc;
-    calm = λ u. u;
-    held = λ d. none-due x d;
-    special_own = λ y z. none-due x (inl z);
-    special_ack = λ y z. none-due x (inr z);
-  }
+  asked q0 s n = grind (arith)
 
   steps-breaks : (turn : ℕ) → a.special ≡ false → IsAck a.their_breaks.ack → Steps P turn special a
-  steps-breaks turn none is_ack = record {
-    answers = λ d e. quiet _ refl refl none (λ u. u) (answer-plain d) false (λ h. cc)
-        (λ x. or-late (of_frame is_final (frame_for d a)) _
-        (or-late (of_frame is_poll (frame_for d a)) _ (or-late special _ (ap is_some e))));
-    final = λ n e. let k = ready-kinds a.owes.busy false true (nr_of a) in
-        quiet _ refl refl none (λ u. u) k.2 false (λ h. cc) (λ d. or-first _ _ k.1);
-    poll = λ n r e. let k = ready-kinds a.owes.busy true true (nr_of a) in quiet _ refl refl none (λ u. u) k.2 false (λ h. cc)
-        (λ d. or-late (is_final (ready_frame a.owes.busy true (nr_of a) true)) _ (or-first _ _ k.0));
-    segment = λ b u n e. elim u [
-      | inl x ↦ quiet _ refl refl none (λ v. cc) refl true (λ h. (x, refl)) (λ d. refl)
-      | inr w ↦ idle _ refl refl none (λ v. cc) refl w
-    ];
-    brkack = λ b s word e. acked word e (subst IsAck e is_ack);
-    brk = λ b s k word e. own-said k word e;
-    tell = λ b w e. let k = ready-kinds a.owes.busy false false (nr_of a) in idle _ refl refl none (λ u. u) k.2 w;
-    rej = λ b w n e. idle _ refl refl none (λ u. u) refl w;
-    srej = λ b w s n e. asked w s n;
-    flags = λ i. idle _ refl refl none (λ u. u) refl i.words;
-  }
+  steps-breaks turn none is_ack = grind (arith)
 
 -- What the timer of a break makes of it: nothing, or it expires.
 abbrev pub TicksOwn : (turn period : ℕ) → OwnBreaks → OwnBreaks → Type 0
@@ -210,12 +134,7 @@ TicksOwn turn period o new = (new ≡ o)
     ⊎ ((waits o ≡ true) × (turn ≡ o.set + period) × (new ≡ record o { brk = true; set = turn; count = o.count + 1 }))
 
 ticks-own : (turn period tries : ℕ) (o new : OwnBreaks) → ticked turn period tries o ≡ Some new → TicksOwn turn period o new
-ticks-own turn period tries o new e = go (waits o) refl (nat_eq turn (o.set + period)) refl (nat_eq o.count tries) e
-  where
-    go : (w : Bool) → waits o ≡ w → (due : Bool) → nat_eq turn (o.set + period) ≡ due → (s : Bool)
-        → cond (w && due) (cond s None (Some (record o { brk = true; set = turn; count = o.count + 1 }))) (Some o) ≡ Some new
-        → TicksOwn turn period o new
-    go b w due d s f = grind (arith)
+ticks-own turn period tries o new e = grind (arith)
 
 -- What a Connected end that isn't told to release makes of them: the timer first, and then the nine steps.
 pub record SaidBreaks (turn : ℕ) (a : Account) (said : Said) : Type 0 where
@@ -361,10 +280,7 @@ module _ {tries period : ℕ} {link : Link} {r : Role} {turn : ℕ} {a : Account
       × (waits said.account.own_breaks ≡ true → (brk_due a ≡ true) ⊎ (made ≡ true) → k.own.brk ≡ true)
 
   like : said.account.own_breaks ≡ but_brk said.account.own_breaks.brk k.own
-  like = elim k.step.own [
-    | inl x ↦ ap (but_brk said.account.own_breaks.brk) x.0
-    | inr x ↦ ap (but_brk said.account.own_breaks.brk) x.1
-  ]
+  like = grind (arith)
 
   ended : waits (answered_own turn a.own_breaks) ≡ false
   ended = waits-not (answered_own turn a.own_breaks) (omega (arith, high))
@@ -379,29 +295,10 @@ module _ {tries period : ℕ} {link : Link} {r : Role} {turn : ℕ} {a : Account
     (λ f. let g = ap (λ o. o.brk) (sym e) ∙ f in inl (and-true (is_connected a.phase) a.own_breaks.brk (on g) g)),
     (λ w d. elim d [ inl x ↦ ap (λ o. o.brk) e ∙ and-second (is_connected a.phase) a.own_breaks.brk x | inr m ↦ cc ]),
   )
-  own-so (inl (q, n)) (inl s) (inr (w, d, t)) = let e = s ∙ q in let set = ap (λ o. o.set) e in (
-    true,
-    Expires refl (ap waits (sym e) ∙ w) (omega (arith, d, set, i.b_period)) n (like ∙
-        (ap (but_brk said.account.own_breaks.brk) t
-        ∙ ap (again turn said.account.own_breaks.brk) e)),
-    (λ f. inr refl),
-    (λ v x. ap (λ o. o.brk) t),
-  )
-  own-so (inl (q, n)) (inr s) (inl t) = let rest = ap (λ o. o.rest) q in let low = s.rested in (
-    true,
-    Takes refl (ap waits (sym q) ∙ s.none) (omega (arith, rest, low)) (ap waits like ∙ (ap waits t ∙ s.waiting))
-        (ap (λ o. o.set) like ∙ (ap (λ o. o.set) t ∙ s.set)) (ap (λ o. o.count) like ∙ (ap (λ o. o.count) t ∙ s.count)),
-    (λ f. inr refl),
-    (λ v x. ap (λ o. o.brk) t ∙ s.brk),
-  )
+  own-so (inl (q, n)) (inl s) (inr (w, d, t)) = grind (arith, like)
+  own-so (inl (q, n)) (inr s) (inl t) = grind (arith, like)
   own-so (inl x) (inr s) (inr (w, d, t)) = let set = s.set in absurd (omega (arith, d, set, i.b_period, i.long))
-  own-so (inr (w, q)) (inl s) (inl t) = let e = t ∙ (s ∙ q) in (
-    false,
-    Ends refl w (ap waits (like ∙ ap (but_brk said.account.own_breaks.brk) e) ∙ ended)
-        (ap (λ o. o.rest) like ∙ ap (λ o. o.rest) e),
-    (λ f. clash k.own.brk f (ap (λ o. o.brk) e)),
-    (λ v x. clash (waits said.account.own_breaks) v (ap waits like ∙ (ap waits e ∙ ended))),
-  )
+  own-so (inr (w, q)) (inl s) (inl t) = grind (arith, like, clash)
   own-so (inr (w, q)) (inl s) (inr (v, d, t)) = clash (waits b.own_breaks) v (ap waits (s ∙ q) ∙ ended)
   own-so (inr (w, q)) (inr s) t = let rest = ap (λ o. o.rest) q in let low = s.rested in absurd (omega (arith, low, rest))
 
@@ -410,10 +307,7 @@ module _ {tries period : ℕ} {link : Link} {r : Role} {turn : ℕ} {a : Account
   number e = ap (λ o. of_frame (of_word (brk_of (o.answered % 2))) said.sent) like ∙ e
 
   ack-heard : pends b.their_breaks.ack ≡ true → (ack_due a ≡ true) ⊎ (of_arrived (of_word any_brk) arrived ≡ true)
-  ack-heard e = by (of_arrived (of_word any_brk) arrived) refl
-    where
-      by : (x : Bool) → of_arrived (of_word any_brk) arrived ≡ x → (ack_due a ≡ true) ⊎ (of_arrived (of_word any_brk) arrived ≡ true)
-      by b f = grind (arith)
+  ack-heard e = grind (arith)
 
   pub break-turn : (d : Deeds) × (d.answers ≡ is_some b.owes.answer) × BreakTurn period turn arrived said.sent d a said.account
       × (waits said.account.own_breaks ≡ waits b.own_breaks)

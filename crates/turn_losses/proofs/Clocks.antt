@@ -51,15 +51,7 @@ module _ (period turns : ℕ) (runs stays asks : ℕ → Type 0) (was_set : ℕ 
 
       go : Ticked period t runs stays asks was_set count → (runs t → Last period runs stays asks was_set count t)
           → Last period runs stays asks was_set count (t + 1)
-      go (Begins s c a) again = record {
-        at = t;
-        before = omega arith;
-        asked = a;
-        set = only (λ u. was_set u t) s;
-        ran = only runs now;
-        stayed = λ v x y. absurd (omega (arith, x, y));
-        earlier = λ n q. absurd (omega (arith, q, c));
-      }
+      go (Begins s c a) again = grind (arith)
       go (Expires set ran was due s c a) again = record {
         at = t;
         before = omega arith;

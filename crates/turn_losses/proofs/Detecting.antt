@@ -37,12 +37,7 @@ said-from turn release b said h d = elim (speaks-phase turn release b said h) [
 -- an originator that is Detecting sends its pattern
 sends-odp : (turn : ℕ) (release : Bool) (b : Account) (said : Said) → b.phase ≡ Detecting → b.setup.role ≡ Originator
     → speak turn release b ≡ Ok said → said.sent ≡ slots.Odp
-sends-odp turn release b said e r h =
-    go (nat_le ((b.setup.tries + 1) * b.setup.period) turn)
-    (sym (ap (λ x. speak_detecting x turn b) r) ∙ (sym (ap (λ p. speak_in p turn release b) e) ∙ h))
-  where
-    go : (x : Bool) → cond x (Err NotDetected) (Ok (says slots.Odp b)) ≡ Ok said → said.sent ≡ slots.Odp
-    go b q = grind (arith)
+sends-odp turn release b said e r h = grind (arith)
 
 -- and hears no pattern of the answerer's
 abbrev hears-ok : Account → Result Account LinkFault
@@ -80,12 +75,7 @@ heard-from arrived turn a mid r h = HearWays.by-ways
     late p d = let wrong : Connected ≡ Detecting = sym p ∙ d in cc
 
     moved : a.phase ≡ Detecting → hear turn (arrivals.Pattern seens.Adp) a ≡ Ok a → ⊥
-    moved d f =
-        let there : hears-ok (on_seen a.phase seens.Adp turn a) ≡ hears-ok (trying Negotiating turn a) =
-        ap (λ p. hears-ok (on_seen p seens.Adp turn a)) d ∙ ap (λ x. hears-ok (on_pattern x seens.Adp turn a)) r in
-        let back : hears-ok (trying Negotiating turn a) ≡ hears-ok a = sym there ∙ f in
-        let same : trying Negotiating turn a ≡ a = cc in
-        let wrong : Negotiating ≡ Detecting = ap (λ b. b.phase) same ∙ d in cc
+    moved d f = grind (arith)
 
 abbrev says-ok : Said → Result Said LinkFault
 says-ok said = Ok said
@@ -120,22 +110,10 @@ answers-odp user turn arrived a mid released release said e r r' only hears spea
         by b f = grind (arith)
 
     nothing : arrived ≡ arrivals.Nothing → mid.phase ≡ Detecting
-    nothing q = let same : hear turn arrivals.Nothing a ≡ Ok mid = ap (λ x. hear turn x a) (sym q) ∙ hears in by same
-      where
-        by : hear turn arrivals.Nothing a ≡ Ok mid → mid.phase ≡ Detecting
-        by f = ok-phase (hear turn arrivals.Nothing a) f e
-          where
-            ok-phase : (x : Result Account LinkFault) → x ≡ Ok mid → PhaseOf x Detecting → mid.phase ≡ Detecting
-            ok-phase b g k = grind (arith)
+    nothing q = grind (arith)
 
     odp : arrived ≡ arrivals.Pattern seens.Odp → (mid.phase ≡ Detecting) × (mid.owes.answer ≡ Some answers.Adp)
-    odp q =
-        let on-detecting : hear turn (arrivals.Pattern seens.Odp) a ≡ hears-ok (on_pattern Answerer seens.Odp turn a) =
-        ap (λ p. hears-ok (on_seen p seens.Odp turn a)) e ∙ ap (λ x. hears-ok (on_pattern x seens.Odp turn a)) r in
-        let same : hears-ok (on_pattern Answerer seens.Odp turn a) ≡ hears-ok mid =
-        sym on-detecting ∙ (ap (λ x. hear turn x a) (sym q) ∙ hears) in
-        let there : on_pattern Answerer seens.Odp turn a ≡ mid = cc in
-        (ap (λ x. x.phase) (sym there) ∙ e, ap (λ x. x.owes.answer) (sym there))
+    odp q = grind (arith)
 
     heard : (arrived ≡ arrivals.Nothing) ⊎ (arrived ≡ arrivals.Pattern seens.Odp)
         → (said.account.phase ≡ Detecting) × (arrived ≡ arrivals.Pattern seens.Odp → said.sent ≡ slots.Adp)
@@ -151,10 +129,7 @@ answers-odp user turn arrived a mid released release said e r r' only hears spea
 
 -- only an end that is Detecting breaks so
 pub err-detecting : (turn : ℕ) (release : Bool) (b : Account) → speak turn release b ≡ Err NotDetected → b.phase ≡ Detecting
-err-detecting turn release b h = go NotDetected refl (why-broken turn release b NotDetected h)
-  where
-    go : (fault : LinkFault) → fault ≡ NotDetected → SpeakWays.Breaks turn release b fault → b.phase ≡ Detecting
-    go fault n b = grind (arith)
+err-detecting turn release b h = grind (arith, why-broken)
 
 pub wants-pattern : SpendsOnTime → OriginatorWantsPattern
 wants-pattern spends tries period delay link ts before t mid kt run c broken number less =
@@ -231,10 +206,7 @@ wants-pattern spends tries period delay link ts before t mid kt run c broken num
 
     up : (u : ℕ) → u ≤ turns → (w.state u).answ.phase ≡ Detecting
     up zero l = ap (λ (x : Accounts). x.answ.phase) w.trace.starts
-    up (suc u) l = ap (λ n. (w.state n).answ.phase) (next u) ∙ (answers-turn u (omega (arith, l)) (up u (omega (arith, l)))).0
-      where
-        next : (x : ℕ) → suc x ≡ x + 1
-        next x = omega arith
+    up (suc u) l = grind (arith, up u (omega (arith, l)), answers-turn)
 
     p : period ≡ 2 * (delay Originator + delay Answerer) + 16
     p = kt.period_is
@@ -301,13 +273,7 @@ none-passed heard none e = none (ap arrival e)
 -- an originator that sends its pattern does so within the periods of its tries
 sends-early : (turn : ℕ) (release : Bool) (b : Account) (said : Said) → b.phase ≡ Detecting → b.setup.role ≡ Originator
     → speak turn release b ≡ Ok said → turn < (b.setup.tries + 1) * b.setup.period
-sends-early turn release b said e r h =
-    go (nat_le ((b.setup.tries + 1) * b.setup.period) turn) refl
-    (sym (ap (λ x. speak_detecting x turn b) r) ∙ (sym (ap (λ p. speak_in p turn release b) e) ∙ h))
-  where
-    go : (x : Bool) → nat_le ((b.setup.tries + 1) * b.setup.period) turn ≡ x
-        → cond x (Err NotDetected) (Ok (says slots.Odp b)) ≡ Ok said → turn < (b.setup.tries + 1) * b.setup.period
-    go b f q = grind (arith)
+sends-early turn release b said e r h = grind (arith)
 
 -- as long as it is Detecting
 early : (tries period : ℕ) (delay : Role → ℕ) (link : Link) (ts : List Turn) (ends : Accounts) → KeepsTime tries period delay link

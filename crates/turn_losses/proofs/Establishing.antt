@@ -29,19 +29,11 @@ module _ (turn : ℕ) (b : Account) where
   -- neither a word of breaks nor a SABME goes, of an end that isn't Establishing
   plain : {said : Said} → of_frame (of_word any_brk) said.sent ≡ false → of_frame is_sabme said.sent ≡ false
       → (b.phase ≡ Establishing → ⊥) → (said.account.phase ≡ Establishing → ⊥) → Sends turn b said
-  plain w s m n = record {
-    word = λ h. let wrong : true ≡ false = sym h ∙ w in cc;
-    sabme = λ h. let wrong : true ≡ false = sym h ∙ s in cc;
-    over = λ q. absurd (m q);
-    from = λ q. absurd (n q);
-  }
+  plain w s m n = grind (arith)
 
   answer : (d : Answer) → (b.phase ≡ Establishing → ⊥)
       → Sends turn b (says (frame_for d b) (record b { owes = record b.owes { answer = None } }))
-  answer answers.Adp m = plain refl refl m m
-  answer answers.Xid m = plain refl refl m m
-  answer (answers.Ua pf) m = plain refl refl m m
-  answer (answers.Dm pf) m = plain refl refl m m
+  answer d m = grind (arith)
 
   tries : (frame : Frame) (c : Account) → of_word any_brk frame ≡ false → is_sabme frame ≡ false → (b.phase ≡ Establishing → ⊥)
       → (c.phase ≡ Establishing → ⊥) → Tries (Sends turn b) turn frame c
@@ -49,21 +41,13 @@ module _ (turn : ℕ) (b : Account) where
 
   -- a Connected end
   linked : b.phase ≡ Connected → {said : Said} → said.account.phase ≡ b.phase → of_frame is_sabme said.sent ≡ false → Sends turn b said
-  linked p q s = record {
-    word = λ h. ap is_connected (q ∙ p);
-    sabme = λ h. let wrong : true ≡ false = sym h ∙ s in cc;
-    over = λ x. let wrong : Connected ≡ Establishing = sym p ∙ x in cc;
-    from = λ x. sym q ∙ x;
-  }
+  linked p q s = grind (arith)
 
   ready : (busy command pf : Bool) (nr : ℕ) → is_sabme (ready_frame busy command nr pf) ≡ false
   ready b command pf nr = grind (arith)
 
   answer-sabme : (d : Answer) (c : Account) → of_frame is_sabme (frame_for d c) ≡ false
-  answer-sabme answers.Adp c = refl
-  answer-sabme answers.Xid c = refl
-  answer-sabme (answers.Ua pf) c = refl
-  answer-sabme (answers.Dm pf) c = refl
+  answer-sabme d c = grind (arith)
 
   ways : (release : Bool) → Ways (Sends turn b) turn release b
   ways release = record {

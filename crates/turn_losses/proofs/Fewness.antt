@@ -24,20 +24,11 @@ count-none (suc n) test h = let k = count-none n test (λ m l. h m (omega (arith
 
 count-or : (n : ℕ) (a b : ℕ → Bool) → count_of n (λ m. a m || b m) ≤ count_of n a + count_of n b
 count-or zero a b = omega arith
-count-or (suc n) a b = let k = count-or n a b in let e = either (a n) (b n) in omega (arith, k, e)
-  where
-    either : (x y : Bool) → one_if (x || y) ≤ one_if x + one_if y
-    either true y = omega arith
-    either false y = omega arith
+count-or (suc n) a b = grind (arith, count-or n a b)
 
 -- where only the last one may meet it
 count-last : (n : ℕ) (test : ℕ → Bool) → ((m : ℕ) → m < n → test m ≡ true → n ≤ m + 1) → count_of n test ≤ 1
-count-last zero test h = omega arith
-count-last (suc n) test h =
-    let k = count-none n test (λ m l. none m l (test m) refl) in let e = one-most (test n) in omega (arith, k, e)
-  where
-    none : (m : ℕ) → m < n → (b : Bool) → test m ≡ b → test m ≡ false
-    none m l b q = grind (arith)
+count-last n test h = grind (arith, count-none, one-most)
 
 -- where two that meet it follow one another
 count-near : (n : ℕ) (test : ℕ → Bool) → ((m k : ℕ) → m < k → k < n → test m ≡ true → test k ≡ true → k ≤ m + 1) → count_of n test ≤ 2
@@ -130,31 +121,19 @@ covers-few period delay last n short (t ∷ ts) =
     all = count-or n here (covers period delay last ts)
 
     two : count_of n here ≤ 2
-    two = count-near n here
-        (λ m k l g a b. spans-near period delay last (length ts) m k short l
-        (and-two (loses t) (in_span period delay last (length ts) m) a).1
-        (and-two (loses t) (in_span period delay last (length ts) k) b).1)
+    two = grind (arith, count-near, spans-near, and-two)
 
     go : (x y : Bool) → is_lost t.orig.heard ≡ x → is_lost t.answ.heard ≡ y → count_of n (covers period delay last ts) ≤ 2 * lost_slots ts
         → count_of n (covers period delay last (t ∷ ts)) ≤ 2 * (lost_slots ts + lost_in t.orig.heard + lost_in t.answ.heard)
     go true y p q r = let one = lost-one t.orig.heard p in let a = all in let b = two in omega (arith, one, a, b, r)
     go false true p q r = let one = lost-one t.answ.heard q in let a = all in let b = two in omega (arith, one, a, b, r)
-    go false false p q r =
-        let none = count-none n here
-        (λ m l. ap (λ b. (b || is_lost t.answ.heard) && in_span period delay last (length ts) m) p
-        ∙ ap (λ b. (false || b) && in_span period delay last (length ts) m) q) in
-        let a = all in omega (arith, none, a, r)
+    go false false p q r = grind (arith, count-none)
 
 is-loss : (h : Heard) → IsLost h → is_lost h ≡ true
 is-loss p e = grind (arith)
 
 loses-turn : (t : Turn) → LosesSome (Some t) → loses t ≡ true
-loses-turn t (Originator, h) = ap (λ b. b || is_lost t.answ.heard) (is-loss t.orig.heard h)
-loses-turn t (Answerer, h) = by (is_lost t.orig.heard) (is-loss t.answ.heard h)
-  where
-    by : (b : Bool) → is_lost t.answ.heard ≡ true → b || is_lost t.answ.heard ≡ true
-    by true e = refl
-    by false e = e
+loses-turn t q1 = grind (arith, is-loss)
 
 covers-loss : (period delay last span : ℕ) (ts : List Turn) (turn : ℕ) → turn < length ts → LosesSome (turn_at turn ts)
     → in_span period delay last turn span ≡ true → covers period delay last ts span ≡ true
@@ -168,14 +147,7 @@ covers-loss period delay last span (t ∷ ts) turn l h e = elim (cases_lt turn (
     later q = or-late (loses t && in_span period delay last (length ts) span) (covers period delay last ts span) q
 
     here : turn ≡ length ts → covers period delay last (t ∷ ts) span ≡ true
-    here q =
-        let first : turn_at turn (t ∷ ts) ≡ Some t = ap (λ n. slice_get (t ∷ ts) n) (index turn (length ts) q) in
-        let lost = loses-turn t (subst LosesSome first h) in
-        ap (λ b. (b && in_span period delay last (length ts) span) || covers period delay last ts span) lost
-        ∙ ap (λ b. b || covers period delay last ts span) (subst (λ n. in_span period delay last n span ≡ true) q e)
-      where
-        index : (a n : ℕ) → a ≡ n → suc n - 1 - a ≡ 0
-        index a n e = omega (arith, e)
+    here q = grind (arith, loses-turn)
 
 pub starved-loses-many : StarvedLosesMany
 starved-loses-many tries period delay link ts kt h =
@@ -193,14 +165,7 @@ starved-loses-many tries period delay link ts kt h =
     short = let p = kt.period_is in omega (arith, p)
 
     covered : (n : ℕ) → SpanLoses period d ts n → covers period d last ts n ≡ true
-    covered n s = covers-loss period d last n ts s.turn s.within s.lost
-        (and-true (nat_lt last (s.turn + (n + 1) * period + d)) (nat_le (s.turn + n * period) last) behind before)
-      where
-        behind : nat_lt last (s.turn + (n + 1) * period + d) ≡ true
-        behind = let b = s.in_span.behind in grind (arith, nat_tests, b)
-
-        before : nat_le (s.turn + n * period) last ≡ true
-        before = let b = s.in_span.before in grind (arith, nat_tests, b)
+    covered n s = grind (arith, covers-loss, and-true)
 
 pub lossless-is-fed : LosslessIsFed
 lossless-is-fed tries period delay link ts kt none h = let many = starved-loses-many tries period delay link ts kt h in let some =

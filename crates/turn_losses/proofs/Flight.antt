@@ -28,11 +28,7 @@ pub record AnswerBy (arrived : Arrived) (b : Account) : Type 0 where
   pub some : is_connected b.phase ≡ true → is_some b.owes.answer ≡ true → of_arrived is_sabme arrived ≡ true
 
 none-by : (arrived : Arrived) (b : Account) → b.owes.answer ≡ None → AnswerBy arrived b
-none-by arrived b e = record {
-  ua = λ h. let wrong : true ≡ false = sym h
-      ∙ ap is_ua_due e in cc;
-  some = λ c h. let wrong : true ≡ false = sym h ∙ ap is_some e in cc;
-}
+none-by arrived b e = grind (arith)
 
 sabme-by : (pf : Bool) (b : Account) → AnswerBy (arrivals.Frame (Sabme pf)) b
 sabme-by pf b = record { ua = λ h. inl refl; some = λ c h. refl }
@@ -42,11 +38,7 @@ disc-by pf b n = record { ua = λ h. inr refl; some = λ c h. let wrong : true �
 
 -- another answer
 other-by : (arrived : Arrived) (b : Account) → is_ua_due b.owes.answer ≡ false → is_connected b.phase ≡ false → AnswerBy arrived b
-other-by arrived b u n = record {
-  ua = λ h. let wrong : true ≡ false = sym h ∙ u in cc;
-  some = λ c h. let wrong : true ≡ false = sym c
-      ∙ n in cc;
-}
+other-by arrived b u n = grind (arith)
 
 pub answer-by : (arrived : Arrived) (turn : ℕ) (a mid : Account) → a.owes.answer ≡ None → hear turn arrived a ≡ Ok mid
     → AnswerBy arrived mid
@@ -80,28 +72,7 @@ answer-by arrived turn a mid n h = by-ways AnswerBy turn a (record {
 -- an end that is Establishing, and is linked once it has heard, heard UA
 heard-ua : (arrived : Arrived) (turn : ℕ) (a mid : Account) → a.phase ≡ Establishing → hear turn arrived a ≡ Ok mid
     → is_linked mid.phase ≡ true → of_arrived frame_ua arrived ≡ true
-heard-ua arrived turn a mid e h = by-ways (λ x b. is_linked b.phase ≡ true → of_arrived frame_ua x ≡ true) turn a (record {
-  nothing = never;
-  linked = λ p. no p (λ q. cc);
-  early = λ n. record {
-    ignores = λ x f. never;
-    detects = λ p r c. cc;
-    detected = λ p r. never;
-    xid = λ p r pf info offer f c. cc;
-    agrees = λ p r pf info offer f c. cc;
-    sabme_first = λ p. no p (λ q. cc);
-    sabme = λ p. no p (λ q. cc);
-    ua = λ p c. refl;
-    disc = λ p pf. never;
-    closes = λ p frame f. no p (λ q. cc);
-  };
-}) arrived mid h
-  where
-    no : {A : Type 0} {p : Phase} → a.phase ≡ p → (Establishing ≡ p → ⊥) → A
-    no p n = absurd (n (sym e ∙ p))
-
-    never : {A : Type 0} → is_linked a.phase ≡ true → A
-    never c = clash (is_linked a.phase) c (ap is_linked e)
+heard-ua arrived turn a mid e h = grind (arith, by-ways, clash)
 
 pub only-establishing : (p : Phase) → is_established p ≡ true → is_linked p ≡ false → p ≡ Establishing
 only-establishing p e l = grind (arith)
@@ -256,8 +227,7 @@ answ-no-sabme w q l e =
 
 pub sends-sabme-so : (w : TimedRun) → (r : Role) → (q : ℕ) → q < length w.ts → of_frame is_sabme ((end_of w r).slot q) ≡ true
     → is_connected (of r (w.state (q + 1))).phase ≡ false
-sends-sabme-so w Originator q l e = ap is_connected (sabme-sent w q l e).0
-sends-sabme-so w Answerer q l e = absurd (answ-no-sabme w q l e)
+sends-sabme-so w r q l e = grind (arith, sabme-sent, answ-no-sabme)
 
 -- where a UA is due at an end that is Connected then, it heard a SABME
 pub answers-sabme : (w : TimedRun) → (r : Role) → (u : ℕ) → u < length w.ts → is_connected (of r (w.state (u + 1))).phase ≡ true

@@ -34,12 +34,7 @@ gives-up laws tries period delay link ts before t mid role fault kt run cs broke
   where
     waits-not : (r : Role) → is_connected (of r mid).phase ≡ true → break_waits (served_at link (length ts) mid r).account ≡ false
         → waits (served_at link (length ts) mid r).account.own_breaks ≡ false
-    waits-not r c q = by (is_connected (served_at link (length ts) mid r).account.phase)
-        (ap is_connected (serves-all (of r link).user (length ts) (is_released mid.orig.phase) (of r mid)).phase ∙ c) q
-      where
-        by : (b : Bool) → b ≡ true → cond b (waits (served_at link (length ts) mid r).account.own_breaks) false ≡ false
-            → waits (served_at link (length ts) mid r).account.own_breaks ≡ false
-        by b e f = grind (arith)
+    waits-not r c q = grind (arith, serves-all)
 
     -- fewer of the latest periods
     fewer : LosesEach period (tries + 1) (length ts) (t ∷ ts) → LosesEach period tries (length ts) (t ∷ ts)
@@ -99,10 +94,7 @@ taken a = length a.own_breaks.lengths
 
 served-none : (turn : ℕ) (breaks : List BreakLine) (busy : Bool) (a b : Account) → breaks ≡ [] → Served turn (length breaks) busy a b
     → taken a ≡ 0 → taken b ≡ 0
-served-none turn breaks busy a b none s e = elim s.own [
-  | inl q ↦ ap (λ (x : OwnBreaks). length x.lengths) q ∙ e
-  | inr z ↦ (let n = ap (λ (x : List BreakLine). length x) none in absurd (omega (arith, z.2, n)))
-]
+served-none turn breaks busy a b none s e = grind (arith)
 
 -- what an end that has heard and is served has taken
 served-taken : (tries period : ℕ) (delay : Role → ℕ) (link : Link) (ts : List Turn) (ends : Accounts) → KeepsTime tries period delay link

@@ -37,33 +37,17 @@ pub record PlainFrame (frame : Frame) : Type 0 where
   pub words : (f : BreakWord → Bool) → of_word f frame ≡ false
 
 pub plain-frame : (frame : Frame) → Plain frame → PlainFrame frame
-plain-frame frame (IsUa pf e) = record { poll = ap is_poll e; final = ap is_final e; words = λ f. ap (of_word f) e }
-plain-frame frame (IsXid command pf info e) = record { poll = ap is_poll e; final = ap is_final e; words = λ f. ap (of_word f) e }
-plain-frame frame (IsTest command pf info e) = record { poll = ap is_poll e; final = ap is_final e; words = λ f. ap (of_word f) e }
-plain-frame frame (IsNoWord command pf info fault w e) =
-    record { poll = ap is_poll e; final = ap is_final e; words = λ f. ap (of_word f) e ∙ ap (is_word f) w }
+plain-frame frame q1 = grind (arith)
 
 never : {A : Type 0} {b : Bool} → b ≡ false → b ≡ true → A
 never e f = let wrong : true ≡ false = sym f ∙ e in cc
 
 set-after : (turn : ℕ) (old new : Outgoing) (timer : Option ℕ) → SetFrom turn timer (timer_after turn old new timer)
-set-after turn old new timer =
-    go (((old.awaited && not new.awaited) || (old.paused && not new.paused)) && not (is_waiting new))
-    (nat_lt old.front new.front) (is_waiting new)
-  where
-    go : (x y w : Bool) → SetFrom turn timer (cond x None (cond y (cond w (Some turn) None) timer))
-    go true y w s k = cc
-    go false true true s k = let same : turn ≡ s = cc in inl (sym same)
-    go false true false s k = cc
-    go false false w s k = inr k
+set-after turn old new timer = grind (arith)
 
 clock-kept : (z : Rates) (turn : ℕ) (o new : Outgoing) (timer : Option ℕ) → Sends z turn turn o timer → Heard o new
     → CountStays o timer new (timer_after turn o new timer)
-clock-kept z turn o new timer s h = let k = heard-clock z turn o new timer s h in go (is_waiting new) (nat_lt o.front new.front) k.0 k.1
-  where
-    go : (w advances : Bool) → timer_after turn o new timer ≡ cond w (cond advances (Some turn) timer) None
-        → new.count ≡ cond w (cond advances 0 o.count) 0 → CountStays o timer new (timer_after turn o new timer)
-    go b advances t c = grind (arith)
+clock-kept z turn o new timer s h = grind (arith, heard-clock)
 
 module _ (turn : ℕ) (a : Account) where
   abbrev o : Outgoing
@@ -91,29 +75,11 @@ module _ (turn : ℕ) (a : Account) where
   awaited-after : (command pf final : Bool) (n : ℕ) → ends_wait command pf a ≡ final
       → ((acked final o n).awaited ≡ cond (pf && not command) false o.awaited)
       × ((acked_back final o n).awaited ≡ cond (pf && not command) false o.awaited)
-  awaited-after command pf final n e = go final (pf && not command) e
-    where
-      go : (b f : Bool) → o.awaited && f ≡ b
-          → ((acked b o n).awaited ≡ cond f false o.awaited) × ((acked_back b o n).awaited ≡ cond f false o.awaited)
-      go true true q = (refl, refl)
-      go true false q = both o.awaited q
-        where
-          both : (w : Bool) → w && false ≡ true → (false ≡ o.awaited) × (false ≡ o.awaited)
-          both true r = cc
-          both false r = cc
-      go false true q = let none = left o.awaited q in (none, none)
-        where
-          left : (w : Bool) → w && true ≡ false → w ≡ false
-          left true r = cc
-          left false r = refl
-      go false false q = (refl, refl)
+  awaited-after command pf final n e = grind (arith, acked)
 
   hurried : (command pf final : Bool) → ends_wait command pf a ≡ final → a.wait.urgent || final ≡ true
       → (a.wait.urgent ≡ true) ⊎ (pf && not command ≡ true)
-  hurried command pf final e h = go a.wait.urgent refl final (pf && not command) o.awaited e h
-    where
-      go : (u : Bool) → a.wait.urgent ≡ u → (b f w : Bool) → w && f ≡ b → u || b ≡ true → (u ≡ true) ⊎ (f ≡ true)
-      go c q b f w r h = grind (arith)
+  hurried command pf final e h = grind (arith)
 
   -- RR or REJ
   ready : (frame : Frame) (command pf final : Bool) (made : Outgoing) → is_poll frame ≡ (command && pf) → is_final frame ≡
@@ -163,17 +129,7 @@ module _ (turn : ℕ) (a : Account) where
 -- What hearing makes of the wait for a poll's answer, at a Connected end: a response with F = 1 ends it, and nothing else.
 pub await-hears : (arrived : Arrived) (turn : ℕ) (a mid : Account) → is_connected a.phase ≡ true → hear turn arrived a ≡ Ok mid
     → mid.outgoing.awaited ≡ cond (of_arrived is_final arrived) false a.outgoing.awaited
-await-hears arrived turn a mid c e =
-    by-linked (λ x b. b.outgoing.awaited ≡ cond (of_arrived is_final x) false a.outgoing.awaited) turn a
-    (record {
-      pattern = λ seen. refl;
-      plain = λ frame p. ap (λ f. cond f false a.outgoing.awaited) (sym (plain-frame frame p).final);
-      sabme = λ pf n r. refl;
-      disc = λ pf r. refl;
-      brk = λ command pf info number length_octet q. refl;
-      brkack = λ command pf info number length_octet q. refl;
-      numbers = number-rows turn a _ (λ frame new incoming timer reply urgent n. n.awaited);
-    }) refl arrived mid (connected-is a.phase c) e
+await-hears arrived turn a mid c e = grind (arith, by-linked, connected-is)
 
 -- What hearing makes of the retry count and the timer of a Connected end: the count is 0, or both are as they were.
 abbrev pub CountKept : Account → Account → Type 0
@@ -200,20 +156,7 @@ pub record PausedHeard (x : Arrived) (a b : Account) : Type 0 where
   pub resumes : of_arrived is_final x ≡ true → (b.outgoing.paused ≡ false) ⊎ (b.outgoing.count ≡ 0)
 
 same : (x : Arrived) (a b : Account) → b.outgoing ≡ a.outgoing → of_arrived is_final x ≡ false → PausedHeard x a b
-same x a b o f = record {
-  paused = λ e. let again : a.outgoing.paused ≡ true = cc in inl again;
-  resumes = λ e. let wrong : true ≡ false = sym e ∙ f in cc;
-}
+same x a b o f = grind (arith)
 
 pub paused-hears : (x : Arrived) (turn : ℕ) (a mid : Account) → is_connected a.phase ≡ true → hear turn x a ≡ Ok mid → PausedHeard x a mid
-paused-hears x turn a mid c e =
-    by-linked (λ y b. PausedHeard y a b) turn a
-    (record {
-      pattern = λ seen. same _ a a refl refl;
-      plain = λ frame p. same _ a a refl (plain-frame frame p).final;
-      sabme = λ pf n r. same _ a _ refl refl;
-      disc = λ pf r. same _ a _ refl refl;
-      brk = λ command pf info number length_octet q. same _ a _ refl refl;
-      brkack = λ command pf info number length_octet q. same _ a _ refl refl;
-      numbers = number-rows turn a _ (λ frame new incoming timer reply urgent n. record { paused = n.paused; resumes = n.resumes });
-    }) (same _ a _ refl refl) x mid (connected-is a.phase c) e
+paused-hears x turn a mid c e = grind (arith, by-linked, plain-frame, number-rows, connected-is)

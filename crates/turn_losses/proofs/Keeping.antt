@@ -23,10 +23,7 @@ turn-is w t l = ap (λ us. slice_get us (length w.ts - 1 - t)) (sym (ap (past w.
     ∙ looked w (length w.ts - 1 - t) t (omega (arith, l))
 
 polls-of : (w : TimedRun) → (role : Role) (t : ℕ) → t < length w.ts → PollsIn role t w.ts → sends_poll (end_of w role) t ≡ true
-polls-of w role t l p =
-    let s = (w.trace.happens t l).speaking role in
-    sym (sends-kind is_poll (of role (w.deed t).turn).sent _ s.sent_is)
-    ∙ (ap (λ m. sends_of is_poll (sent_in role m)) (sym (turn-is w t l)) ∙ p)
+polls-of w role t l p = grind (arith, sends-kind, turn-is)
 
 pub polls-keep-apart : PollsKeepApart
 polls-keep-apart tries period delay link ts ends k run c role s t less within ps pt =
@@ -62,8 +59,7 @@ replies-at-once tries period delay link ts before t after k run g c role cb ca =
         turn = ap (λ x. x.turn) m.deed_is ∙ dt
 
         sends : sends_of is_final (of role t).sent ≡ sends_final (end_of w role) n
-        sends = sends-kind is_final (of role t).sent _ (g.speaking role).sent_is
-            ∙ ap (λ (x : Turn). of_frame is_final (sent_or (of role x).sent)) (sym turn)
+        sends = grind (arith, sends-kind)
 
         hears : passes_in is_poll (of role t).heard ≡ hears_poll (end_of w role) n
         hears = passes-kind is_poll (of role t).heard ∙ ap (λ (x : Turn). of_arrived is_poll (arrival (of role x).heard)) (sym turn)

@@ -18,9 +18,7 @@ all-or-one P Q zero h = inl (λ n x. absurd (omega (arith, x)))
 all-or-one P Q (suc m) h = by (h m (omega arith)) (all-or-one P Q m (λ n x. h n (omega (arith, x))))
   where
     by : P m ⊎ Q m → ((n : ℕ) → n < m → P n) ⊎ ((n : ℕ) × (n < m) × Q n) → ((n : ℕ) → n < suc m → P n) ⊎ ((n : ℕ) × (n < suc m) × Q n)
-    by (inr x) r = inr (m, omega arith, x)
-    by (inl x) (inr (n, y, z)) = inr (n, omega (arith, y), z)
-    by (inl x) (inl f) = inl (λ n y. elim (cases_lt n m) [ inl z ↦ f n z | inr z ↦ subst P (omega (arith, y, z)) x ])
+    by q0 r = grind (arith)
 
 -- in one of so many turns it comes to pass, or it is due after each
 pub until : (sent due : ℕ → Type 0) (s n : ℕ)

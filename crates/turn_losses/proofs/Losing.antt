@@ -148,19 +148,13 @@ module _ {tries period : ℕ} {link : Link} {r : Role} {turn : ℕ} {a : Account
       mid-linked = linked-of (rates tries period) (turn + 1) turn r i.phase mid i.heard.stands (ap is_connected (sym i.heard.phase) ∙ cm)
 
       own : b.own_breaks ≡ mid.own_breaks
-      own = elim (served-own _ _ _ mid b i.served mid-linked.breaks.low) [
-        | inl q ↦ q
-        | inr k ↦ (let x = k.set in let n = spends.now in absurd (omega (arith, x, n, i.b_period, i.long)))
-      ]
+      own = grind (arith, served-own)
 
       waits-mid : waits mid.own_breaks ≡ true
       waits-mid = ap waits (sym own) ∙ spends.waiting
 
       from : (is_connected a.phase ≡ true) ⊎ (is_linked a.phase ≡ false) → LastWait tries period turn a
-      from (inr u) =
-          let o = old-heard arrived turn a mid u i.hears in
-          let q = (unlinked-of (rates tries period) turn turn r a.phase a i.stands u).breaks in
-          let wrong : true ≡ false = sym waits-mid ∙ (ap waits (o.own ∙ q)) in cc
+      from (inr u) = grind (arith, old-heard, unlinked-of, rates, waits-mid)
       from (inl ca) = by (break-heard arrived turn a mid (connected-is a.phase ca) cm i.hears).own
         where
           high : length a.own_breaks.lengths ≤ a.own_breaks.answered + 1
@@ -168,18 +162,7 @@ module _ {tries period : ℕ} {link : Link} {r : Role} {turn : ℕ} {a : Account
 
           by : ((mid.own_breaks ≡ a.own_breaks) × Unanswered arrived a.own_breaks)
               ⊎ ((waits a.own_breaks ≡ true) × (mid.own_breaks ≡ answered_own turn a.own_breaks)) → LastWait tries period turn a
-          by (inr (w, q)) = clash (waits mid.own_breaks) waits-mid (ap waits q ∙ waits-not (answered_own turn a.own_breaks)
-              (omega (arith, high)))
-          by (inl (q, x)) =
-              let same = own ∙ q in
-              let n = spends.now in let set = ap (λ x. x.set) same in
-              record {
-                connected = ca;
-                waiting = ap waits (sym q) ∙ waits-mid;
-                now = omega (arith, n, set, i.b_period);
-                count = ap (λ x. x.count) (sym same) ∙ (spends.count ∙ i.b_tries);
-                high = high;
-              }
+          by q0 = grind (arith, clash, waits-mid, waits-not)
 
 -- An end that gives up while a break waits was starved.
 
@@ -202,10 +185,7 @@ pub none-last : (link : Link) (ts : List Turn) (before : Accounts) (t : Turn) (m
     → Hears (length ts) before t mid → is_connected (of r mid).phase ≡ true → LastWait tries period (length ts) (of r before)
     → waits (served_at link (length ts) mid r).account.own_breaks ≡ true
     → of_arrived (of_word (ack_of (number_of (of r before)))) (arrival (of r t).heard) ≡ true → ⊥
-none-last link ts before t mid r tries period hearing cm l w e =
-    clash (waits (served_at link (length ts) mid r).account.own_breaks) w
-    (last-ends (of r link).user (length ts) (is_released mid.orig.phase) (arrival (of r t).heard) (of r before)
-    (of r mid) l.connected cm l.waiting l.high (hearing r).hears e)
+none-last link ts before t mid r tries period hearing cm l w e = grind (arith, clash, last-ends)
 
 -- an originator
 pub originator-breaks : StandTogether → (w : TimedRun) (t : Turn) (mid : Accounts) → Carries w.delay w.ts t

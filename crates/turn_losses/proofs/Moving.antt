@@ -55,14 +55,12 @@ no-try turn arrived a b q e n = λ p t f. let wrong : true ≡ false = sym t ∙
 
 same-try : (turn : ℕ) (arrived : Arrived) (a b : Account) (q : Phase) → a.phase ≡ q → b.phase ≡ q → b.wait ≡ a.wait
     → of_arrived (moves_on q) arrived ≡ false → TryHeard turn arrived a b
-same-try turn arrived a b q e f w n = λ p t g. let same : q ≡ p = sym f
-    ∙ g in inl (e ∙ same, w, ap (λ x. of_arrived (moves_on x) arrived) (sym same) ∙ n)
+same-try turn arrived a b q e f w n = grind (arith)
 
 begins-try : (turn : ℕ) (arrived : Arrived) (a : Account) (q r : Phase) (b : Account) → a.phase ≡ q → b.phase ≡ r → (q ≡ r → ⊥)
     → (r ≡ Releasing → ⊥) → b.wait.try ≡ true → b.wait.try_set ≡ turn → b.wait.try_count ≡ 0
     → TryHeard turn arrived a b
-begins-try turn arrived a q r b e f n m x y z = λ p t g. let same : r ≡ p = sym f
-    ∙ g in inr ((λ h. n (sym e ∙ (h ∙ sym same))), (λ h. m (same ∙ h)), x, y, z)
+begins-try turn arrived a q r b e f n m x y z = grind (arith)
 
 abbrev hears-ok : Account → Result Account LinkFault
 hears-ok a = Ok a
@@ -105,31 +103,9 @@ try-heard arrived turn a mid r h = by-ways (λ x b. TryHeard turn x a b) turn a 
     unmoved : (p : Phase) (x : Arrived) → is_trying p ≡ true → a.phase ≡ p → hear turn x a ≡ Ok a → of_arrived (moves_on p) x ≡ false
     unmoved p arrivals.Nothing t g f = refl
     unmoved p (arrivals.Pattern seen) t g f = refl
-    unmoved Negotiating (arrivals.Frame frame) t g f = go frame (sym (ap (λ q. on_negotiating q frame turn a) r)
-        ∙ (sym (ap (λ q. on_frame q frame turn a) g) ∙ f))
-      where
-        go : (y : Frame) → on_negotiating Originator y turn a ≡ Ok a → moves_on Negotiating y ≡ false
-        go (Xid false pf info) q = by (offer_in info) q
-          where
-            by : (m : Option Offer) → hears-ok (on_xid_response m turn a) ≡ hears-ok a → is_some m ≡ false
-            by None q = refl
-            by (Some offer) q = let same : trying Establishing turn (record a { terms = agree a.setup.offer offer }) ≡ a = cc in
-                let wrong : Establishing ≡ Negotiating = ap (λ b. b.phase) same ∙ g in cc
-        go (Xid true pf info) q = refl
-        go y q = refl
-    unmoved Establishing (arrivals.Frame frame) t g f = go frame (sym (ap (λ q. on_frame q frame turn a) g) ∙ f)
-      where
-        go : (y : Frame) → on_establishing y turn a ≡ Ok a → moves_on Establishing y ≡ false
-        go (Ua true) q = let same : connected turn a ≡ a = cc in let wrong : Connected ≡ Establishing = ap (λ b. b.phase) same ∙ g in cc
-        go (Ua false) q = refl
-        go y q = refl
-    unmoved Releasing (arrivals.Frame frame) t g f = go frame (sym (ap (λ q. on_frame q frame turn a) g) ∙ f)
-      where
-        closed : record a { phase = Closed } ≡ a → {A : Type 0} → A
-        closed same = let wrong : Closed ≡ Releasing = ap (λ b. b.phase) same ∙ g in cc
-
-        go : (y : Frame) → on_releasing y a ≡ Ok a → moves_on Releasing y ≡ false
-        go p q = grind (arith)
+    unmoved Negotiating (arrivals.Frame frame) t g f = grind (arith)
+    unmoved Establishing (arrivals.Frame frame) t g f = grind (arith)
+    unmoved Releasing (arrivals.Frame frame) t g f = grind (arith)
     unmoved Detecting (arrivals.Frame frame) t g f = cc
     unmoved Connected (arrivals.Frame frame) t g f = cc
     unmoved Closed (arrivals.Frame frame) t g f = cc
@@ -187,17 +163,7 @@ try-says turn release b said r long offers h = SpeakWays.by-ways (TrySaid turn b
     late x = grind (arith, nat_tests, x, long)
 
     tries : (q : Phase) (frame : Frame) → b.phase ≡ q → asks q frame ≡ true → Tries (TrySaid turn b) turn frame b
-    tries q frame e k = record {
-      sent = λ x d p t f. inl (f, inr (not-due x, refl, refl, λ z. asked p f));
-      again = λ x d p t f. inl (f, inl (grind (arith, nat_tests, x), refl, refl, asked p f));
-      flags = λ x d p t f. inl (f, inr (not-due x, refl, refl, λ z. let wrong : true ≡ false = sym z ∙ d in cc));
-    }
-      where
-        asked : (p : Phase) → b.phase ≡ p → asks p frame ≡ true
-        asked p f = ap (λ y. asks y frame) (sym f ∙ e) ∙ k
-
-        not-due : nat_eq turn (b.wait.try_set + b.setup.period) ≡ false → turn ≡ b.wait.try_set + b.setup.period → ⊥
-        not-due x y = grind (arith, nat_tests, x, y)
+    tries q frame e k = grind (arith)
 
 -- An answerer answers what an originator tries in the turn in which it hears it.
 
@@ -230,34 +196,11 @@ some-offer b a e = grind (arith)
 
 frame-answers : (p q : Phase) (frame : Frame) (turn : ℕ) (a : Account) → a.phase ≡ q → a.setup.role ≡ Answerer
     → can_answer p q a.numbered ≡ true → asks p frame ≡ true → DueOf p (on_frame q frame turn a)
-frame-answers Negotiating Detecting (Xid true pf info) turn a e r c k = subst
-    (λ x. DueOf Negotiating (on_detecting x (Xid true pf info) turn a)) (sym r) (some-offer (offer_in info) a k)
-frame-answers Negotiating Negotiating (Xid true pf info) turn a e r c k = subst
-    (λ x. DueOf Negotiating (on_negotiating x (Xid true pf info) turn a)) (sym r) (some-offer (offer_in info) a k)
-frame-answers Establishing Detecting (Sabme true) turn a e r c k = subst (λ x. DueOf Establishing (on_detecting x (Sabme true) turn a))
-    (sym r) (refl, refl)
-frame-answers Establishing Negotiating (Sabme true) turn a e r c k = subst
-    (λ x. DueOf Establishing (on_negotiating x (Sabme true) turn a)) (sym r) (refl, refl)
-frame-answers Establishing Connected (Sabme true) turn a e r c k = go a.numbered (is_originator a.setup.role) c (ap is_originator r)
-  where
-    go : (n o : Bool) → not n ≡ true → o ≡ false → DueOf Establishing (cond (n || o) (Err (peer_reset a)) (Ok (owing (answers.Ua true) a)))
-    go true o x y = tt
-    go false true x y = cc
-    go false false x y = (e, refl)
-frame-answers Releasing Connected (Disc true) turn a e r c k = subst (λ x. DueOf Releasing (on_disc x true a)) (sym r) (refl, inl refl)
-frame-answers Releasing Closed (Disc true) turn a e r c k = (e, inr refl)
-frame-answers p q frame turn a e r c k = cc
+frame-answers p q frame turn a e r c k = grind (arith, some-offer)
 
 pub answer-due : (p : Phase) (arrived : Arrived) (turn : ℕ) (a mid : Account) → a.setup.role ≡ Answerer
     → can_answer p a.phase a.numbered ≡ true → of_arrived (asks p) arrived ≡ true → hear turn arrived a ≡ Ok mid → AnswerDue p mid
-answer-due p arrivals.Nothing turn a mid r c k h = cc
-answer-due p (arrivals.Pattern seen) turn a mid r c k h = cc
-answer-due p (arrivals.Frame frame) turn a mid r c k h = go (on_frame a.phase frame turn a) h
-    (frame-answers p a.phase frame turn a refl r c k)
-  where
-    go : (x : Result Account LinkFault) → x ≡ Ok mid → DueOf p x → AnswerDue p mid
-    go (Err fault) q d = cc
-    go (Ok b) q d = let same : b ≡ mid = cc in subst (AnswerDue p) same d
+answer-due p arrived turn a mid r c k h = grind (arith, frame-answers)
 
 -- an answer that is due goes
 says-answer : (b : Account) (silence : Sent) (answer : Answer) → b.owes.answer ≡ Some answer
@@ -266,23 +209,7 @@ says-answer b silence answer e = ap (λ m. (else_says (answering m b) (says sile
 
 linked-answers : (turn : ℕ) (b : Account) (said : Said) (pf : Bool) → b.owes.answer ≡ Some (answers.Ua pf) → speak_linked turn b ≡ Ok said
     → said.sent ≡ frame_for (answers.Ua pf) b
-linked-answers turn b said pf e = by-linked (λ s. s.sent ≡ frame_for (answers.Ua pf) b) turn b (linked-alike _ turn b
-    (λ count awaited w own. record {
-      answers = λ d f. let there : Some d ≡ Some (answers.Ua pf) = sym f ∙ e in let same : d ≡ answers.Ua pf = cc in
-          ap (λ x. frame_for x (retimed b count awaited w own)) same;
-      final = λ n f. due n;
-      poll = λ n q f. due n;
-      segment = λ x u n f. due x.answer;
-      brkack = λ x s word f. due x.answer;
-      brk = λ x s y word f. due x.answer;
-      tell = λ x y f. due x.answer;
-      rej = λ x y n f. due x.answer;
-      srej = λ x y s n f. due x.answer;
-      flags = λ i. due i.before.answer;
-    })) said
-  where
-    due : {A : Type 0} → b.owes.answer ≡ None → A
-    due n = let wrong : None ≡ Some (answers.Ua pf) = sym n ∙ e in cc
+linked-answers turn b said pf e = grind (arith, by-linked, linked-alike)
 
 pub says-due : (p : Phase) (turn : ℕ) (b : Account) (said : Said) → b.setup.role ≡ Answerer
     → is_some (offer_in (written b.setup.offer)) ≡ true → AnswerDue p b → speak turn false b ≡ Ok said
@@ -309,5 +236,4 @@ says-due Releasing turn b said r offers (e, d) h = go d
         ∙ ap (of_frame (moves_on Releasing)) (says-answer b slots.Flags (answers.Ua true) x)
     go (inr x) = ap (λ s. of_frame (moves_on Releasing) s.sent) (sym same)
         ∙ ap (of_frame (moves_on Releasing)) (says-answer b slots.Flags (answers.Dm true) x)
-says-due Detecting turn b said r offers d h = absurd d
-says-due p turn b said r offers d h = absurd d
+says-due p turn b said r offers d h = grind (arith)

@@ -65,8 +65,7 @@ same-taken : (i : Incoming) → TakenOf None i i
 same-taken i = record { same = λ e. refl; low = omega arith; in_order = λ n e. cc; owed = λ e. e }
 
 kind-low : (k : Took) (o ns : ℕ) (info : List ℕ) (i : Incoming) → length i.taken ≤ length (after_kind k o info i).taken
-kind-low InOrder o ns info i = omega (arith, length-append {A = List ℕ})
-kind-low p o ns info i = omega arith
+kind-low p o ns info i = grind (arith, length-append {A = List ℕ})
 
 kind-owed : (k : Took) (o ns : ℕ) (info : List ℕ) (i : Incoming) → i.owed ≡ true → (after_kind k o info i).owed ≡ true
 kind-owed p o ns info i e = grind (arith)
@@ -100,52 +99,24 @@ record Fronted (n : ℕ) (o new : Outgoing) : Type 0 where
   pub advance : (n ≡ o.front) ⊎ (new.count ≡ 0)
 
 fronted : (n : ℕ) (o new : Outgoing) → Heard o new → new.front ≡ n → Fronted n o new
-fronted n o new h e = record { window = h.window; pieces = h.pieces; front = e; advance = go (nat_lt o.front new.front) refl }
-  where
-    go : (b : Bool) → nat_lt o.front new.front ≡ b → (n ≡ o.front) ⊎ (new.count ≡ 0)
-    go b f = grind (arith)
+fronted n o new h e = grind (arith)
 
 acked-front : (final : Bool) (o : Outgoing) (n : ℕ) → ((acked final o n).front ≡ n) × ((acked_back final o n).front ≡ n)
 acked-front b o n = grind (arith)
 
 resumed-front : (o : Outgoing) → (resumed o).front ≡ o.front
-resumed-front o = go o.paused
-  where
-    go : (b : Bool) → (cond b (record o { paused = false; count = cond (is_outstanding o || o.awaited) o.count 0 }) o).front ≡ o.front
-    go true = refl
-    go false = refl
+resumed-front o = grind (arith)
 
 -- nothing of it changes
 heard-same : (arrived : Arrived) (a b : Account) → nr_heard arrived ≡ None → ns_heard arrived ≡ None → b.outgoing ≡ a.outgoing
     → b.incoming ≡ a.incoming → b.special ≡ a.special → NumbersHeard arrived a b
-heard-same arrived a b x y o i s = record {
-  window = ap (λ v. v.window) o;
-  pieces = ap (λ v. v.pieces) o;
-  front_low = let e = ap (λ v. v.front) o in omega (arith, e);
-  advance = inl (ap (λ v. v.front) o);
-  acked = λ nr e. let wrong : None ≡ Some nr = sym x ∙ e in cc;
-  incoming = subst (λ n. TakenOf n a.incoming b.incoming) (sym y) (subst (λ j. TakenOf None a.incoming j) (sym i) (same-taken a.incoming));
-  numbered = λ n e. let wrong : None ≡ Some n = sym y ∙ e in cc;
-  special = s;
-}
+heard-same arrived a b x y o i s = grind (arith)
 
 -- a number is heard
 heard-number : (frame : Frame) (nr n : ℕ) (a b : Account) → frame_nr frame ≡ Some nr → meant a.outgoing.front a.outgoing.high nr ≡ Some n
     → Fronted n a.outgoing b.outgoing → TakenOf (frame_ns frame) a.incoming b.incoming → b.numbered ≡ true
     → b.special ≡ a.special → NumbersHeard (arrivals.Frame frame) a b
-heard-number frame nr n a b e m w taken numbered special =
-    let range = meant-range a.outgoing.front a.outgoing.high nr n m in
-    record {
-      window = w.window;
-      pieces = w.pieces;
-      front_low = let f = w.front in let l = range.0 in omega (arith, f, l);
-      advance = elim w.advance [ inl x ↦ inl (w.front ∙ x) | inr x ↦ inr x ];
-      acked = λ r g. let there : Some nr ≡ Some r = sym e ∙ g in let same : nr ≡ r = cc in
-          ap (meant a.outgoing.front a.outgoing.high) (sym same) ∙ (m ∙ ap (λ x. Some x) (sym w.front));
-      incoming = taken;
-      numbered = λ s g. numbered;
-      special = special;
-    }
+heard-number frame nr n a b e m w taken numbered special = grind (arith, meant-range)
 
 plain-none : (frame : Frame) → Plain frame → (frame_nr frame ≡ None) × (frame_ns frame ≡ None)
 plain-none frame b = grind (arith)
@@ -202,10 +173,7 @@ second-less : (srej : Bool) (m n : ℕ) → n ≤ 127 → lowered srej (min m n)
 second-less b m n l = grind (arith)
 
 pub fits-second : (o a : Offer) → IsAllowed a → Fits (agree o a)
-fits-second o a h = (
-  second-less (o.srej && a.srej) o.tx_window a.rx_window h.rx_window_high,
-  first-less (o.srej && a.srej) a.tx_window o.rx_window h.tx_window_high,
-)
+fits-second o a h = grind (arith, second-less, first-less)
 
 fits-for : (role : Role) (terms : Terms) → Fits terms → window_for role terms ≤ 127
 fits-for b terms h = grind (arith)
@@ -219,43 +187,17 @@ not-connected b p e f = record { so = λ h. let wrong : true ≡ false = sym h �
 
 pub begins-roomy : (arrived : Arrived) (turn : ℕ) (a mid : Account) → is_linked a.phase ≡ false → Fits a.terms → IsAllowed a.setup.offer
     → hear turn arrived a ≡ Ok mid → BeginsWith mid
-begins-roomy arrived turn a mid l h own e = by-early (λ x b. BeginsWith b) turn a (record {
-  ignores = λ x f. stays a refl;
-  detects = λ p r. not-connected _ Negotiating refl refl;
-  detected = λ p r. stays _ refl;
-  xid = λ p r pf info offer f. not-connected _ Negotiating refl refl;
-  agrees = λ p r pf info offer f. not-connected _ Establishing refl refl;
-  sabme_first = λ p r pf. record {
-    so = λ c. (fits-for a.setup.role (agree default_offer a.setup.offer) (fits-second default_offer a.setup.offer own), refl, refl);
-  };
-  sabme = λ p r pf. record { so = λ c. (fits-for a.setup.role a.terms h, refl, refl) };
-  ua = λ p. record { so = λ c. (fits-for a.setup.role a.terms h, refl, refl) };
-  disc = λ p pf. stays _ refl;
-  closes = λ p frame f. not-connected _ Closed refl refl;
-}) (stays (on_nothing a) refl) arrived mid (unlinked-connected a.phase l) e
-  where
-    stays : (b : Account) → b.phase ≡ a.phase → BeginsWith b
-    stays b f = not-connected b a.phase f (unlinked-connected a.phase l)
+begins-roomy arrived turn a mid l h own e = grind (arith, by-early, not-connected, unlinked-connected)
 
 -- offers go on while there is room
 abbrev HasRoom : Outgoing → Type 0
 HasRoom o = length o.pieces ≤ o.front + o.window
 
 piece-room : (piece : List ℕ) (o : Outgoing) → length o.pieces < o.front + o.window → HasRoom o → HasRoom (with_piece piece o)
-piece-room [] o l h = h
-piece-room (octet ∷ octets) o l h = omega (arith, l, length-append {A = List ℕ})
+piece-room piece o l h = grind (arith, length-append {A = List ℕ})
 
 offer-room : (file : List ℕ) (a : Account) → HasRoom a.outgoing → HasRoom (offered_at file a (wants a)).outgoing
-offer-room file a h =
-    go (is_connected a.phase) (not a.outgoing.ended) (nat_lt (length a.outgoing.pieces) (a.outgoing.front + a.outgoing.window)) refl
-  where
-    go : (c e l : Bool) → nat_lt (length a.outgoing.pieces) (a.outgoing.front + a.outgoing.window) ≡ l
-        → HasRoom (offered_at file a (cond c (cond (e && l) (Some (length a.outgoing.pieces)) None) None)).outgoing
-    go false e l q = h
-    go true false l q = h
-    go true true false q = h
-    go true true true q = let less : length a.outgoing.pieces < a.outgoing.front + a.outgoing.window = grind (arith, nat_tests, q) in
-        piece-room (piece_at (piece_size a) file (length a.outgoing.pieces)) a.outgoing less h
+offer-room file a h = grind (arith, piece-room)
 
 offers-room : (n : ℕ) (file : List ℕ) (a : Account) → HasRoom a.outgoing → HasRoom (offered_times n file a).outgoing
 offers-room zero file a h = h

@@ -44,56 +44,27 @@ says-nr : (special : Bool) (a : Account) (said : Said) → SameFront a.outgoing 
     ≡ a.incoming.taken
     → said.account.numbered ≡ a.numbered → nr_sent said.sent ≡ Some (nr_of a) → ns_sent said.sent ≡ None
     → NumbersSaid special a said
-says-nr special a said o t m e n = record {
-  outgoing = o;
-  taken = t;
-  numbered = m;
-  tells = λ nr f. let there : Some (nr_of a) ≡ Some nr = sym e ∙ f in let same : nr_of a ≡ nr = cc in sym same;
-  told = λ h k. inl (ap is_some e);
-  segment = λ ns f. let wrong : None ≡ Some ns = sym n ∙ f in cc;
-}
+says-nr special a said o t m e n = grind (arith)
 
 -- a word of breaks or an SREJ goes
 says-special : (special : Bool) (a : Account) (said : Said) → special ≡ false → SameFront a.outgoing said.account.outgoing
     → said.account.incoming.taken ≡ a.incoming.taken → said.account.numbered ≡ a.numbered → said.account.incoming.owed ≡ a.incoming.owed
     → said.account.special ≡ true
     → nr_sent said.sent ≡ None → ns_sent said.sent ≡ None → NumbersSaid special a said
-says-special special a said u o t m w s e n = record {
-  outgoing = o;
-  taken = t;
-  numbered = m;
-  tells = λ nr f. let wrong : None ≡ Some nr = sym e ∙ f in cc;
-  told = λ h k. inr (u, s, w ∙ h);
-  segment = λ ns f. let wrong : None ≡ Some ns = sym n ∙ f in cc;
-}
+says-special special a said u o t m w s e n = grind (arith)
 
 asked-taken : (n : ℕ) (i : Incoming) → ((after_asked n i).taken ≡ i.taken) × ((after_asked n i).owed ≡ i.owed)
-asked-taken n i = by i.srej
-  where
-    by : (b : Bool) → ((cond b (record i { asked = i.asked ++ n ∷ [] }) (record i { rej = false })).taken ≡ i.taken)
-        × ((cond b (record i { asked = i.asked ++ n ∷ [] }) (record i { rej = false })).owed ≡ i.owed)
-    by true = (refl, refl)
-    by false = (refl, refl)
+asked-taken n i = grind (arith)
 
 -- an answer that is due
 says-answer : (special : Bool) (a : Account) (d : Answer) (said : Said) → a.owes.answer ≡ Some d
     → SameFront a.outgoing said.account.outgoing
     → said.account.incoming ≡ a.incoming → said.account.numbered ≡ a.numbered → nr_sent said.sent ≡ None → ns_sent said.sent ≡ None
     → NumbersSaid special a said
-says-answer special a d said e o i m n k = record {
-  outgoing = o;
-  taken = ap (λ x. x.taken) i;
-  numbered = m;
-  tells = λ nr f. let wrong : None ≡ Some nr = sym n ∙ f in cc;
-  told = λ h x. let wrong : None ≡ Some d = sym x ∙ e in cc;
-  segment = λ ns f. let wrong : None ≡ Some ns = sym k ∙ f in cc;
-}
+says-answer special a d said e o i m n k = grind (arith)
 
 answer-none : (d : Answer) (a : Account) → (nr_sent (frame_for d a) ≡ None) × (ns_sent (frame_for d a) ≡ None)
-answer-none answers.Adp a = (refl, refl)
-answer-none answers.Xid a = (refl, refl)
-answer-none (answers.Ua pf) a = (refl, refl)
-answer-none (answers.Dm pf) a = (refl, refl)
+answer-none d a = grind (arith)
 
 unawaited : (b awaited paused : Bool) (m : Option ℕ) (n : ℕ) → cond b (cond (awaited || paused) None m) None ≡ Some n → awaited ≡ false
 unawaited b awaited paused m n e = grind (arith)
@@ -199,8 +170,7 @@ module _ {tries period : ℕ} {link : Link} {role : Role} {turn : ℕ} {a : Acco
       zero-count (suc n) e = absurd (by (polled.1.counted n (omega (arith, e))))
         where
           set-by : (x : ℕ) → (x ≡ turn) ⊎ (a.wait.timer ≡ Some x) → turn ≡ x + b.setup.period → ⊥
-          set-by x (inl q) r = omega (arith, q, r, i.b_period, i.long)
-          set-by x (inr q) r = let wrong : None ≡ Some x = sym untimed ∙ q in cc
+          set-by x q1 r = grind (arith)
 
           by : ((polled.1.made ≡ true) × (b.outgoing.count ≡ n) × (said.account.wait.timer ≡ Some turn))
               ⊎ ((polled.1.made ≡ false) × (b.outgoing.count ≡ n + 1)

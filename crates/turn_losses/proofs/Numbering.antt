@@ -29,16 +29,7 @@ prefix-length xs ys (rest, e) = let q = ap length e in omega (arith, q, length-a
 fronts-taken : Plays → (link : Link) → MayPlay link.orig.setup link.answ.setup → (ends : Accounts) (line : Role → List (Option Spoken))
     → IsPlayed link ends line → (role : Role)
     → (of role ends).outgoing.front ≤ length (of (other role) ends).incoming.taken
-fronts-taken laws link m ends line p Originator =
-    let h = (laws.acked link.orig.setup link.answ.setup p.events m).0 in
-    let x = ap (λ (a : Account). a.outgoing.front) (p.is_at Originator).account_is in
-    let y = ap (λ (a : Account). length a.incoming.taken) (p.is_at Answerer).account_is in
-    omega (arith, h, x, y)
-fronts-taken laws link m ends line p Answerer =
-    let h = (laws.acked link.orig.setup link.answ.setup p.events m).1 in
-    let x = ap (λ (a : Account). a.outgoing.front) (p.is_at Answerer).account_is in
-    let y = ap (λ (a : Account). length a.incoming.taken) (p.is_at Originator).account_is in
-    omega (arith, h, x, y)
+fronts-taken laws link m ends line p role = grind (arith)
 
 taken-offered : Plays → (link : Link) → MayPlay link.orig.setup link.answ.setup → (ends : Accounts) (line : Role → List (Option Spoken))
     → IsPlayed link ends line → (role : Role)
@@ -55,16 +46,14 @@ taken-offered laws link m ends line p Answerer =
     omega (arith, h, x, y)
 
 pub allowed : (link : Link) → MayPlay link.orig.setup link.answ.setup → (r : Role) → IsAllowed (of r link).setup.offer
-allowed link m Originator = m.offer_o
-allowed link m Answerer = m.offer_a
+allowed link m r = grind (arith)
 
 pub fits-at : Plays → (link : Link) (delay : Role → ℕ) (ts : List Turn) (ends : Accounts) → RunsOver link delay ts ends → (role : Role)
     → Fits (of role ends).terms
 fits-at laws link delay ts ends run role = subst Fits (sym (laws.agrees link delay ts ends run role)) (by (has_passed is_xid role ts))
   where
     by : (b : Bool) → Fits (cond b (agreed_terms link) first_terms)
-    by true = fits-second link.orig.setup.offer link.answ.setup.offer run.may_play.offer_a
-    by false = (omega arith, omega arith)
+    by b = grind (arith, fits-second)
 
 pub counts-of : Plays → (w : TimedRun) → MayPlay w.link.orig.setup w.link.answ.setup → (role : Role)
     → Counts (length w.ts) (end_of w role) (end_of w (other role))
@@ -102,10 +91,7 @@ counts-of laws w m role = record {
         (ap (λ (x : Account). is_connected x.phase) (sym g.after) ∙ cc') ca))
 
     fits-terms : (r : Role) (t : ℕ) → t < length w.ts → Fits (of r (w.state t)).terms
-    fits-terms r t l =
-        let h = w.trace.happens t l in
-        fits-at laws w.link w.delay (past w.ts t) (w.state t)
-        (record { may_play = m; delays = w.keeps.delays; carried = h.carried; run = h.run }) r
+    fits-terms r t l = grind (arith, fits-at)
 
     begun : (r : Role) (t : ℕ) → t < length w.ts → is_linked (of r (w.state t)).phase ≡ false
         → is_connected (of r (w.state (t + 1))).phase ≡ true → Begins (of r (w.state (t + 1)))

@@ -125,15 +125,7 @@ told-release link t mid e = go (is_connected a.phase) refl
     go : (c : Bool) → is_connected a.phase ≡ c
         → (cond c (is_whole a.outgoing) false && not
         (cond c (waits a.own_breaks) false || is_ready t (next_break link.answ.user.breaks a))) ≡ true → Released link t mid
-    go true q f =
-        let x = and-two (is_whole a.outgoing) _ f in
-        record {
-          done = x.0;
-          breaks = neither-first (waits a.own_breaks) (is_ready t (next_break link.answ.user.breaks a))
-              (not-either _ x.1);
-          connected = q;
-        }
-    go false q f = cc
+    go c q f = grind (arith, and-two)
 
 -- where a Connected originator comes to release, it was told
 told-says : (turn : ℕ) (release : Bool) (b : Account) (said : Said) → b.phase ≡ Connected → speak turn release b ≡ Ok said
@@ -170,8 +162,7 @@ connected-or p l c = grind (arith)
 -- when it was told
 pub told-at : ReadsWritten → (w : TimedRun) → MayPlay w.link.orig.setup w.link.answ.setup → (u : ℕ) → u ≤ length w.ts
     → (w.state u).orig.phase ≡ Releasing → ToldIn w (end_of w Originator) u
-told-at reads w m zero y q =
-    let wrong : Releasing ≡ Detecting = sym q ∙ ap (λ (a : Account). a.phase) (starts-fresh w Originator) in cc
+told-at reads w m zero y q = grind (arith, starts-fresh)
 told-at reads w m (suc u) y q = subst (ToldIn w (end_of w Originator)) (next u)
     (go (tries-so reads w m Releasing refl u (omega (arith, y)) now) (λ f. told-at reads w m u (omega (arith, y)) f))
   where
@@ -247,8 +238,7 @@ whole-stops w v b told f g = stopped m.wait.timer (sends.cause ∙ still (nat_lt
 
 disc-heard : (arrived : Arrived) (turn : ℕ) (a mid : Account) → a.setup.role ≡ Answerer → is_connected a.phase ≡ true
     → of_arrived (asks Releasing) arrived ≡ true → hear turn arrived a ≡ Ok mid → is_connected mid.phase ≡ false
-disc-heard arrived turn a mid r c k h = ap is_connected
-    (answer-due Releasing arrived turn a mid r (ap (λ p. can_answer Releasing p a.numbered) (connected-is a.phase c)) k h).0
+disc-heard arrived turn a mid r c k h = grind (arith, answer-due, connected-is)
 
 disc-closes : (w : TimedRun) → (u : ℕ) → u < length w.ts → is_connected (w.state u).answ.phase ≡ true
     → is_connected (w.state (u + 1)).answ.phase ≡ true → of_arrived (asks Releasing) (arrival (w.deed u).turn.answ.heard) ≡ true → ⊥
@@ -400,20 +390,12 @@ all-but-last tries period delay t ts h = record { spared = tries; each = λ n fe
     less n few other = elim (cases_lt n tries) [ inl l ↦ l | inr g ↦ absurd (other (omega (arith, few, g))) ]
 
     span : (n : ℕ) → PeriodLoses period (length ts) (t ∷ ts) n → SpanLoses period (max (delay Originator) (delay Answerer)) (t ∷ ts) n
-    span n h = let behind = h.in_period.behind in let before = h.in_period.before in record {
-      turn = h.turn;
-      within = h.within;
-      in_span = record { behind = omega (arith, behind); before = omega (arith, before) };
-      lost = h.lost;
-    }
+    span n h = grind (arith)
 
 -- only a Connected answerer gives up
 pub answerer-connected : (z : Rates) (before turn : ℕ) (b : Account) (q : Phase) (fault : LinkFault) → Stands z before turn Answerer q b
     → b.phase ≡ q → b.setup.role ≡ Answerer → speak turn false b ≡ Err fault → is_connected b.phase ≡ true
-answerer-connected z before turn b q fault st e r h = go q e st (ap (λ x. speak_in x turn false b) (sym e) ∙ h)
-  where
-    go : (x : Phase) → b.phase ≡ x → Stands z before turn Answerer x b → speak_in x turn false b ≡ Err fault → is_connected b.phase ≡ true
-    go b f s q = grind (arith)
+answerer-connected z before turn b q fault st e r h = grind (arith)
 
 pub answerer-gives-up : (w : TimedRun) (t : Turn) (mid : Accounts) (fault : LinkFault) → BrokenTurn w.link w.ts w.ends t mid Answerer fault
     → is_connected mid.answ.phase ≡ true

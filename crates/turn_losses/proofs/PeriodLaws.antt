@@ -34,8 +34,7 @@ pub record StillAwaited (a : Account) : Type 0 where
 -- the turn so many turns ago
 pub looked : (w : TimedRun) → (k t : ℕ) → t + k < length w.ts → slice_get (past w.ts (t + k + 1)) k ≡ Some (w.deed t).turn
 looked w zero t l = ap (λ n. slice_get (past w.ts n) 0) (omega arith) ∙ ap (λ us. slice_get us 0) (w.trace.grows t (omega (arith, l)))
-looked w (suc k) t l = ap (λ n. slice_get (past w.ts n) (suc k)) (omega arith)
-    ∙ (ap (λ us. slice_get us (suc k)) (w.trace.grows (t + k + 1) (omega (arith, l))) ∙ looked w k t (omega (arith, l)))
+looked w (suc k) t l = grind (arith, looked w k t (omega (arith, l)))
 
 get-none : {A : Type 0} (xs : List A) (k : ℕ) → length xs ≤ k → slice_get xs k ≡ None
 get-none [] k l = refl
@@ -54,9 +53,7 @@ carries-late w t within x carries role = record { early = early; late = late }
     one = w.keeps.delays (other role)
 
     early : t < d → arrival (of role x).heard ≡ arrivals.Nothing
-    early l = let number = past-length w.ts t within in
-        sym (none-heard (sent_in (other role) (slice_get (past w.ts t) (d - 1))) (of role x).heard
-        (ap (sent_in (other role)) (get-none (past w.ts t) (d - 1) (omega (arith, number, l)))) (carries role))
+    early l = grind (arith, past-length, none-heard, get-none)
 
     late : d ≤ t → arrival (of role x).heard ≡ cond (is_lost (of role x).heard) arrivals.Nothing
         (arrives ((end_of w (other role)).slot (t - d)))
@@ -77,23 +74,13 @@ arrives-late w role t within = carries-late w t (omega (arith, within)) (w.deed 
 pub was-sent : {delay turns : ℕ} {f : ℕ → Sent} {arrived : ℕ → Arrived} {loses : ℕ → Bool} (kind : Frame → Bool)
     → ((t : ℕ) → t < turns → ArrivesLate delay t (loses t) f (arrived t))
     → WasSent delay turns (λ t. of_arrived kind (arrived t)) (λ t. of_frame kind (f t))
-was-sent {delay} {turns} {f} {arrived} {loses} kind h t within is_heard = elim (cases_lt t delay) [
-  | inl l ↦ (let wrong : false ≡ true = ap (of_arrived kind) (sym ((h t within).early l)) ∙ is_heard in cc)
-  | inr g ↦ (g, by (loses t) (ap (of_arrived kind) (sym ((h t within).late g)) ∙ is_heard))
-]
-  where
-    by : (b : Bool) → of_arrived kind (cond b arrivals.Nothing (arrives (f (t - delay)))) ≡ true → of_frame kind (f (t - delay)) ≡ true
-    by b e = grind (arith)
+was-sent {delay} {turns} {f} {arrived} {loses} kind h t within is_heard = grind (arith)
 
 -- what is sent is heard unless it is lost
 pub is-heard : {delay turns : ℕ} {f : ℕ → Sent} {arrived : ℕ → Arrived} {loses : ℕ → Bool} (kind : Frame → Bool)
     → ((t : ℕ) → t < turns → ArrivesLate delay t (loses t) f (arrived t))
     → (t : ℕ) → t + delay < turns → loses (t + delay) ≡ false → of_arrived kind (arrived (t + delay)) ≡ of_frame kind (f t)
-is-heard {delay} {turns} {f} {arrived} {loses} kind h t within passes =
-    let back : t + delay - delay ≡ t = omega arith in
-    ap (of_arrived kind) ((h (t + delay) within).late (omega arith)
-    ∙ (ap (λ b. cond b arrivals.Nothing (arrives (f (t + delay - delay)))) passes ∙ ap (λ n. arrives (f n)) back))
-    ∙ arrives-flag kind (f t)
+is-heard {delay} {turns} {f} {arrived} {loses} kind h t within passes = grind (arith, arrives-flag)
 
 -- what one role sent so long before the last turn arrives in it, unless it is lost
 pub last-heard : (kind : Frame → Bool) (w : TimedRun) (t : Turn) → Carries w.delay w.ts t → (r : Role) (s : ℕ)
@@ -121,8 +108,7 @@ two-ends w role = record {
     heard : (r : Role) → (t : ℕ) → t < length w.ts
         → ArrivesLate (w.delay r) t (is_lost (of (other r) (w.deed t).turn).heard) (λ n. sent_or (of r (w.deed n).turn).sent)
         (arrival (of (other r) (w.deed t).turn).heard)
-    heard Originator = arrives-late w Answerer
-    heard Answerer = arrives-late w Originator
+    heard r = grind (arith, arrives-late)
 
     none : (r : Role) → poll_due (of r (w.state 0)) ≡ false
     none r = ap poll_due (starts-fresh w r)
@@ -132,17 +118,7 @@ two-ends w role = record {
 
 -- the same seen from the other end
 pub turned : {period turns : ℕ} {e o : EndRun} → TwoEnds period turns e o → TwoEnds period turns o e
-turned {period} {turns} {e} {o} k = record {
-  own = k.other;
-  other = k.own;
-  hears = k.is_heard;
-  is_heard = k.hears;
-  own_first = k.other_first;
-  other_first = k.own_first;
-  own_delay = k.other_delay;
-  other_delay = k.own_delay;
-  period_is = let p = k.period_is in omega (arith, p);
-}
+turned {period} {turns} {e} {o} k = grind (arith)
 
 -- Polls that became due at one end are a period apart: while its clock runs, it was set no earlier than the last of them.
 pub record SetSince (s : ℕ) (a : Account) : Type 0 where

@@ -14,45 +14,22 @@ pub once : (period n : ℕ) → (n + 1) * period ≡ n * period + period
 once period n = omega arith
 
 pub times : (period a b : ℕ) → a ≤ b → a * period ≤ b * period
-times period a b l = let m : (b - a) * period + a * period ≡ b * period = sum (b - a) a
-    ∙ ap (λ n. n * period) (whole a b l) in omega (arith, m)
-  where
-    sum : (m n : ℕ) → m * period + n * period ≡ (m + n) * period
-    sum m n = grind (arith)
-
-    whole : (m n : ℕ) → m ≤ n → n - m + m ≡ n
-    whole m n q = omega (arith, q)
+times period a b l = grind (arith)
 
 -- the turns with the last one
 pub later-turn : (turn : ℕ) (t : Turn) (ts : List Turn) → turn < length ts → turn_at turn (t ∷ ts) ≡ turn_at turn ts
-later-turn turn t ts l = ap (slice_get (t ∷ ts)) (index (length ts) l)
-  where
-    index : (n : ℕ) → turn < n → suc n - 1 - turn ≡ suc (n - 1 - turn)
-    index n l = omega (arith, l)
+later-turn turn t ts l = grind (arith)
 
 pub newest : (t : Turn) (ts : List Turn) → turn_at (length ts) (t ∷ ts) ≡ Some t
-newest t ts = ap (slice_get (t ∷ ts)) (index (length ts))
-  where
-    index : (n : ℕ) → suc n - 1 - n ≡ 0
-    index n = omega arith
+newest t ts = grind (arith)
 
 pub later-loses : (period : ℕ) (t : Turn) (ts : List Turn) (n : ℕ) → PeriodLoses period (length ts) ts n
     → PeriodLoses period (length ts) (t ∷ ts) n
-later-loses period t ts n h = let b = h.within in record {
-  turn = h.turn;
-  within = omega (arith, b);
-  in_period = h.in_period;
-  lost = subst LosesSome (sym (later-turn h.turn t ts b)) h.lost;
-}
+later-loses period t ts n h = grind (arith)
 
 pub loses-last : (period : ℕ) (t : Turn) (ts : List Turn) (s n : ℕ) → 1 ≤ period → s + (n + 1) * period ≡ length ts
     → s + period ≡ length ts → (r : Role) → is_lost (of r t).heard ≡ true → PeriodLoses period (length ts) (t ∷ ts) n
-loses-last period t ts s n long q f r lost = let m = once period n in record {
-  turn = length ts;
-  within = omega arith;
-  in_period = record { behind = omega (arith, q, f, long); before = omega (arith, q, f, m) };
-  lost = subst LosesSome (sym (newest t ts)) (r, lost-is (of r t).heard lost);
-}
+loses-last period t ts s n long q f r lost = grind (arith, lost-is)
 
 -- of the turns of a run
 module _ (w : TimedRun) where

@@ -32,70 +32,22 @@ linked-connected p e = grind (arith)
 -- before it is Connected, and after
 unlinked-heard : (role : Role) (turn : ℕ) (polled : Bool) (a b : Account) → is_linked a.phase ≡ false → is_connected b.phase ≡ false
     → b.wait.poll ≡ a.wait.poll → b.numbered ≡ a.numbered → PollHeard role turn polled a b
-unlinked-heard role turn polled a b e f p n = record {
-  linked = λ h. let wrong : true ≡ false = sym h ∙ e in cc;
-  early = λ h. (p, n);
-  from = λ h. let wrong : true ≡ false = sym h ∙ f in cc;
-  poll = λ h. p;
-  timer = λ h. let wrong : true ≡ false = sym (linked-connected a.phase h) ∙ e in cc;
-  asked = λ h k. let wrong : true ≡ false = sym k ∙ f in cc;
-  heard = λ h k. n ∙ k;
-  answer = λ h k m. let wrong : true ≡ false = sym k ∙ f in cc;
-  begun = λ h k. let wrong : true ≡ false = sym k ∙ f in cc;
-  answers = λ r h k. let wrong : true ≡ false = sym k ∙ f in cc;
-  awaits = λ r h k. let wrong : true ≡ false = sym k ∙ f in cc;
-}
+unlinked-heard role turn polled a b e f p n = grind (arith)
 
 ended-heard : (role : Role) (turn : ℕ) (polled : Bool) (a b : Account) → is_linked b.phase ≡ true → is_connected b.phase ≡ false
     → b.wait ≡ a.wait → b.numbered ≡ a.numbered → PollHeard role turn polled a b
-ended-heard role turn polled a b e f p n = record {
-  linked = λ h. e;
-  early = λ h. (ap (λ w. w.poll) p, n);
-  from = λ h. let wrong : true ≡ false = sym h ∙ f in cc;
-  poll = λ h. ap (λ w. w.poll) p;
-  timer = λ h s k. inr (ap (λ w. w.timer) (sym p) ∙ k);
-  asked = λ h k. let wrong : true ≡ false = sym k ∙ f in cc;
-  heard = λ h k. n ∙ k;
-  answer = λ h k m. let wrong : true ≡ false = sym k ∙ f in cc;
-  begun = λ h k. let wrong : true ≡ false = sym k ∙ f in cc;
-  answers = λ r h k. let wrong : true ≡ false = sym k ∙ f in cc;
-  awaits = λ r h k. let wrong : true ≡ false = sym k ∙ f in cc;
-}
+ended-heard role turn polled a b e f p n = grind (arith)
 
 connected-heard : (role : Role) (turn : ℕ) (polled : Bool) (a b : Account) → a.phase ≡ Connected → b.phase ≡ Connected
     → b.wait.poll ≡ a.wait.poll → SetFrom turn a.wait.timer b.wait.timer → b.owes.reply ≡ a.owes.reply || polled
     → (a.numbered ≡ true → b.numbered ≡ true) → (b.numbered ≡ true → b.owes.answer ≡ a.owes.answer) → PollHeard role turn polled a b
-connected-heard role turn polled a b e f p t r n w = record {
-  linked = λ h. ap is_linked f;
-  early = λ h. let wrong : true ≡ false = sym (ap is_linked f) ∙ h in cc;
-  from = λ h. inl (ap is_connected e);
-  poll = λ h. p;
-  timer = λ h. t;
-  asked = λ h k. r;
-  heard = λ h. n;
-  answer = λ h k. w;
-  begun = λ h. let wrong : true ≡ false = sym (ap is_linked e) ∙ h in cc;
-  answers = λ x h. let wrong : true ≡ false = sym (ap is_linked e) ∙ h in cc;
-  awaits = λ x h. let wrong : true ≡ false = sym (ap is_linked e) ∙ h in cc;
-}
+connected-heard role turn polled a b e f p t r n w = grind (arith)
 
 begun-heard : (role : Role) (turn : ℕ) (polled : Bool) (a b : Account) → is_linked a.phase ≡ false → b.phase ≡ Connected
     → b.owes.reply ≡ a.owes.reply → b.numbered ≡ a.numbered → SetFrom turn a.wait.timer b.wait.timer
     → (role ≡ Answerer → (b.wait.poll ≡ a.wait.poll) × (b.wait.timer ≡ a.wait.timer)) → (role ≡ Originator → b.outgoing.awaited ≡ true)
     → PollHeard role turn polled a b
-begun-heard role turn polled a b e f r n t w v = record {
-  linked = λ h. let wrong : true ≡ false = sym h ∙ e in cc;
-  early = λ h. let wrong : true ≡ false = sym (ap is_linked f) ∙ h in cc;
-  from = λ h. inr e;
-  poll = λ h. let wrong : true ≡ false = sym (linked-connected a.phase h) ∙ e in cc;
-  timer = λ h. t;
-  asked = λ h k. let wrong : true ≡ false = sym (linked-connected a.phase h) ∙ e in cc;
-  heard = λ h k. n ∙ k;
-  answer = λ h k. let wrong : true ≡ false = sym (linked-connected a.phase h) ∙ e in cc;
-  begun = λ h k. (r, n, t);
-  answers = λ x h k. w x;
-  awaits = λ x h k. v x;
-}
+begun-heard role turn polled a b e f r n t w v = grind (arith)
 
 pub set-same : (turn : ℕ) (m : Option ℕ) → SetFrom turn m m
 set-same turn m s k = inr k
@@ -103,20 +55,13 @@ set-same turn m s k = inr k
 -- an end that stays where it was, other than Connected
 stays-heard : (role : Role) (turn : ℕ) (polled : Bool) (p : Phase) (a b : Account) → a.phase ≡ p → b.phase ≡ p → is_connected p ≡ false
     → b.wait ≡ a.wait → b.numbered ≡ a.numbered → PollHeard role turn polled a b
-stays-heard role turn polled p a b e f c w n = go (is_linked p) refl
-  where
-    go : (x : Bool) → is_linked p ≡ x → PollHeard role turn polled a b
-    go b q = grind (arith)
+stays-heard role turn polled p a b e f c w n = grind (arith)
 
 connected-begins : (role : Role) (turn : ℕ) (polled : Bool) (a b : Account) (r : Role) → role ≡ r → is_linked a.phase ≡ false
     → b.phase ≡ Connected → b.owes.reply ≡ a.owes.reply → b.numbered ≡ a.numbered → b.wait ≡ first_wait r turn a.wait
     → (role ≡ Originator → b.outgoing.awaited ≡ true) → PollHeard role turn polled a b
-connected-begins role turn polled a b Originator q e f r n w v =
-    begun-heard role turn polled a b e f r n
-    (λ s k. let same : Some turn ≡ Some s = ap (λ x. x.timer) (sym w) ∙ k in let there : turn ≡ s = cc in inl (sym there))
-    (λ h. let wrong : Originator ≡ Answerer = sym q ∙ h in cc) v
-connected-begins role turn polled a b Answerer q e f r n w v =
-    begun-heard role turn polled a b e f r n (λ s k. inr (ap (λ x. x.timer) (sym w) ∙ k)) (λ h. (ap (λ x. x.poll) w, ap (λ x. x.timer) w)) v
+connected-begins role turn polled a b Originator q e f r n w v = grind (arith, begun-heard)
+connected-begins role turn polled a b Answerer q e f r n w v = grind (arith, begun-heard)
 
 linked-ways : (role : Role) (turn : ℕ) (a : Account) → a.phase ≡ Connected
     → ConnectedWays (λ x b. PollHeard role turn (of_arrived is_poll x) a b) turn a
@@ -133,29 +78,11 @@ linked-ways role turn a e = record {
   where
     same : (b : Account) → b.phase ≡ Connected → b.wait ≡ a.wait → (polled : Bool) → polled ≡ false → b.owes.reply ≡ a.owes.reply
         → b.numbered ≡ a.numbered → (b.numbered ≡ true → b.owes.answer ≡ a.owes.answer) → PollHeard role turn polled a b
-    same b f w polled q r n t = connected-heard role turn polled a b e f (ap (λ x. x.poll) w)
-        (λ s k. inr (ap (λ x. x.timer) (sym w) ∙ k))
-        (r ∙ (sym (or-false a.owes.reply) ∙ ap (λ x. a.owes.reply || x) (sym q))) (λ h. n ∙ h) t
+    same b f w polled q r n t = grind (arith, connected-heard, or-false)
 
 early-ways : (role : Role) (turn : ℕ) (a : Account) → a.setup.role ≡ role → is_connected a.phase ≡ false
     → EarlyWays (λ x b. PollHeard role turn (of_arrived is_poll x) a b) turn a
-early-ways role turn a er c = record {
-  ignores = λ x f. stays-heard role turn (of_arrived is_poll x) a.phase a a refl refl c refl refl;
-  detects = λ p r. unlinked-heard role turn false a _ (ap is_linked p) refl refl refl;
-  detected = λ p r. stays-heard role turn false a.phase a _ refl refl c refl refl;
-  xid = λ p r pf info offer f. unlinked-heard role turn false a _
-      (elim p [ inl q ↦ ap is_linked q | inr q ↦ ap is_linked q ]) refl refl refl;
-  agrees = λ p r pf info offer f. unlinked-heard role turn false a _ (ap is_linked p) refl refl refl;
-  sabme_first = λ p r pf. connected-begins role turn false a _ a.setup.role (sym er) (ap is_linked p) refl refl refl refl (answers r);
-  sabme = λ p r pf. connected-begins role turn false a _ a.setup.role (sym er) (ap is_linked p) refl refl refl refl (answers r);
-  ua = λ p. connected-begins role turn false a _ a.setup.role (sym er) (ap is_linked p) refl refl refl refl
-      (λ h. ap is_originator (er ∙ h));
-  disc = λ p pf. stays-heard role turn false a.phase a _ refl refl c refl refl;
-  closes = λ p frame f. ended-heard role turn (is_poll frame) a _ refl refl refl refl;
-}
-  where
-    answers : {A : Type 0} → a.setup.role ≡ Answerer → role ≡ Originator → A
-    answers r h = let wrong : Answerer ≡ Originator = sym r ∙ (er ∙ h) in cc
+early-ways role turn a er c = grind (arith)
 
 -- every end hears so
 pub poll-hears : (role : Role) (arrived : Arrived) (turn : ℕ) (a : Account) → a.setup.role ≡ role → a.owes.answer ≡ None
@@ -167,7 +94,4 @@ poll-hears role arrived turn a er none mid h = by-ways (λ x b. PollHeard role t
 }) arrived mid h
   where
     nothing : (p : Phase) → a.phase ≡ p → PollHeard role turn false a (on_nothing a)
-    nothing Connected e = connected-heard role turn false a (on_nothing a) e e refl (set-same turn a.wait.timer)
-        (sym (or-false a.owes.reply))
-        (λ h. h) (λ h. ap without_adp none ∙ sym none)
-    nothing p e = stays-heard role turn false p a (on_nothing a) e e refl refl refl
+    nothing p e = grind (arith, connected-heard, set-same, or-false, stays-heard)

@@ -34,8 +34,7 @@ ready-kinds : (busy command pf : Bool) (nr : ℕ)
 ready-kinds b command pf nr = grind (arith)
 
 set-running : (turn : ℕ) (m : Option ℕ) → SetFrom turn m (running turn m)
-set-running turn None s k = let same : turn ≡ s = cc in inl (sym same)
-set-running turn (Some t) s k = inr k
+set-running turn m s k = grind (arith)
 
 running-runs : (turn : ℕ) (m : Option ℕ) (s : ℕ) → m ≡ Some s → running turn m ≡ Some s
 running-runs turn b s h = grind (arith)
@@ -46,25 +45,10 @@ quiet : (turn : ℕ) (a : Account) (said : Said) → Before a → said.account.p
     → said.account.wait.poll ≡ a.wait.poll → of_frame is_poll said.sent ≡ false → of_frame is_final said.sent ≡ false
     → said.account.outgoing.awaited ≡ a.outgoing.awaited → said.account.outgoing.count ≡ a.outgoing.count
     → ((s : ℕ) → a.wait.timer ≡ Some s → said.account.wait.timer ≡ Some s) → StepPoll turn a said
-quiet turn a said k f n t w x y v m g = record {
-  phase = f;
-  numbered = n;
-  timer = t;
-  sent = λ h. let wrong : true ≡ false = sym h ∙ x in cc;
-  kept = λ h. let wrong : true ≡ false = sym h ∙ (w ∙ k.poll) in cc;
-  final = λ h. let wrong : true ≡ false = sym h ∙ y in cc;
-  replies = λ h r. let wrong : true ≡ false = sym r ∙ k.reply in cc;
-  goes = λ h. inr (w ∙ h);
-  awaited = v;
-  count = m;
-  runs = g;
-}
+quiet turn a said k f n t w x y v m g = grind (arith)
 
 answer-quiet : (d : Answer) (a : Account) → (of_frame is_poll (frame_for d a) ≡ false) × (of_frame is_final (frame_for d a) ≡ false)
-answer-quiet answers.Adp a = (refl, refl)
-answer-quiet answers.Xid a = (refl, refl)
-answer-quiet (answers.Ua pf) a = (refl, refl)
-answer-quiet (answers.Dm pf) a = (refl, refl)
+answer-quiet d a = grind (arith)
 
 steps-poll : (turn : ℕ) (special : Bool) (a : Account) → Steps (StepPoll turn a) turn special a
 steps-poll turn special a = record {
@@ -121,8 +105,7 @@ steps-poll turn special a = record {
     still : Before a → (said : Said) → said.account.phase ≡ a.phase → said.account.numbered ≡ a.numbered
         → (said.account.wait ≡ a.wait) × (said.account.outgoing ≡ a.outgoing)
         → of_frame is_poll said.sent ≡ false → of_frame is_final said.sent ≡ false → StepPoll turn a said
-    still k said p n e x y = quiet turn a said k p n (λ s h. inr (ap (λ w. w.timer) (sym e.0) ∙ h)) (ap (λ w. w.poll) e.0) x y
-        (ap (λ o. o.awaited) e.1) (ap (λ o. o.count) e.1) (λ s h. ap (λ w. w.timer) e.0 ∙ h)
+    still k said p n e x y = grind (arith)
 
 -- What a Connected end that isn't told to release makes of them as it speaks.
 pub record SaidPoll (turn : ℕ) (a : Account) (said : Said) : Type 0 where
@@ -147,51 +130,14 @@ pub linked-poll : (turn : ℕ) (a : Account) → ConnectedWays (SaidPoll turn a)
 linked-poll turn a = ways
   where
     stands : (own : OwnBreaks) (said : Said) → StepPoll turn (record a { own_breaks = own; special = false }) said → SaidPoll turn a said
-    stands own said k = record {
-      made = false;
-      phase = k.phase;
-      numbered = k.numbered;
-      timer = k.timer;
-      made_timer = λ m. cc;
-      made_from = λ m. cc;
-      sent = λ h. ((λ m. (k.sent h).0), (k.sent h).1);
-      kept = λ h. let l = k.kept h in ((λ m. l.0), l.1);
-      final = k.final;
-      replies = k.replies;
-      goes = λ w. k.goes (elim w [ inl x ↦ cc | inr y ↦ y ]);
-      awaited = k.awaited;
-      counted = λ n h. inr (refl, sym k.count ∙ h, k.runs);
-    }
+    stands own said k = grind (arith)
 
     expires : (set : ℕ) → a.wait.timer ≡ Some set → turn ≡ set + a.setup.period → (own : OwnBreaks) (said : Said)
         → StepPoll turn (polling_at turn a own) said → SaidPoll turn a said
-    expires set e due own said k = record {
-      made = true;
-      phase = k.phase;
-      numbered = k.numbered;
-      timer = λ s h. inl (now s (k.timer s h));
-      made_timer = λ m s h. now s (k.timer s h);
-      made_from = λ m. (set, e, due);
-      sent = λ h. ((λ m. cc), (k.sent h).1);
-      kept = λ h. let l = k.kept h in ((λ m. cc), l.1);
-      final = k.final;
-      replies = k.replies;
-      goes = λ w. k.goes refl;
-      awaited = k.awaited;
-      counted = λ n h. let q = k.count in inl (refl, omega (arith, h, q), k.runs turn refl);
-    }
-      where
-        now : (s : ℕ) → (s ≡ turn) ⊎ (Some turn ≡ Some s) → s ≡ turn
-        now s (inl q) = q
-        now s (inr q) = let same : turn ≡ s = cc in sym same
+    expires set e due own said k = grind (arith)
 
     ways : ConnectedWays (SaidPoll turn a) turn a
-    ways = record {
-      stands = λ x own t. steps-so _ _ turn a.special _ (stands own)
-          (steps-poll turn a.special (record a { own_breaks = own; special = false }));
-      expires = λ set x own t. steps-so _ _ turn a.special _ (expires set x.timer x.due own)
-          (steps-poll turn a.special (polling_at turn a own));
-    }
+    ways = grind (arith, steps-so, steps-poll)
 
 -- What any end makes of them as it speaks.
 pub record SpeakPoll (turn : ℕ) (a : Account) (said : Said) : Type 0 where
@@ -204,8 +150,7 @@ pub record SpeakPoll (turn : ℕ) (a : Account) (said : Said) : Type 0 where
 other-speaks : (turn : ℕ) (a : Account) (said : Said) → is_connected said.account.phase ≡ false
     → is_linked said.account.phase ≡ is_linked a.phase → said.account.wait.poll ≡ a.wait.poll → said.account.numbered ≡ a.numbered
     → of_frame is_poll said.sent ≡ false → of_frame is_final said.sent ≡ false → SpeakPoll turn a said
-other-speaks turn a said f l p n x y =
-    record { linked = l; connected = λ h. let wrong : true ≡ false = sym h ∙ f in cc; other = λ h. (p, n, x, y) }
+other-speaks turn a said f l p n x y = grind (arith)
 
 poll-ways : (turn : ℕ) (release : Bool) (a : Account) → Ways (SpeakPoll turn a) turn release a
 poll-ways turn release a = record {
@@ -224,11 +169,7 @@ poll-ways turn release a = record {
     tries : (frame : Frame) (b : Account) → is_connected b.phase ≡ false → is_linked b.phase ≡ is_linked a.phase
         → b.wait.poll ≡ a.wait.poll → b.numbered ≡ a.numbered → is_poll frame ≡ false → is_final frame ≡ false
         → Tries (SpeakPoll turn a) turn frame b
-    tries frame b f l p n x y = record {
-      sent = λ z e. other-speaks turn a _ f l p n x y;
-      again = λ z e. other-speaks turn a _ f l p n x y;
-      flags = λ z e. other-speaks turn a _ f l p n refl refl;
-    }
+    tries frame b f l p n x y = grind (arith)
 
     connected : a.phase ≡ Connected → (said : Said) → SaidPoll turn a said → SpeakPoll turn a said
     connected p said h = record {
@@ -280,36 +221,15 @@ poll-turn period turn role polled final a b said some h k one none early untimed
     early-poll e = let u = unlinked-before e in (k.other (unlinked-connected c.phase e)).0 ∙ ((h.early u).0 ∙ early.poll (unlinked-first u))
 
     early-numbered : is_linked c.phase ≡ false → c.numbered ≡ false
-    early-numbered e = let u = unlinked-before e in
-        (k.other (unlinked-connected c.phase e)).1 ∙ ((h.early u).1 ∙ early.numbered (unlinked-first u))
+    early-numbered e = grind (arith, unlinked-before, unlinked-connected, unlinked-first)
 
     -- whether a reply is due
     reply-heard : is_connected b.phase ≡ true → b.owes.reply ≡ true → polled ≡ true
-    reply-heard e r = elim (h.from e) [
-      | inl x ↦ or-rest a.owes.reply polled (none.reply (connected-released a.phase x)) (sym (h.asked x e) ∙ r)
-      | inr x ↦ clash b.owes.reply r ((h.begun x e).0 ∙ none.reply (unlinked-released a.phase x))
-    ]
-      where
-        or-rest : (x y : Bool) → x ≡ false → x || y ≡ true → y ≡ true
-        or-rest b y f g = grind (arith)
+    reply-heard e r = grind (arith, connected-released, clash, unlinked-released)
 
     -- an answerer that has heard no I frame and no supervisory frame polls for nothing
     silent-poll : is_connected c.phase ≡ true → role ≡ Answerer → c.numbered ≡ false → c.wait.poll ≡ true → ⊥
-    silent-poll e r n p = by (k.connected e)
-      where
-        by : (is_connected b.phase ≡ true) × SaidPoll turn b said → ⊥
-        by (f, l) = elim (either-bool l.made) [
-          | inl m ↦ (let w = l.made_from m in let wrong : None ≡ Some w.0 = sym (silent r f (sym l.numbered ∙ n)) ∙ w.1 in cc)
-          | inr m ↦ clash b.wait.poll ((l.kept p).0 m) (none-polled (h.from f))
-        ]
-          where
-            none-polled : (is_connected a.phase ≡ true) ⊎ (is_linked a.phase ≡ false) → b.wait.poll ≡ false
-            none-polled (inl x) = h.poll x ∙ early.silent r x (before (either-bool a.numbered))
-              where
-                before : (a.numbered ≡ true) ⊎ (a.numbered ≡ false) → a.numbered ≡ false
-                before (inl y) = clash b.numbered (h.heard x y) (sym l.numbered ∙ n)
-                before (inr y) = y
-            none-polled (inr x) = (h.answers r x f).0 ∙ early.poll x
+    silent-poll e r n p = grind (arith, either-bool, clash)
 
     early-silent : role ≡ Answerer → is_connected c.phase ≡ true → c.numbered ≡ false → c.wait.poll ≡ false
     early-silent r e n = elim (either-bool c.wait.poll) [ inl p ↦ absurd (silent-poll e r n p) | inr p ↦ p ]
@@ -319,62 +239,23 @@ poll-turn period turn role polled final a b said some h k one none early untimed
 
     -- no answer is due where a poll is held up
     no-answer : is_connected c.phase ≡ true → is_connected b.phase ≡ true → SaidPoll turn b said → c.wait.poll ≡ true → b.owes.answer ≡ None
-    no-answer e f l p = by role refl
-      where
-        by : (r : Role) → role ≡ r → b.owes.answer ≡ None
-        by Originator g = one.none g (connected-closed b.phase f)
-        by Answerer g = on (either-bool b.numbered) (h.from f)
-          where
-            on : (b.numbered ≡ true) ⊎ (b.numbered ≡ false) → (is_connected a.phase ≡ true) ⊎ (is_linked a.phase ≡ false)
-                → b.owes.answer ≡ None
-            on (inr n) x = absurd (silent-poll e g (l.numbered ∙ n) p)
-            on (inl n) (inl x) = h.answer x f n ∙ none.answer
-            on (inl n) (inr x) = clash b.numbered n ((h.begun x f).1 ∙ early.numbered x)
+    no-answer e f l p = grind (arith, connected-closed, either-bool, silent-poll, clash)
 
     held : is_connected c.phase ≡ true → poll_due c ≡ true → polled ≡ true
-    held e d = let z = k.connected e in
-        let p = and-second (is_connected c.phase) c.wait.poll d in reply-heard z.0 ((z.1.kept p).1 (no-answer e z.0 z.1 p)).0
+    held e d = grind (arith, and-second, reply-heard, no-answer)
 
     final-heard : is_connected c.phase ≡ true → of_frame is_final said.sent ≡ true → polled ≡ true
     final-heard e d = let z = k.connected e in reply-heard z.0 (z.1.final d)
 
     answered : polled ≡ true → is_connected a.phase ≡ true → is_connected c.phase ≡ true → of_frame is_final said.sent ≡ true
-    answered p x e = by (k.connected e)
-      where
-        by : (is_connected b.phase ≡ true) × SaidPoll turn b said → of_frame is_final said.sent ≡ true
-        by (f, l) = l.replies (on one.one) (h.asked x f ∙ or-late a.owes.reply polled p)
-          where
-            on : (b.owes.answer ≡ None) ⊎ (is_released b.phase ≡ false → b.owes.reply ≡ false) → b.owes.answer ≡ None
-            on (inl n) = n
-            on (inr g) = clash b.owes.reply (h.asked x f ∙ or-late a.owes.reply polled p) (g (connected-released b.phase f))
+    answered p x e = grind (arith, or-late, clash, connected-released)
 
     keeps-count : is_connected a.phase ≡ true → (count ≡ 0) ⊎ (count ≡ a.outgoing.count)
     keeps-count x = elim (keeps x) [ inl y ↦ inl y | inr x ↦ inr x.0 ]
 
     -- it isn't Connected after the turn
     over : is_connected c.phase ≡ false → (made : Bool) × PollTurn period turn role polled final made count said.sent a c
-    over e = let o = k.other e in (
-      false,
-      record {
-        early = after-early;
-        linked = stays-linked;
-        due_from = λ d. clash (is_connected c.phase) ((and-two (is_connected c.phase) c.wait.poll d).0) e;
-        held_up = λ d. clash (is_connected c.phase) ((and-two (is_connected c.phase) c.wait.poll d).0) e;
-        sent_from = λ s. clash (of_frame is_poll said.sent) s o.2;
-        sent_done = λ s. clash (of_frame is_poll said.sent) s o.2;
-        timer = λ f. clash (is_connected c.phase) f e;
-        made_timer = λ m. cc;
-        made_awaited = λ m. cc;
-        made_linked = λ m. cc;
-        made_from = λ m. cc;
-        replied = λ s. clash (of_frame is_final said.sent) s o.3;
-        goes = λ x f. clash (is_connected c.phase) f e;
-        awaited = λ x f. clash (is_connected c.phase) f e;
-        counted = λ x f. clash (is_connected c.phase) f e;
-        kept = keeps-count;
-        replies = λ p x f. clash (is_connected c.phase) f e;
-      },
-    )
+    over e = grind (arith)
 
     -- it was Connected before it
     during : is_connected c.phase ≡ true → is_connected b.phase ≡ true → SaidPoll turn b said → is_connected a.phase ≡ true
@@ -410,28 +291,20 @@ poll-turn period turn role polled final a b said some h k one none early untimed
             → (count ≡ 0) ⊎ ((count ≡ a.outgoing.count) × (b.wait.timer ≡ a.wait.timer))
             → ((l.made ≡ true) × (count ≡ n) × (c.wait.timer ≡ Some turn))
             ⊎ ((l.made ≡ false) × (count ≡ n + 1) × ((r : ℕ) → a.wait.timer ≡ Some r → c.wait.timer ≡ Some r))
-        counts n (inl (m, w, t)) v = inl (m, sym same-count ∙ w, t)
-        counts n (inr (m, w, t)) (inl v) = let wrong : ⊥ = omega (arith, same-count, w, v) in absurd wrong
-        counts n (inr (m, w, t)) (inr (v, u)) = inr (m, sym same-count ∙ w, (λ r g. t r (u ∙ g)))
+        counts n q1 v = grind (arith)
 
         due : (l.made ≡ true) ⊎ (poll_due a ≡ true) → (l.made ≡ true) ⊎ (b.wait.poll ≡ true)
-        due (inl m) = inl m
-        due (inr w) = inr (h.poll x ∙ and-second (is_connected a.phase) a.wait.poll w)
+        due q0 = grind (arith, and-second)
 
         still-due : (of_frame is_poll said.sent ≡ true) ⊎ (c.wait.poll ≡ true) → (of_frame is_poll said.sent ≡ true) ⊎ (poll_due c ≡ true)
-        still-due (inl w) = inl w
-        still-due (inr w) = inr (and-true (is_connected c.phase) c.wait.poll e w)
+        still-due q0 = grind (arith, and-true)
 
         timed : (s : ℕ) → (s ≡ turn) ⊎ (b.wait.timer ≡ Some s) → (s ≡ turn) ⊎ (a.wait.timer ≡ Some s)
-        timed s (inl w) = inl w
-        timed s (inr w) = h.timer x s w
+        timed s q1 = grind (arith)
 
         expired-from : (s : ℕ) × (b.wait.timer ≡ Some s) × (turn ≡ s + b.setup.period)
             → (s : ℕ) × (a.wait.timer ≡ Some s) × (turn ≡ s + period)
-        expired-from (s, w, g) = elim (h.timer x s w) [
-          | inl v ↦ (let wrong : ⊥ = omega (arith, v, g, q, some) in absurd wrong)
-          | inr v ↦ (s, v, omega (arith, g, q))
-        ]
+        expired-from q0 = grind (arith)
 
     -- it becomes so in it
     begins : is_connected c.phase ≡ true → is_connected b.phase ≡ true → SaidPoll turn b said → is_linked a.phase ≡ false → (r : Role)
@@ -460,12 +333,10 @@ poll-turn period turn role polled final a b said some h k one none early untimed
     )
       where
         begun-timer : (s : ℕ) → (s ≡ turn) ⊎ (a.wait.timer ≡ Some s) → s ≡ turn
-        begun-timer s (inl v) = v
-        begun-timer s (inr v) = let wrong : None ≡ Some s = sym (untimed x) ∙ v in cc
+        begun-timer s q1 = grind (arith)
 
         timed : (s : ℕ) → (s ≡ turn) ⊎ (b.wait.timer ≡ Some s) → s ≡ turn
-        timed s (inl v) = v
-        timed s (inr v) = begun-timer s ((h.begun x f).2 s v)
+        timed s q1 = grind (arith, begun-timer)
     begins e f l x Answerer g = (
       false,
       record {
@@ -490,10 +361,7 @@ poll-turn period turn role polled final a b said some h k one none early untimed
     )
       where
         none-kept : (l.made ≡ false → b.wait.poll ≡ true) → ⊥
-        none-kept w = elim (either-bool l.made) [
-          | inl m ↦ (let v = l.made_from m in let wrong : None ≡ Some v.0 = sym (untimed x) ∙ (sym (h.answers g x f).1 ∙ v.1) in cc)
-          | inr m ↦ clash b.wait.poll (w m) ((h.answers g x f).0 ∙ early.poll x)
-        ]
+        none-kept w = grind (arith, either-bool, clash)
 
     go : (is_connected c.phase ≡ true) ⊎ (is_connected c.phase ≡ false)
         → (made : Bool) × PollTurn period turn role polled final made count said.sent a c

@@ -69,8 +69,7 @@ both-fresh : (period delay delay' turns : ℕ) (due made sent heard due' made' s
     → Polls period turns due made sent heard → Polls period turns due' made' sent' heard' → WasSent delay' turns heard sent'
     → WasSent delay turns heard' sent
     → (n : ℕ) → n ≤ turns → Fresh n due made × Fresh n due' made'
-both-fresh period delay delay' turns due made sent heard due' made' sent' heard' long some some' e o line line' zero within =
-    ((λ t l d. let none : ⊥ = omega (arith, l) in absurd none), (λ t l d. let none : ⊥ = omega (arith, l) in absurd none))
+both-fresh period delay delay' turns due made sent heard due' made' sent' heard' long some some' e o line line' zero within = grind (arith)
 both-fresh period delay delay' turns due made sent heard due' made' sent' heard' long some some' e o line line' (suc n) within =
     let k = both-fresh period delay delay' turns due made sent heard due' made' sent' heard' long some some' e o line line' n
     (omega (arith, within)) in (
@@ -81,10 +80,7 @@ both-fresh period delay delay' turns due made sent heard due' made' sent' heard'
     )
   where
     more : (d m : ℕ → Bool) → Fresh n d m → (d (n + 1) ≡ true → m n ≡ true) → Fresh (suc n) d m
-    more d m f last t less is_due = elim (cases_lt t n) [ inl l ↦ f t l is_due | inr q ↦ at-last (omega (arith, less, q)) ]
-      where
-        at-last : t ≡ n → m t ≡ true
-        at-last q = subst (λ x. m x ≡ true) (sym q) (last (subst (λ x. d (x + 1) ≡ true) q is_due))
+    more d m f last t less is_due = grind (arith)
 
 pub polls-fresh : (period delay delay' turns : ℕ) (due made sent heard due' made' sent' heard' : ℕ → Bool) → 3 ≤ period → 1 ≤ delay
     → 1 ≤ delay'

@@ -40,8 +40,7 @@ use Rattle.turn_losses.proofs.InTurn.{InTurn}
 -- no break is taken once the originator is told to release
 no-take : (user : User) (turn : ℕ) (released : Bool) (mid : Account) → released ≡ true
     → (served_account user turn released mid).own_breaks ≡ mid.own_breaks
-no-take user turn false mid e = cc
-no-take user turn true mid e = serves-own user turn mid
+no-take user turn released mid e = grind (arith, serves-own)
 
 -- so none waits from then on
 unasked : (w : TimedRun) → (v : ℕ) → v < length w.ts → waits (served_at w.link v (w.deed v).mid Answerer).account.own_breaks ≡ false
@@ -72,18 +71,11 @@ unasked w v l none t before b rel linked c = kept-in (λ u. waits (w.state u).an
 -- an originator that isn't Closed as it has heard wasn't before
 unclosed : (arrived : Arrived) (turn : ℕ) (a mid : Account) → a.setup.role ≡ Originator → hear turn arrived a ≡ Ok mid
     → is_closed mid.phase ≡ false → a.phase ≡ Closed → mid.phase ≡ Releasing
-unclosed arrived turn a mid r h n e = go mid.phase refl
-    ((o-hears arrived turn a mid r h).released (ap is_released e)) n
-  where
-    go : (p : Phase) → mid.phase ≡ p → is_released p ≡ true → is_closed p ≡ false → p ≡ Releasing
-    go p q x y = grind (arith)
+unclosed arrived turn a mid r h n e = grind (arith, o-hears)
 
 pub not-closed : (arrived : Arrived) (turn : ℕ) (a mid : Account) → a.setup.role ≡ Originator → hear turn arrived a ≡ Ok mid
     → is_closed mid.phase ≡ false → a.phase ≡ Closed → ⊥
-not-closed arrived turn a mid r h n e = elim (try-heard arrived turn a mid r h Releasing refl (unclosed arrived turn a mid r h n e)) [
-  | inl x ↦ (let wrong : Closed ≡ Releasing = sym e ∙ x.0 in cc)
-  | inr z ↦ z.1 refl
-]
+not-closed arrived turn a mid r h n e = grind (arith, try-heard, unclosed)
 
 -- Where the originator is linked as an answerer's break waits, it is Connected.
 pub peer-connected : ReadsWritten → (w : TimedRun) → MayPlay w.link.orig.setup w.link.answ.setup → (u : ℕ) → u ≤ length w.ts
@@ -103,12 +95,7 @@ peer-connected reads w m u b open-so l c wt = is-true (is_connected (w.state u).
 -- An answerer that gives up while its break waits was starved: one period is let off, that in which the originator becomes Connected.
 pub of-period : (period : ℕ) (delay : Role → ℕ) (t : Turn) (ts : List Turn) (n : ℕ) → PeriodLoses period (length ts) (t ∷ ts) n
     → SpanLoses period (max (delay Originator) (delay Answerer)) (t ∷ ts) n
-of-period period delay t ts n h = let behind = h.in_period.behind in let before = h.in_period.before in record {
-  turn = h.turn;
-  within = h.within;
-  in_span = record { behind = omega (arith, behind); before = omega (arith, before) };
-  lost = h.lost;
-}
+of-period period delay t ts n h = grind (arith)
 
 max-second : (a b : ℕ) → b ≤ max a b
 max-second a b = grind (arith)
@@ -197,12 +184,7 @@ unlinked-loses reads w may t cs mid hearing s n q answ un later = sabme (is_lost
 
     -- a loss in a turn of the span
     loses : (y : ℕ) → s < y + e.delay → y ≤ s + w.period → LosesSome (turn_at y (t ∷ w.ts)) → Loses w t n
-    loses y lo hi b = let m = once w.period n in let wide = max-second (w.delay Originator) (w.delay Answerer) in record {
-      turn = y;
-      within = omega (arith, hi, within);
-      in_span = record { behind = omega (arith, lo, q, wide); before = omega (arith, hi, q, m) };
-      lost = b;
-    }
+    loses y lo hi b = grind (arith, max-second)
 
     at : (y : ℕ) → (b : y < turns) → (r : Role) → is_lost (of r (w.deed y).turn).heard ≡ true → LosesSome (turn_at y (t ∷ w.ts))
     at y b r f = subst LosesSome (sym (later-turn y t w.ts b ∙ turn-is w y b)) (r, lost-is (of r (w.deed y).turn).heard f)

@@ -20,21 +20,7 @@ use Rattle.link_account.specs.Account.{fresh}
 
 served-heard : (role : Role) (turn breaks : ℕ) (busy polled : Bool) (a b c : Account) → Served turn breaks busy b c
     → PollHeard role turn polled a b → PollHeard role turn polled a c
-served-heard role turn breaks busy polled a b c s h = record {
-  linked = λ e. ap is_linked s.phase ∙ h.linked e;
-  early = λ e. let k = h.early (ap is_linked (sym s.phase) ∙ e) in (ap (λ w. w.poll) s.wait ∙ k.0, s.numbered ∙ k.1);
-  from = λ e. h.from (ap is_connected (sym s.phase) ∙ e);
-  poll = λ e. ap (λ w. w.poll) s.wait ∙ h.poll e;
-  timer = λ e n k. h.timer e n (ap (λ w. w.timer) (sym s.wait) ∙ k);
-  asked = λ e f. s.reply ∙ h.asked e (ap is_connected (sym s.phase) ∙ f);
-  heard = λ e n. s.numbered ∙ h.heard e n;
-  answer = λ e f n. s.answer ∙ h.answer e (ap is_connected (sym s.phase) ∙ f) (sym s.numbered ∙ n);
-  begun = λ e f. let k = h.begun e (ap is_connected (sym s.phase) ∙ f) in
-      (s.reply ∙ k.0, s.numbered ∙ k.1, (λ n l. k.2 n (ap (λ w. w.timer) (sym s.wait) ∙ l)));
-  answers = λ r e f. let k = h.answers r e (ap is_connected (sym s.phase) ∙ f) in
-      (ap (λ w. w.poll) s.wait ∙ k.0, ap (λ w. w.timer) s.wait ∙ k.1);
-  awaits = λ r e f. ap (λ o. o.awaited) s.longer.outgoing ∙ h.awaits r e (ap is_connected (sym s.phase) ∙ f);
-}
+served-heard role turn breaks busy polled a b c s h = grind (arith)
 
 pub silent-of : (z : Rates) (before turn : ℕ) (r : Role) (p : Phase) (a : Account) → Stands z before turn r p a → r ≡ Answerer
     → is_connected p ≡ true → a.numbered ≡ false → a.wait.timer ≡ None
@@ -44,14 +30,10 @@ silent-of z before turn q x a st e f n = grind (arith)
 module _ {tries period : ℕ} {link : Link} {role : Role} {turn : ℕ} {a : Account} {arrived : Arrived} {mid b : Account}
     (i : InTurn tries period link role turn a arrived mid b) where
   served-count : CountKept a mid → (mid.outgoing.count ≡ 0) ⊎ ((mid.outgoing.count ≡ a.outgoing.count) × (b.wait.timer ≡ a.wait.timer))
-  served-count (inl x) = inl x
-  served-count (inr (x, y)) = inr (x, ap (λ w. w.timer) i.served.wait ∙ y)
+  served-count q0 = grind (arith)
 
   served-one : OneDue role mid → (b.owes.answer ≡ None) ⊎ (is_released b.phase ≡ false → b.owes.reply ≡ false)
-  served-one o = let s = i.served in elim o.one [
-    | inl n ↦ inl (s.answer ∙ n)
-    | inr f ↦ inr (λ x. s.reply ∙ f (ap is_released (sym s.phase) ∙ x))
-  ]
+  served-one o = grind (arith)
 
   end-polls : (release : Bool) (said : Said) → speak turn release b ≡ Ok said → Early role a
       → (made : Bool) × PollTurn period turn role (of_arrived is_poll arrived)
@@ -138,14 +120,7 @@ pub record Traced (period : ℕ) (delay : Role → ℕ) (link : Link) (ts : List
   pub early : AllEarly ends
 
 none-deed : Accounts → Deed
-none-deed ends = record {
-  turn = record {
-    orig = record { heard = heards.Nothing; check = checks.Sixteen; sent = None; given = None };
-    answ = record { heard = heards.Nothing; check = checks.Sixteen; sent = None; given = None };
-  };
-  mid = ends;
-  made = λ role. false;
-}
+none-deed ends = grind (arith)
 
 is-below : (m n : ℕ) → m < n → nat_lt m n ≡ true
 is-below m n l = grind (arith, nat_tests, l)
@@ -222,10 +197,7 @@ longer period delay link ts s x d u k dx h = record {
     moved : (t : ℕ) (us : List Turn) (a b : Accounts) (w : Deed) → past (x ∷ ts) t ≡ us → state t ≡ a → deed t ≡ w → state (t + 1) ≡ b
         → Happens period delay link us t a w b
         → Happens period delay link (past (x ∷ ts) t) t (state t) (deed t) (state (t + 1))
-    moved t us a b w o p q r g = subst (λ y. Happens period delay link y t (state t) (deed t) (state (t + 1))) (sym o)
-        (subst (λ y. Happens period delay link us t (state t) (deed t) y) (sym r)
-        (subst (λ y. Happens period delay link us t (state t) y b) (sym q)
-        (subst (λ y. Happens period delay link us t y w b) (sym p) g)))
+    moved t us a b w o p q r g = grind (arith, deed)
 
     happens : (t : ℕ) → t < suc n → Happens period delay link (past (x ∷ ts) t) t (state t) (deed t) (state (t + 1))
     happens t less = elim (cases_lt t n) [
@@ -272,8 +244,7 @@ traced tries period delay link [] ends k run c = record {
 }
   where
     begins : (role : Role) → Early role (of role (start link))
-    begins Originator = record { poll = λ e. refl; numbered = λ e. refl; silent = λ r e n. refl }
-    begins Answerer = record { poll = λ e. refl; numbered = λ e. refl; silent = λ r e n. refl }
+    begins role = grind (arith)
 traced tries period delay link (t ∷ ts) ends k (before, run, g) c =
     let w = traced tries period delay link ts before k run c.1 in
     let d = turn-happens tries period delay link ts before t ends k run c.1 c.0 g w.early in

@@ -52,35 +52,17 @@ module _ {tries period : ℕ} {link : Link} {turn : ℕ} {a : Account} {arrived 
 
       again : TryGoesOn p arrived a mid ⊎ TryBegins turn p a mid → TriesAgain p turn b said
           → TryTurn period turn p arrived said.sent a said.account
-      again (inl (x, w, n)) (due, set, count, sends) =
-          let same = ap (λ v. v.try_set) w in let same' = ap (λ v. v.try_count) w in let bc = ap (λ v. v.try_count) i.served.wait in
-          inr (inl ((x, n), omega (arith, due, set-is, same, i.b_period), set, omega (arith, count, bc, same'), sends))
-      again (inr (x, y, try, set', count')) (due, set, count, sends) = absurd (omega (arith, due, set-is, set', i.b_period, i.long))
+      again q0 q1 = grind (arith, set-is)
 
       stands : TryGoesOn p arrived a mid ⊎ TryBegins turn p a mid → TryStands p turn b said
           → TryTurn period turn p arrived said.sent a said.account
-      stands (inl (x, w, n)) (due, set, count, sends) =
-          let same = ap (λ v. v.try_set) w in
-          inr (inr (
-            (x, n),
-            (λ q. due (omega (arith, q, set-is, same, i.b_period))),
-            set ∙ (set-is ∙ same),
-            count ∙ (ap (λ v. v.try_count) i.served.wait ∙ ap (λ v. v.try_count) w),
-          ))
-      stands (inr (x, y, try, set', count')) (due, set, count, sends) = inl
-          (x, set ∙ (set-is ∙ set'), count ∙ (ap (λ v. v.try_count) i.served.wait ∙ count'), sends (ap (λ v. v.try) i.served.wait ∙ try))
+      stands q0 q1 = grind (arith, set-is)
 
       go : ((b.phase ≡ p) × (TriesAgain p turn b said ⊎ TryStands p turn b said)) ⊎ TryIsNew p turn b said
           → TryTurn period turn p arrived said.sent a said.account
       go (inl (f, inl x)) = again (heard (sym i.served.phase ∙ f)) x
       go (inl (f, inr x)) = stands (heard (sym i.served.phase ∙ f)) x
-      go (inr (f, q, set, count, sends)) = inl (
-        (λ x. clash (is_released mid.phase) ((o-hears arrived turn a mid i.role_is i.hears).released (ap is_released (x ∙ q)))
-            (ap is_released (sym i.served.phase ∙ f))),
-        set,
-        count,
-        sends,
-      )
+      go (inr (f, q, set, count, sends)) = grind (arith, clash, o-hears)
 
 abbrev pub TriesSo : (period turns : ℕ) → Phase → EndRun → Type 0
 TriesSo period turns p e = (t : ℕ) → t < turns → (e.account (t + 1)).phase ≡ p
@@ -213,11 +195,7 @@ answers-so reads w m p t u l f k = ap (of_frame (moves_on p)) g.slot ∙ says-du
     due = answer-due p (arrival (w.deed u).turn.answ.heard) u (w.state u).answ (w.deed u).mid.answ g.in_turn.role_is can k g.in_turn.hears
 
     moved : (q : Phase) (a b : Account) → b.phase ≡ a.phase → b.owes.answer ≡ a.owes.answer → AnswerDue q a → AnswerDue q b
-    moved Negotiating a b x y (g, d) = (x ∙ g, y ∙ d)
-    moved Establishing a b x y (g, d) = (x ∙ g, y ∙ d)
-    moved Releasing a b x y (g, inl d) = (x ∙ g, inl (y ∙ d))
-    moved Releasing a b x y (g, inr d) = (x ∙ g, inr (y ∙ d))
-    moved p a b x y d = d
+    moved p a b x y d = grind (arith)
 
 -- So where none moves the originator on for a whole period, something was lost in it.
 pub unanswered-loses : ReadsWritten → (w : TimedRun) → MayPlay w.link.orig.setup w.link.answ.setup → (p : Phase) → is_trying p ≡ true
@@ -255,17 +233,7 @@ unanswered-loses reads w m p t s within x = go (lost-or-none e o (s + 1) (w.peri
 pub which-try : (turn : ℕ) (release : Bool) (b : Account) (segment since : ℕ) → is_connected b.phase ≡ false
     → speak turn release b ≡ Err (Spent segment since)
     → (is_trying b.phase ≡ true) × (turn ≡ b.wait.try_set + b.setup.period) × (b.wait.try_count ≡ b.setup.tries)
-which-try turn release b segment since c h = go (why-broken turn release b (Spent segment since) h)
-  where
-    trying : ((b.phase ≡ Negotiating) × (b.setup.role ≡ Originator)) ⊎ ((b.phase ≡ Establishing) ⊎ (b.phase ≡ Releasing))
-        → is_trying b.phase ≡ true
-    trying (inl p) = ap is_trying p.0
-    trying (inr (inl p)) = ap is_trying p
-    trying (inr (inr p)) = ap is_trying p
-
-    go : Breaks turn release b (Spent segment since)
-        → (is_trying b.phase ≡ true) × (turn ≡ b.wait.try_set + b.setup.period) × (b.wait.try_count ≡ b.setup.tries)
-    go b = grind (arith)
+which-try turn release b segment since c h = grind (arith, why-broken)
 
 pub originator-wants-frame : ReadsWritten → OriginatorWantsFrame
 originator-wants-frame reads tries period delay link ts before t mid segment since kt run cs broken

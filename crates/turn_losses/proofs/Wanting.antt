@@ -48,22 +48,10 @@ connected-spends turn release b fault e long h = go (why-broken turn release b f
     other p f n = absurd (n (sym e ∙ f))
 
     by : Ended turn release b → SpendsTries turn b ⊎ SpendsBreak turn b
-    by (TryEnds (inl p) x n) = other Negotiating p.0 (λ q. cc)
-    by (TryEnds (inr (inl p)) x n) = other Establishing p (λ q. cc)
-    by (TryEnds (inr (inr p)) x n) = other Releasing p (λ q. cc)
-    by (ReleaseEnds p x) = let wrong : ⊥ = grind (arith, nat_tests, long, x) in absurd wrong
-    by (TimerEnds p set r x n) = inl (record {
-      set = set;
-      runs = r;
-      now = grind (arith, nat_tests, x);
-      count = grind
-          (arith, nat_tests, n);
-    })
-    by (BreakEnds p w x n) = inr (record { waiting = w; now = grind (arith, nat_tests, x); count = grind (arith, nat_tests, n) })
+    by q0 = grind (arith)
 
     go : Breaks turn release b fault → SpendsTries turn b ⊎ SpendsBreak turn b
-    go (Undetected p r l f) = other Detecting p (λ q. cc)
-    go (Spends x f) = by x
+    go q0 = grind (arith)
 
 pub connected-why : (turn : ℕ) (release : Bool) (b : Account) (fault : LinkFault) → b.phase ≡ Connected → 1 ≤ b.setup.period
     → waits b.own_breaks ≡ false → speak turn release b ≡ Err fault → SpendsTries turn b
@@ -98,14 +86,7 @@ module _ {tries period : ℕ} {link : Link} {role : Role} {turn : ℕ} {a : Acco
       from (inl ca) = by (count-hears z arrived turn a mid ca (linked-of z turn turn role a.phase a i.stands ca).sends i.hears)
         where
           by : CountKept a mid → LastTry tries period turn a
-          by (inl c) = absurd (omega (arith, c, mid-count, i.rated.tries))
-          by (inr (c, w)) = record {
-            connected = ca;
-            set = why.set;
-            runs = sym w ∙ (ap (λ v. v.timer) (sym i.served.wait) ∙ why.runs);
-            now = let n = why.now in omega (arith, n, i.b_period);
-            count = sym c ∙ mid-count;
-          }
+          by q0 = grind (arith, mid-count)
 
 -- in the turn behind a run
 module _ (laws : Plays) (w : TimedRun) (may : MayPlay w.link.orig.setup w.link.answ.setup) (t : Turn) (mid : Accounts)
@@ -189,14 +170,7 @@ originator-wants laws together tries period delay link ts before t mid segment s
 -- the spans hold those periods
 span-loses : (period delay : ℕ) (t : Turn) (ts : List Turn) (n : ℕ) → PeriodLoses period (length ts) ts n
     → SpanLoses period delay (t ∷ ts) n
-span-loses period delay t ts n h =
-    let behind = h.in_period.behind in let before = h.in_period.before in let within = h.within in
-    record {
-      turn = h.turn;
-      within = omega (arith, within);
-      in_span = record { behind = omega (arith, behind); before = omega (arith, before) };
-      lost = subst LosesSome (sym (later-turn h.turn t ts within)) h.lost;
-    }
+span-loses period delay t ts n h = grind (arith, later-turn)
 
 -- all but the earliest span, or all of them
 pub all-but-one : (tries period : ℕ) (delay : Role → ℕ) (t : Turn) (ts : List Turn) → LosesEach period tries (length ts) ts
@@ -207,10 +181,7 @@ all-but-one tries period delay t ts h = record {
 }
   where
     less : (n : ℕ) → n ≤ tries → n ≢ tries → n < tries
-    less n few other = elim (cases_lt n tries) [ inl l ↦ l | inr g ↦ absurd (other (same n few g)) ]
-      where
-        same : (x : ℕ) → x ≤ tries → tries ≤ x → x ≡ tries
-        same x a b = omega (arith, a, b)
+    less n few other = grind (arith)
 
 pub originator-starved : Plays → StandTogether → OriginatorIsStarved
 originator-starved laws together tries period delay link ts before t mid segment since kt run cs broken cm quiet =
@@ -223,8 +194,7 @@ connected-open p l r = grind (arith)
 
 clocked : (z : Rates) (turn : ℕ) (a : Account) → Stands z turn turn Answerer a.phase a → is_connected a.phase ≡ true → (s : ℕ)
     → a.wait.timer ≡ Some s → a.numbered ≡ true
-clocked z turn a st c s q = is-true a.numbered
-    (λ n. let wrong : None ≡ Some s = sym (silent-of z turn turn Answerer a.phase a st refl c n) ∙ q in cc)
+clocked z turn a st c s q = grind (arith, is-true, silent-of)
 
 -- its clock runs once it heard a number, so its peer is Connected or was
 pub peer-linked : (w : TimedRun) → (u : ℕ) → (l : u < length w.ts) → is_connected (w.state u).answ.phase ≡ true → (s : ℕ)

@@ -31,27 +31,15 @@ one-hit f from (suc n) h = by (f (from + n)) refl (cases_lt (hits f from n) 1) (
     by : (x : Bool) → f (from + n) ≡ x → (hits f from n < 1) ⊎ (1 ≤ hits f from n)
         → (1 ≤ hits f from n → (t : ℕ) × (from ≤ t) × (t < from + n) × (f t ≡ true))
         → (t : ℕ) × (from ≤ t) × (t < from + suc n) × (f t ≡ true)
-    by x e (inr g) again = let z = again g in (z.0, z.1, omega (arith, z.2), z.3)
-    by true e (inl l) again = (from + n, omega arith, omega arith, e)
-    by false e (inl l) again = let none = ap one_if e in absurd (omega (arith, h, l, none))
+    by x e q2 again = grind (arith)
 
 pub once : (f : ℕ → Bool) (apart turns : ℕ) → ((s t : ℕ) → s < t → t < turns → f s ≡ true → f t ≡ true → s + apart ≤ t) → (from n : ℕ)
     → n ≤ apart → from + n ≤ turns → hits f from n ≤ 1
 once f apart turns h from zero l w = omega arith
-once f apart turns h from (suc n) l w = by (f (from + n)) refl (cases_lt (hits f from n) 1)
-    (once f apart turns h from n (omega (arith, l)) (omega (arith, w)))
-  where
-    by : (x : Bool) → f (from + n) ≡ x → (hits f from n < 1) ⊎ (1 ≤ hits f from n) → hits f from n ≤ 1 → hits f from (suc n) ≤ 1
-    by false e g k = let none = ap one_if e in omega (arith, k, none)
-    by true e (inl g) k = let one = one-most (f (from + n)) in omega (arith, g, one)
-    by true e (inr g) k = let x = one-hit f from n g in let far = h x.0 (from + n) x.2 (omega (arith, w)) x.3 e in let low = x.1 in absurd
-        (omega (arith, far, low, l))
+once f apart turns h from (suc n) l w = grind (arith, once f apart turns h from n (omega (arith, l)) (omega (arith, w)), one-most, one-hit)
 
 pub hits-sum : (f : ℕ → Bool) (from m n : ℕ) → hits f from (m + n) ≡ hits f from m + hits f (from + m) n
-hits-sum f from m zero = let same = ap (hits f from) (none m) in omega (arith, same)
-  where
-    none : (x : ℕ) → x + 0 ≡ x
-    none x = omega arith
+hits-sum f from m zero = grind (arith)
 hits-sum f from m (suc n) =
     let again = hits-sum f from m n in
     let same : hits f from (m + suc n) ≡ hits f from (m + n) + one_if (f (from + (m + n))) = ap (hits f from) (next m n) in
@@ -83,10 +71,7 @@ twice f apart turns h from n l w = elim (cases_lt n apart) [
 pub made-by : (f stands makes : ℕ → Bool) (from n : ℕ)
     → ((t : ℕ) → from ≤ t → t < from + n → one_if (stands (t + 1)) + one_if (f t) ≤ one_if (stands t) + one_if (makes t))
     → hits f from n + one_if (stands (from + n)) ≤ one_if (stands from) + hits makes from n
-made-by f stands makes from zero h = let same = ap (λ x. one_if (stands x)) (none from) in omega (arith, same)
-  where
-    none : (x : ℕ) → x + 0 ≡ x
-    none x = omega arith
+made-by f stands makes from zero h = grind (arith)
 made-by f stands makes from (suc n) h =
     let again = made-by f stands makes from n (λ t a b. h t a (omega (arith, b))) in
     let now = h (from + n) (omega arith) (omega arith) in
@@ -124,11 +109,7 @@ implied b y e = grind (arith)
 behind : (special acks : ℕ → Bool) (from n j : ℕ) → j < n
     → ((t : ℕ) → from ≤ t → t + 1 < from + n → special (t + 1) ≡ true → acks t ≡ true) → hits special from (suc j) ≤ 1 + hits acks from j
 behind special acks from n zero l h = let one = one-most (special (from + 0)) in omega (arith, one)
-behind special acks from n (suc j) l h =
-    let before = behind special acks from n j (omega (arith, l)) h in
-    let next = implied (special (from + j + 1)) (acks (from + j)) (h (from + j) (omega arith) (omega (arith, l))) in
-    let same : one_if (special (from + suc j)) ≡ one_if (special (from + j + 1)) = ap (λ x. one_if (special x)) (omega arith) in
-    omega (arith, before, next, same)
+behind special acks from n (suc j) l h = grind (arith, behind special acks from n j (omega (arith, l)) h)
 
 pub after-acks : (special acks : ℕ → Bool) (from n : ℕ) → ((t : ℕ) → from ≤ t → t + 1 < from + n → special (t + 1) ≡ true → acks t ≡ true)
     → hits special from n ≤ 1 + hits acks from n
@@ -221,17 +202,7 @@ polls-far {period} {turns} {e} {o} k s t less within a b = let p = k.period_is i
 
 pub sum-at-most : (x y z w : Bool) → (x ≡ true → (z ≡ true) ⊎ (w ≡ true)) → (y ≡ true → ((z ≡ true) ⊎ (w ≡ true)) × (x ≡ false))
     → one_if x + one_if y ≤ one_if z + one_if w
-sum-at-most true true z w f g = clash true refl (g refl).1
-sum-at-most false false z w f g = omega arith
-sum-at-most true false z w f g = elim (f refl) [
-  | inl q ↦ (let n = ap one_if q in omega (arith, n))
-  | inr q ↦ (let n = ap one_if q in omega (arith, n))
-]
-sum-at-most false true z w f g = by (g refl).0
-  where
-    by : (z ≡ true) ⊎ (w ≡ true) → 0 + 1 ≤ one_if z + one_if w
-    by (inl q) = let n = ap one_if q in omega (arith, n)
-    by (inr q) = let n = ap one_if q in omega (arith, n)
+sum-at-most x y z w f g = grind (arith, clash)
 
 -- urgent segments go twice at most
 pub hurries-twice : {period turns : ℕ} {e o : EndRun} {d : ℕ → Deeds} → TwoEnds period turns e o → Breaking period turns e d → (s n : ℕ)
@@ -284,15 +255,7 @@ module _ {period turns : ℕ} {e o : EndRun} {d : ℕ → Deeds} (k : TwoEnds pe
       heard-so q = was-sent (of_word any_brk) k.hears t within q
 
       go : (t < o.delay) ⊎ (o.delay ≤ t) → one_if (was_due (t + 1)) + one_if (heard_brk t) ≤ one_if (was_due t) + one_if (was_made t)
-      go (inl early) =
-          let none = ap one_if (not-true (was_due (t + 1))
-          (λ q. let x = and-two (nat_le o.delay (t + 1)) (brk_due (o.account (t + 1 - o.delay))) q in
-          let lx = below o.delay (t + 1) x.0 in clash (brk_due (o.account 0)) (ap (λ n. brk_due (o.account n)) (omega (arith, lx, early))
-          ∙ x.1) first)) in
-          let quiet = ap one_if
-          (not-true (heard_brk t)
-          (λ q. let x = (heard-so q).0 in let wrong : ⊥ = omega (arith, x, early) in wrong)) in
-          omega (arith, none, quiet)
+      go (inl early) = grind (arith, not-true, and-two, clash, heard-so)
       go (inr late) = sum-at-most (was_due (t + 1)) (heard_brk t) (was_due t) (was_made t) due heard
         where
           u : ℕ
