@@ -1,5 +1,5 @@
 -- The decimal digits of a number are a word that is read as a number, whose value it is.
-use Rattle.std.proofs.Common.{◌≡◌, ℕ, ◌^◌, ◌<◌, ◌≤◌, Bool, true, ◌&&◌, nat_le, List, [], ◌∷◌, length, refl, arith}
+use Rattle.std.proofs.Common.{◌≡◌, ℕ, ◌^◌, ◌<◌, ◌≤◌, Bool, true, ◌&&◌, nat_le, List, [], ◌∷◌, refl, arith}
 use Rattle.std.specs.Prelude.{decimal}
 use Rattle.std.specs.List.{list_all}
 use Rattle.std.proofs.lemmas.Bool.{and_parts}
@@ -36,10 +36,8 @@ IsSmall n = n < 2 ^ 64
 
 pub is-number : (n : ℕ) → IsSmall n → is_number (decimal n) ≡ true
 is-number n h =
-    both (nat_le 1 (length (decimal n))) (nat_le (length (decimal n)) 20 && list_all is_digit (decimal n))
-    (is-most 1 (length (decimal n)) (decimal_nonempty n h))
-    (both (nat_le (length (decimal n)) 20) (list_all is_digit (decimal n))
-    (is-most (length (decimal n)) 20 (length-decimal-le 20 n (omega arith) (omega (arith, h)) h)) (digits_decimal numerals n h))
+    both _ _ (is-most 1 _ (decimal_nonempty n h)) (both _ _ (is-most _ 20 (length-decimal-le 20 n (omega arith) (omega (arith, h)) h))
+    (digits_decimal numerals n h))
 
 -- what holds of each digit holds of the octets of a number
 all-weaker : (test : ℕ → Bool) → ((x : ℕ) → is_digit x ≡ true → test x ≡ true) → (xs : List ℕ) → AllDigits xs → list_all test xs ≡ true

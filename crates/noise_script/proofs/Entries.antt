@@ -4,13 +4,11 @@ use Rattle.std.proofs.Common.{Some, None, is_some, refl, sym, ap, subst, ◌∙�
 use Rattle.std.specs.List.{cons_option}
 use Rattle.std.proofs.lemmas.List.Elements.{filter_map-append}
 use mir.Val.{bool_byte}
-use Rattle.std.proofs.lemmas.Bool.{false≢true}
 use Rattle.shared_terms.specs.declared.role.Role.{Role}
 use Rattle.shared_terms.specs.declared.role.Role.TheVariants.{Originator, Answerer}
 use Rattle.shared_terms.specs.Role.{same_role}
 use Rattle.noise_script.specs.declared.entry.Break.{Break}
 use Rattle.noise_script.specs.declared.entry.Entry.{Entry}
-use Rattle.noise_script.specs.declared.entry.Entry.TheVariants as entries
 use Rattle.noise_script.specs.declared.forms.Form.{Form}
 use Rattle.noise_script.specs.declared.forms.Form.TheVariants as forms
 use Rattle.noise_script.specs.declared.offered.Offered.{Offered}
@@ -258,11 +256,9 @@ first-more {X = X} say kind counts one said entry few = by (say entry) refl ∙ 
 
 offered-more : (role : Role) (said : List Entry) (entry : Entry) → standing (kind_of entry) said < most (row (kind_of entry).form).bound
     → offered_after role entry (offered_in role said) ≡ offered_in role (said ++ entry ∷ [])
-offered-more role said entry few = alike
-    (first-more (window_said role) (each forms.Window role) (counts-window role) refl said entry few)
-    (first-more (length_said role) (each forms.Length role) (counts-length role) refl said entry few)
-    (sym (flag-more (each forms.Srej role) said entry))
-    (sym (flag-more (each forms.Check32 role) said entry))
+offered-more role said entry few = alike (first-more (window_said role) (each forms.Window role) (counts-window role) refl _ _ few)
+    (first-more (length_said role) (each forms.Length role) (counts-length role) refl _ _ few)
+    (sym (flag-more (each forms.Srej role) said entry)) (sym (flag-more (each forms.Check32 role) said entry))
   where
     alike : {a b : Offered} → a.window ≡ b.window → a.length ≡ b.length → a.srej ≡ b.srej → a.check32 ≡ b.check32 → a ≡ b
     alike w l s k i = record { window = w i; length = l i; srej = s i; check32 = k i }
@@ -283,11 +279,10 @@ breaks-more said entry = by (break_said entry) ∙ ap in_order (sym (lists-more 
 pub holds-more : (draft after : Draft) (said : List Entry) (entry : Entry) → Holds draft said → Adds draft entry after
     → standing (kind_of entry) said < most (row (kind_of entry).form).bound → Holds after (said ++ entry ∷ [])
 holds-more draft after said entry h a few = record {
-  delays = a.delays ∙ ap (or_before (delays_said entry)) h.delays
-      ∙ first-more delays_said (whole forms.Delay) counts-delay refl said entry few;
-  tries = a.tries ∙ ap (or_before (tries_said entry)) h.tries ∙ first-more tries_said (whole forms.Tries) counts-tries refl said entry few;
-  orig = a.orig ∙ ap (offered_after Originator entry) h.orig ∙ offered-more Originator said entry few;
-  answ = a.answ ∙ ap (offered_after Answerer entry) h.answ ∙ offered-more Answerer said entry few;
+  delays = a.delays ∙ ap (or_before (delays_said entry)) h.delays ∙ first-more delays_said (whole forms.Delay) counts-delay refl _ _ few;
+  tries = a.tries ∙ ap (or_before (tries_said entry)) h.tries ∙ first-more tries_said (whole forms.Tries) counts-tries refl _ _ few;
+  orig = a.orig ∙ ap (offered_after Originator entry) h.orig ∙ offered-more Originator _ _ few;
+  answ = a.answ ∙ ap (offered_after Answerer entry) h.answ ∙ offered-more Answerer _ _ few;
   losses = a.losses ∙ ap (λ xs. xs ++ cons_option (loss_said entry) []) h.losses ∙ sym (lists-more loss_said said entry);
   hits = a.hits ∙ ap (λ xs. xs ++ cons_option (hit_said entry) []) h.hits ∙ sym (lists-more hit_said said entry);
   noises = a.noises ∙ ap (λ xs. xs ++ cons_option (noise_said entry) []) h.noises ∙ sym (lists-more noise_said said entry);

@@ -94,10 +94,9 @@ placed_each-of : (turn : ℕ) (sorted lines : List Break) → AreRising sorted
     → of_turn turn (placed_each sorted lines) ≡ of_turn turn sorted ++ of_turn turn lines
 placed_each-of turn sorted [] r = sym (append-nil (of_turn turn sorted))
 placed_each-of turn sorted (line ∷ lines) r =
-    placed_each-of turn (placed line sorted) lines (placed-rising line sorted r)
-    ∙ ap (λ ls. ls ++ of_turn turn lines) (placed-of turn line sorted r)
-    ∙ append_assoc (of_turn turn sorted) (of_turn turn (line ∷ [])) (of_turn turn lines)
-    ∙ ap (λ ls. of_turn turn sorted ++ ls) (one-before turn line lines)
+    placed_each-of turn (placed line sorted) lines (placed-rising _ _ r) ∙ ap (λ ls. ls ++ of_turn turn lines) (placed-of _ _ _ r)
+    ∙ append_assoc (of_turn turn sorted) (of_turn turn (line ∷ [])) (of_turn turn lines) ∙ ap (λ ls. of_turn turn sorted ++ ls)
+    (one-before turn line lines)
 
 pub in_order-is : BreaksInOrder
 in_order-is lines = record { rising = placed_each-rising [] lines tt; same = λ turn. placed_each-of turn [] lines tt }

@@ -142,8 +142,7 @@ pub draft-script-is : (draft : Draft) (said : List Entry) → Holds draft said �
 draft-script-is draft said h = rw (h.delays, h.tries, h.orig, h.answ, h.losses, h.hits, h.noises, h.breaks, h.pauses) refl
 
 pub draft-in-limits : (text : List ℕ) (number : ℕ) (draft : Draft) → HoldsUpTo text [] number draft → IsInLimits (draft_script draft)
-draft-in-limits text number draft h =
-    subst IsInLimits (sym (draft-script-is draft h.said h.holds)) (in-limits h.said (says-in-range h.says) h.allowed)
+draft-in-limits text number draft h = subst IsInLimits (sym (draft-script-is _ _ h.holds)) (in-limits _ (says-in-range h.says) h.allowed)
 
 -- what the draft of all lines makes is what the text spells
 pub read-spelling : (text : List ℕ) (number : ℕ) (draft : Draft) (script : ScriptValue) → HoldsUpTo text [] number draft

@@ -4,7 +4,7 @@ use Rattle.std.proofs.Common.{length, get_or, refl, sym, ap, subst, ◌∙◌, a
 use Rattle.std.proofs.lemmas.Bool.{false≢true}
 use Rattle.std.proofs.lemmas.Int.{ints}
 use Rattle.shared_terms.specs.declared.role.Role.{Role}
-use Rattle.shared_terms.specs.declared.role.Role.TheVariants.{Originator, Answerer}
+use Rattle.shared_terms.specs.declared.role.Role.TheVariants.{Originator}
 use Rattle.shared_terms.specs.declared.cause.Cause.{Cause}
 use Rattle.shared_terms.specs.declared.cause.Cause.TheVariants as causes
 use Rattle.noise_script.specs.declared.entry.Entry.{Entry}
@@ -217,8 +217,7 @@ misread-spelled words entry cause m s =
 
 misspelled-spelled : (words : List (List ℕ)) (entry : Entry) (cause : Cause) → Misspells words cause → SpellsLine words entry → ⊥
 misspelled-spelled words entry cause (inl u) s = unknown-form words s.rest (form_of entry) cause u s.words_are
-misspelled-spelled words entry cause (inr (inl m)) s =
-    miscounted-length words s.rest (form_of entry) cause m s.words_are (each-length _ s.rest _ s.each)
+misspelled-spelled words entry cause (inr (inl m)) s = miscounted-length _ _ _ _ m s.words_are (each-length _ _ _ s.each)
 misspelled-spelled words entry cause (inr (inr m)) s = misread-spelled words entry cause m s
 
 misspelled-once : (words : List (List ℕ)) (a b : Cause) → Misspells words a → Misspells words b → a ≡ b

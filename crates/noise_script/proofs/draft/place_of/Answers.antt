@@ -15,6 +15,4 @@ before line (suc at) (next ∷ lines) d h l = before line at lines d (omega (ari
 
 pub returns-then-line-next-clause-place : goal.returns-then-line-next-clause-place
 returns-then-line-next-clause-place c =
-    c.loop-at.invariant
-    ∙ ap (λ rest. take c.loop-at.at c.args.breaks.now ++ rest)
-    (before c.args.line c.loop-at.at c.args.breaks.now _ c.loop-at-test.true c.if-line-next.true)
+    c.loop-at.invariant ∙ ap (λ rest. take c.loop-at.at c.args.breaks.now ++ rest) (before _ _ _ _ c.loop-at-test.true c.if-line-next.true)

@@ -21,9 +21,7 @@ pub loop-at-smaller : goal.loop-at-smaller
 loop-at-smaller c = less-left (length c.args.line.now) c.loop-at.at c.loop-at-test.true
 
 pub loop-at-preserved : goal.loop-at-preserved
-loop-at-preserved c =
-    sym (blank-skipped c.args.line.now c.loop-at.at c.loop-at-test.true (sym c.is_blank.ensures ∙ c.if-not-is_blank.false))
-    ∙ c.loop-at.invariant
+loop-at-preserved c = sym (blank-skipped _ _ c.loop-at-test.true (sym c.is_blank.ensures ∙ c.if-not-is_blank.false)) ∙ c.loop-at.invariant
 
 pub returns-then-not-is_blank : goal.returns-then-not-is_blank
 returns-then-not-is_blank c =
@@ -31,9 +29,8 @@ returns-then-not-is_blank c =
     let at = c.loop-at.at in
     record {
       words = ap words_of (behind line at) ∙ c.loop-at.invariant;
-      word = λ some. ap is_in_word (behind line at)
-          ∙ word-begins line at c.loop-at-test.true (sym c.is_blank.ensures ∙ c.if-not-is_blank.true);
-      shorter = subst (λ (rest : List ℕ). length rest ≤ length line) (sym (behind line at)) (no-longer line at);
+      word = λ some. ap is_in_word (behind line at) ∙ word-begins _ _ c.loop-at-test.true (sym c.is_blank.ensures ∙ c.if-not-is_blank.true);
+      shorter = subst (λ (rest : List ℕ). length rest ≤ length line) (sym (behind line at)) (no-longer _ at);
     }
 
 pub returns : goal.returns

@@ -9,8 +9,7 @@ pub returns-then-is_full-clause-fault : goal.returns-then-is_full-clause-fault
 returns-then-is_full-clause-fault c said h a =
     let spelled : SpellsLine (words_of c.args.line.now) c.in-Ok-Some.entry = rw c.in-Ok-Some.field-0-is at c.in-Ok-Some.ensures in (
       refl,
-      inr (too-many said _ c.in-Ok-Some.entry c.form.result c.bound.result c.too_many.result c.is_full.result spelled c.form.ensures
-          c.if-is_full.true (c.is_full.ensures said h a) c.bound.ensures c.too_many.ensures),
+      inr (too-many _ _ _ _ _ _ _ spelled c.form.ensures c.if-is_full.true (c.is_full.ensures said h a) c.bound.ensures c.too_many.ensures),
     )
 
 pub returns-clause-ok : goal.returns-clause-ok
