@@ -29,13 +29,11 @@ module _ (table : ℕ → ℕ → Option ℕ) (points : ℕ → Sample) (states 
       record {
         keeps = λ starts past front h.
             subst (λ l. KeepsSurvivors (trellis_of table points starts) new l front) (append_assoc past samples (sample ∷ []))
-            (keeps-stepped table points states labels starts sample mid new (past ++ samples) front bounded once p
-            (s.keeps starts past front h));
+            (keeps-stepped _ _ _ _ _ _ _ _ _ _ bounded once p (s.keeps starts past front h));
         small = λ count h.
             let more : (count + length samples) + 1 ≡ count + length (samples ++ sample ∷ []) = omega (arith, n) in
             subst (λ m. IsSmallAfter table states reach m new) more
-            (spread-next table points states labels reach sample mid new (count + length samples) bounded within reaches p
-            (s.small count h));
+            (spread-next _ _ _ _ _ _ _ _ _ bounded within reaches p (s.small count h));
         longer = omega (arith, n, s.longer, p.longer_by_one);
       }
 

@@ -95,12 +95,10 @@ least_of_eight k least e = record {
     under a b c d i l n = omega arith
 
     left : (pair i j : ℕ) → pair < 4 → pairs pair ≡ min (k i) (k j) → least ≤ k i
-    left pair i j l is = under least (pairs p.place) (pairs pair) (k i) (e ∙ p.is) (p.below_each pair l)
-        (subst (λ n. n ≤ k i) (sym is) (min-le_left (k i) (k j)))
+    left pair i j l is = under _ _ _ _ (e ∙ p.is) (p.below_each pair l) (subst (λ n. n ≤ k i) (sym is) (min-le_left (k i) (k j)))
 
     right : (pair i j : ℕ) → pair < 4 → pairs pair ≡ min (k i) (k j) → least ≤ k j
-    right pair i j l is = under least (pairs p.place) (pairs pair) (k j) (e ∙ p.is) (p.below_each pair l)
-        (subst (λ n. n ≤ k j) (sym is) (min-le_right (k i) (k j)))
+    right pair i j l is = under _ _ _ _ (e ∙ p.is) (p.below_each pair l) (subst (λ n. n ≤ k j) (sym is) (min-le_right (k i) (k j)))
 
 -- a key of 32 bits stands for one of a state to which a sequence leads
 stands-near : (x y key word : ℕ) → x < 65536 → y < 65536 → key < 2 ^ 32 → StandsFor x y key word → word < far_key

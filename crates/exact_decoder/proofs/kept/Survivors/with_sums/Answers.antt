@@ -15,5 +15,4 @@ invariant_of-result g c = record {
 }
 
 pub returns : goal.returns
-returns g c = ap (λ l. record { sums = map sum_in c.args.sums.items; tails = l; unreleased = 0 })
-    (start-tails g.row.STATES c.in_ok-ring.ring)
+returns g c = ap (λ l. record { sums = map sum_in c.args.sums.items; tails = l; unreleased = 0 }) (start-tails _ c.in_ok-ring.ring)
