@@ -178,13 +178,7 @@ pub same-drawn : (noise : Noise) (sender role : Role) (seed place symbol word : 
     → seed ≡ noise.seed → role ≡ sender → place ≡ symbol - noise.from → word ≡ word_at seed (stream_of role) place
     → offset ≡ drawn_offset noise.amplitude word
     → offset ≡ drawn_offset noise.amplitude (word_at noise.seed (stream_of noise.role) (symbol - noise.from))
-same-drawn noise sender role seed place symbol word offset o s r p w is =
-    is ∙ ap (drawn_offset noise.amplitude) (w ∙ ap (λ n. word_at n (stream_of role) place) s
-    ∙ ap (λ n. word_at noise.seed (stream_of role) n) p
-    ∙ ap (λ n. word_at noise.seed n (symbol - noise.from)) (ap stream_of r ∙ sym (same-stream noise.role sender o)))
-  where
-    same-stream : (a b : Role) → same_role a b ≡ true → stream_of a ≡ stream_of b
-    same-stream q0 q1 e = grind (arith)
+same-drawn noise sender role seed place symbol word offset o s r p w is = grind (arith)
 
 pub within-at : (most : ℕ) (by : ℕ → Offset) (place : ℕ) (old new : List Offset) → AreWithin most old → GrowUpTo by place old new
     → place < length old → IsWithin most (at_place new place)

@@ -1,8 +1,9 @@
 -- What lines say, one line more at a time.
-use Rattle.std.proofs.Common.{◌≡◌, ℕ, ◌+◌, ◌<◌, ◌≤◌, Bool, true, false, ◌&&◌, ◌||◌, cond, List, [], ◌∷◌, ◌++◌, length, filter_map, Option}
+use Rattle.std.proofs.Common.{◌≡◌, ℕ, ◌+◌, ◌<◌, ◌≤◌, Bool, true, false, ◌||◌, cond, List, [], ◌∷◌, ◌++◌, length, filter_map, Option}
 use Rattle.std.proofs.Common.{Some, None, is_some, refl, sym, ap, subst, ◌∙◌, arith, append-nil}
 use Rattle.std.specs.List.{cons_option}
 use Rattle.std.proofs.lemmas.List.Elements.{filter_map-append}
+use Rattle.std.proofs.lemmas.Bool.{and_parts}
 use mir.Val.{bool_byte}
 use Rattle.shared_terms.specs.declared.role.Role.{Role}
 use Rattle.shared_terms.specs.declared.role.Role.TheVariants.{Originator, Answerer}
@@ -40,16 +41,8 @@ same_counted-is q0 q1 e = grind (arith)
 same_counted-self : (a : Option Role) → same_counted a a ≡ true
 same_counted-self q0 = grind (arith)
 
-both-true : (a b : Bool) → (a && b) ≡ true → (a ≡ true) × (b ≡ true)
-both-true q0 b e = grind (arith)
-
 same_kind-is : (a b : Kind) → same_kind a b ≡ true → a ≡ b
-same_kind-is a b e =
-    let parts = both-true (same_form a.form b.form) (same_counted a.role b.role) e in
-    alike (same_form-is a.form b.form parts.0) (same_counted-is a.role b.role parts.1)
-  where
-    alike : a.form ≡ b.form → a.role ≡ b.role → a ≡ b
-    alike f r i = record { form = f i; role = r i }
+same_kind-is a b e = grind (arith, and_parts, same_form-is, same_counted-is)
 
 same_kind-self : (a : Kind) → same_kind a a ≡ true
 same_kind-self a = rw (same_form-self a.form, same_counted-self a.role) refl
@@ -62,9 +55,7 @@ standing-cons kind entry said = refl
 
 standing-append : (kind : Kind) (a b : List Entry) → standing kind (a ++ b) ≡ standing kind a + standing kind b
 standing-append kind [] b = let none : standing kind [] ≡ 0 = refl in omega (arith, none)
-standing-append kind (entry ∷ a) b =
-    let later = standing-append kind a b in
-    omega (arith, later, standing-cons kind entry a, standing-cons kind entry (a ++ b))
+standing-append kind (entry ∷ a) b = grind (arith, standing-cons, standing-append kind a b)
 
 standing-one : (kind : Kind) (entry : Entry) → standing kind (entry ∷ []) ≡ cond (same_kind kind (kind_of entry)) 1 0
 standing-one kind entry = let none : standing kind [] ≡ 0 = refl in omega (arith, standing-cons kind entry [], none)
@@ -217,11 +208,7 @@ lists-more say said entry = filter_map-append say said (entry ∷ [])
 
 flag-more : (kind : Kind) (said : List Entry) (entry : Entry)
     → stands kind (said ++ entry ∷ []) ≡ (stands kind said || same_kind kind (kind_of entry))
-flag-more kind [] entry = or-false (same_kind kind (kind_of entry))
-  where
-    or-false : (b : Bool) → (b || false) ≡ b
-    or-false true = refl
-    or-false false = refl
+flag-more kind [] entry = grind (arith)
 flag-more kind (other ∷ said) entry = by (same_kind kind (kind_of other)) (flag-more kind said entry)
   where
     by : (b : Bool) → stands kind (said ++ entry ∷ []) ≡ (stands kind said || same_kind kind (kind_of entry))

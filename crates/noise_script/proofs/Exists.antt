@@ -148,10 +148,7 @@ values-from (argument ∷ arguments) (word ∷ words) front (value ∷ values) s
 -- the values are those of an entry of the form
 values-again : (form : Form) (words : List (List ℕ)) (values : List Value) → SpellsEach (arguments_of form) words values
     → values_of (entry_of form values) ≡ values
-values-again form words values s = by form values ∙ values-from (arguments_of form) words [] values s
-  where
-    by : (form : Form) (values : List Value) → values_of (entry_of form values) ≡ values_from 0 (arguments_of form) values
-    by q0 values = grind (arith)
+values-again form words values s = grind (arith, values-from)
 
 form-again : (form : Form) (values : List Value) → form_of (entry_of form values) ≡ form
 form-again q0 values = grind (arith)

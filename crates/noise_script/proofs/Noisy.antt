@@ -76,8 +76,7 @@ none-stands : (test : Entry → Bool) → ((noise : Noise) → test (entries.Noi
     → (noises : List Noise) (losses : List Loss) → list_any test (all_entries noises losses) ≡ false
 none-stands test n l [] [] = refl
 none-stands test n l [] (loss ∷ losses) = ap (λ b. b || list_any test (loss_entries losses)) (l loss) ∙ none-stands test n l [] losses
-none-stands test n l (noise ∷ noises) losses =
-    ap (λ b. b || list_any test (all_entries noises losses)) (n noise) ∙ none-stands test n l noises losses
+none-stands test n l (noise ∷ noises) losses = grind (arith, none-stands test n l noises losses)
 
 losses-are : (noises : List Noise) (losses : List Loss) → filter_map loss_said (all_entries noises losses) ≡ losses
 losses-are [] [] = refl

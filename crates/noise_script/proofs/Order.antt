@@ -17,8 +17,7 @@ placed-length line (next ∷ lines) = by (nat_lt line.turn next.turn) (placed-le
 
 placed_each-length : (sorted lines : List Break) → length (placed_each sorted lines) ≡ length sorted + length lines
 placed_each-length sorted [] = let none : length {A = Break} [] ≡ 0 = refl in omega (arith, none)
-placed_each-length sorted (line ∷ lines) = let later = placed_each-length (placed line sorted) lines in
-    omega (arith, later, placed-length line sorted)
+placed_each-length sorted (line ∷ lines) = grind (arith, placed-length, placed_each-length (placed line sorted) lines)
 
 pub in_order-length : (lines : List Break) → length (in_order lines) ≡ length lines
 in_order-length lines = let e = placed_each-length [] lines in omega (arith, e)
@@ -81,10 +80,7 @@ placed-of turn line (next ∷ lines) r = by (nat_lt line.turn next.turn) refl (p
     by false e later = behind (nat_eq next.turn turn) later
 
 one-before : (turn : ℕ) (line : Break) (lines : List Break) → of_turn turn (line ∷ []) ++ of_turn turn lines ≡ of_turn turn (line ∷ lines)
-one-before turn line lines = by (nat_eq line.turn turn)
-  where
-    by : (b : Bool) → cond b (line ∷ []) [] ++ of_turn turn lines ≡ cond b (line ∷ of_turn turn lines) (of_turn turn lines)
-    by q0 = grind (arith)
+one-before turn line lines = grind (arith)
 
 placed_each-rising : (sorted lines : List Break) → AreRising sorted → AreRising (placed_each sorted lines)
 placed_each-rising sorted [] r = r

@@ -1,5 +1,5 @@
 -- A text spells one script at most, or has one first fault, and never both.
-use Rattle.std.proofs.Common.{◌≡◌, ◌⊎◌, inl, inr, ℕ, suc, ◌+◌, ◌<◌, true, false, nat_eq, if◌then◌else◌, ℤ, pos, ◌<ℤ◌, List, [], ◌∷◌, ◌++◌}
+use Rattle.std.proofs.Common.{◌≡◌, inl, inr, ℕ, suc, ◌+◌, true, false, nat_eq, if◌then◌else◌, ℤ, pos, List, [], ◌∷◌, ◌++◌}
 use Rattle.std.proofs.Common.{length, get_or, refl, sym, ap, subst, ◌∙◌, arith}
 use Rattle.std.proofs.lemmas.Bool.{false≢true}
 use Rattle.std.proofs.lemmas.Int.{ints}
@@ -12,7 +12,6 @@ use Rattle.noise_script.specs.declared.entry.Entry.TheVariants as entries
 use Rattle.noise_script.specs.declared.forms.Form.{Form}
 use Rattle.noise_script.specs.declared.forms.Form.TheVariants as forms
 use Rattle.noise_script.specs.Lines.{begins_with, words_of, is_passed_over}
-use Rattle.noise_script.specs.Numbers.{value_of, signed_value_of}
 use Rattle.noise_script.specs.Forms.{Argument, ARole, Number, Signed, Value, RoleIs, NumberIs, SignedIs, row, word_of, arguments_of}
 use Rattle.noise_script.specs.Forms.{form_of, values_of, too_many, Spells, Fails, SpellsEach, FirstFails, SpellsLine, IsUnknown}
 use Rattle.noise_script.specs.Forms.{IsMiscounted, IsMisread, Misspells}
@@ -80,20 +79,12 @@ fail-spell ARole word causes.Word (RoleIs role) f s = f role s
 fail-spell ARole word causes.Word value f s = s
 fail-spell ARole word cause value f s = f
 fail-spell (Number low high) word causes.Number (NumberIs n) f s = false≢true (sym f ∙ s.digits)
-fail-spell (Number low high) word causes.Range (NumberIs n) f s = range f.1
-  where
-    range : (value_of word < low) ⊎ (high < value_of word) → ⊥
-    range (inl below) = omega (arith, below, s.value_is, s.not_below)
-    range (inr above) = omega (arith, above, s.value_is, s.not_above)
+fail-spell (Number low high) word causes.Range (NumberIs n) f s = grind (arith)
 fail-spell (Number low high) word causes.Number value f s = s
 fail-spell (Number low high) word causes.Range value f s = s
 fail-spell (Number low high) word cause value f s = f
 fail-spell (Signed low high) word causes.Number (SignedIs n) f s = false≢true (sym f ∙ s.digits)
-fail-spell (Signed low high) word causes.Range (SignedIs n) f s = range f.1
-  where
-    range : (signed_value_of word <ℤ low) ⊎ (high <ℤ signed_value_of word) → ⊥
-    range (inl below) = omega (arith, ints, below, s.value_is, s.not_below)
-    range (inr above) = omega (arith, ints, above, s.value_is, s.not_above)
+fail-spell (Signed low high) word causes.Range (SignedIs n) f s = grind (arith, ints)
 fail-spell (Signed low high) word causes.Number value f s = s
 fail-spell (Signed low high) word causes.Range value f s = s
 fail-spell (Signed low high) word cause value f s = f
@@ -109,10 +100,7 @@ each-once [] words a b s t = s.1 ∙ sym t.1
 each-once (argument ∷ arguments) [] a b s t = absurd s
 each-once (argument ∷ arguments) (word ∷ words) [] b s t = absurd s
 each-once (argument ∷ arguments) (word ∷ words) (x ∷ a) [] s t = absurd t
-each-once (argument ∷ arguments) (word ∷ words) (x ∷ a) (y ∷ b) s t =
-    let first : x ≡ y = value-once argument word x y s.0 t.0 in
-    let rest : a ≡ b = each-once arguments words a b s.1 t.1 in
-    rw (first, rest) refl
+each-once (argument ∷ arguments) (word ∷ words) (x ∷ a) (y ∷ b) s t = grind (arith, value-once, each-once arguments words a b s.1 t.1)
 
 each-length : (arguments : List Argument) (words : List (List ℕ)) (values : List Value) → SpellsEach arguments words values
     → length words ≡ length arguments
