@@ -33,11 +33,7 @@ ends-text bits text e =
     ∙ ap (λ l. take (length bits - length text) bits ++ l) (sym (same-bits text (drop (length bits - length text) bits) e))
 
 pub text-ends : (bits before text : List Bool) → bits ≡ before ++ text → ends_with beq bits text ≡ true
-text-ends bits before text e =
-    let front : length before ≡ length bits - length text = omega (arith, ap length e, length-append {A = Bool} before text) in
-    let rest : drop (length bits - length text) bits ≡ text =
-    ap (drop (length bits - length text)) e ∙ drop_at before text (length bits - length text) front in
-    ap (pointwise beq text) rest ∙ bits-same text
+text-ends bits before text e = grind (arith, length-append, drop_at, bits-same)
 
 -- a test of some numbers
 
@@ -46,12 +42,10 @@ either true b e P f g = f refl
 either false b e P f g = g e
 
 or-left : (a b : Bool) → a ≡ true → (a || b) ≡ true
-or-left true b e = refl
-or-left false b e = absurd (false≢true e)
+or-left q0 b e = grind (arith)
 
 or-right : (a b : Bool) → b ≡ true → (a || b) ≡ true
-or-right true b e = refl
-or-right false b e = e
+or-right q0 b e = grind (arith)
 
 below-found : (n : ℕ) (test : ℕ → Bool) → some_below n test ≡ true → (i : ℕ) × (i < n) × (test i ≡ true)
 below-found zero test e = absurd (false≢true e)
@@ -71,8 +65,7 @@ gap-found test e = let r = below-found 10 (λ more. test (8 + more)) e in
     (8 + r.0, record { low = omega arith; high = omega (arith, r.1) }, r.2)
 
 gap-at : (test : ℕ → Bool) (gap : ℕ) → IsGap gap → test gap ≡ true → some_gap test ≡ true
-gap-at test gap g e = let place : 8 + (gap - 8) ≡ gap = omega (arith, g.low) in
-    below-at 10 (λ more. test (8 + more)) (gap - 8) (omega (arith, g.low, g.high)) (ap test place ∙ e)
+gap-at test gap g e = grind (arith, below-at)
 
 -- the test of a pattern
 
@@ -138,5 +131,4 @@ pub seen-once : (bits : List Bool) (answer : Option Seen) → IsSeen bits answer
 seen-once bits answer h = same_answer bits answer (seen_at bits) h (seen-is bits)
 
 pub seen-none : (bits : List Bool) → (EndsPattern Odp bits → ⊥) → (EndsPattern Adp bits → ⊥) → IsSeen bits None
-seen-none bits odp adp Odp p = odp p
-seen-none bits odp adp Adp p = adp p
+seen-none bits odp adp q3 p = grind (arith)

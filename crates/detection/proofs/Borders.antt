@@ -152,13 +152,11 @@ none-in_flags size phase frame past h p low high seen x =
         some = omega (arith, low, length-append {A = Bool} (take phase flag) (take p line), length-take-le p line high)
 
         zero_first : get_or (take phase flag ++ take p line) 0 false ≡ false
-        zero_first = sym (get_or_append_left (take phase flag ++ take p line) (drop p line) false 0 some)
-            ∙ ap (λ l. get_or l 0 false) (whole ∙ begins.1)
+        zero_first = grind (arith, get_or_append_left, line, some, whole, begins)
 
         each : Longer h.front (take phase flag ++ take p line) (x.before ++ (before_last seen x.a x.b x.e ++ second seen)) (ones 8)
             ⊎ Over h.front (take phase flag ++ take p line) (x.before ++ (before_last seen x.a x.b x.e ++ second seen)) (ones 8) → ⊥
-        each (inl w) = no_eight w.more (drop p line)
-            (subst (λ l. Calm l 6) (sym whole ∙ ap (λ l. l ++ drop p line) w.bits_is ∙ append_assoc w.more (ones 8) (drop p line)) calm)
+        each (inl w) = grind (arith, no_eight, line, whole, append_assoc)
         each (inr w) =
             let none : length w.lead + 0 ≡ length w.lead = omega arith in
             let few : length w.lead < 8 =
@@ -221,8 +219,7 @@ none-in_marks size phase past h p low high seen x = each (split-ends past (take 
 -- the first zeros of a pattern slot
 
 first-zero : (size : ℕ) (kind : Seen) → get_or (pattern_bits size kind) 0 false ≡ false
-first-zero size Odp = refl
-first-zero size Adp = refl
+first-zero size q1 = grind (arith)
 
 ninth-zero : (size : ℕ) (kind : Seen) → get_or (pattern_bits size kind) 8 false ≡ false
 ninth-zero size Odp = refl

@@ -38,8 +38,7 @@ each_below zero test = true
 each_below (suc n) test = test n && each_below n test
 
 both : (a b : Bool) → (a && b) ≡ true → (a ≡ true) × (b ≡ true)
-both true b e = (refl, e)
-both false b e = absurd (false≢true e)
+both q0 b e = grind (arith)
 
 pub at_each : (n : ℕ) (test : ℕ → Bool) → each_below n test ≡ true → (i : ℕ) → i < n → test i ≡ true
 at_each zero test e i l = absurd (omega arith)
@@ -63,17 +62,10 @@ all_places Adp Adp = refl
 -- the bits of a pattern slot
 
 ten_long : (kind : Seen) → length (patterns 10 kind) ≡ 360
-ten_long Odp = refl
-ten_long Adp = refl
+ten_long q0 = grind (arith)
 
 pub length-pattern_bits : (size : ℕ) (kind : Seen) → 360 ≤ size → length (pattern_bits size kind) ≡ size
-length-pattern_bits size kind h =
-    omega (
-      arith,
-      ten_long kind,
-      length-append {A = Bool} (patterns 10 kind) (ones (size - 360)),
-      length-replicate {A = Bool} (size - 360) true,
-    )
+length-pattern_bits size kind h = grind (arith, ten_long, length-append, length-replicate)
 
 ten-split : (kind : Seen) → patterns 10 kind ≡ take 351 (patterns 10 kind) ++ ones 9
 ten-split Odp = refl
@@ -104,19 +96,13 @@ first-part size kind p long h =
 -- a pattern that ends in them is the slot's, and ends at one of its places
 
 second-zero : (seen : Seen) → get_or (second seen ++ ones 8) 0 false ≡ false
-second-zero Odp = refl
-second-zero Adp = refl
+second-zero q0 = grind (arith)
 
 kinds : (kind seen : Seen) → same_kind kind seen ≡ true → kind ≡ seen
-kinds Odp Odp e = refl
-kinds Odp Adp e = absurd (false≢true e)
-kinds Adp Odp e = absurd (false≢true e)
-kinds Adp Adp e = refl
+kinds q0 q1 e = grind (arith)
 
 rest_of : (a b c : Bool) → (not a || (b || c)) ≡ true → a ≡ true → b ≡ false → c ≡ true
-rest_of true true c e x y = absurd (false≢true (sym y))
-rest_of true false c e x y = e
-rest_of false b c e x y = absurd (false≢true x)
+rest_of q0 b c e x y = grind (arith)
 
 not_below : (m n : ℕ) → n ≤ m → nat_lt m n ≡ false
 not_below m n h = grind (arith, nat_tests)
@@ -215,12 +201,10 @@ own-late kind p h = each (nat_lt 70 p)
     late = not_below p 360 (omega arith)
 
     each : (b : Bool) → (if b && (nat_lt p 360 && nat_eq (p % 36) 35) then Some kind else None) ≡ None
-    each true = rw late refl
-    each false = refl
+    each q0 = grind (arith)
 
 nine-sights : (start : ℕ) (kind : Seen) → ranged (own kind) start 368 ≡ sights_from 9 start 71 kind
-nine-sights start Odp = refl
-nine-sights start Adp = refl
+nine-sights start q1 = grind (arith)
 
 pub own-sights : (start size : ℕ) (kind : Seen) → 368 ≤ size → ranged (own kind) start size ≡ sights_from 9 start 71 kind
 own-sights start size kind h =

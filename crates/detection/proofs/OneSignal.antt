@@ -1,5 +1,5 @@
 -- The bits of a slot tell what it carries.
-use Rattle.std.proofs.Common.{◌≡◌, ℕ, zero, suc, ◌<◌, Bool, true, false, List, Option, refl, sym, ◌∙◌, ap}
+use Rattle.std.proofs.Common.{◌≡◌, ℕ, zero, suc, ◌<◌, Bool, true, false, List, Option, refl, sym, ap}
 use Rattle.std.proofs.Common.{arith, slice_index_or}
 use Rattle.lapm_frames.specs.declared.seen.Seen.{Seen}
 use Rattle.lapm_frames.specs.declared.seen.Seen.TheVariants.{Odp, Adp}
@@ -12,8 +12,7 @@ use Rattle.detection.specs.Slots.Signal.{PatternSlot, MarkSlot, FlagSlot}
 
 -- two lists that differ at a place are not one
 differ : (place : ℕ) (a b : List Bool) → slice_index_or a place false ≡ false → slice_index_or b place false ≡ true → a ≡ b → ⊥
-differ place a b zero_there one_there e = let clash : false ≡ true =
-    sym zero_there ∙ ap (λ l. slice_index_or l place false) e ∙ one_there in absurd cc
+differ place a b zero_there one_there e = grind (arith, slice_index_or)
 
 ones-one : (size place : ℕ) → place < size → slice_index_or (ones size) place false ≡ true
 ones-one zero place h = absurd (omega arith)
@@ -22,8 +21,7 @@ ones-one (suc size) (suc place) h = ones-one size place (omega arith)
 
 -- a pattern slot begins with a zero, a one and a zero
 pattern-mark : (size : ℕ) (seen : Seen) → 8 < size → pattern_bits size seen ≡ ones size → ⊥
-pattern-mark size Odp h e = differ 0 (pattern_bits size Odp) (ones size) refl (ones-one size 0 (omega arith)) e
-pattern-mark size Adp h e = differ 0 (pattern_bits size Adp) (ones size) refl (ones-one size 0 (omega arith)) e
+pattern-mark size q1 h e = grind (arith)
 
 -- so does no flag slot
 flags-pattern : (size phase : ℕ) (seen : Seen) (frame : Option (List ℕ)) → phase < 8
@@ -34,26 +32,16 @@ flags-pattern size (suc zero) Odp frame h e = differ 0 (pattern_bits size Odp) (
 flags-pattern size (suc zero) Adp frame h e = differ 0 (pattern_bits size Adp) (slot_bits size 1 (Flags frame)) refl refl (sym e)
 flags-pattern size (suc (suc zero)) Odp frame h e = differ 0 (pattern_bits size Odp) (slot_bits size 2 (Flags frame)) refl refl (sym e)
 flags-pattern size (suc (suc zero)) Adp frame h e = differ 0 (pattern_bits size Adp) (slot_bits size 2 (Flags frame)) refl refl (sym e)
-flags-pattern size (suc (suc (suc zero))) Odp frame h e =
-    differ 0 (pattern_bits size Odp) (slot_bits size 3 (Flags frame)) refl refl (sym e)
-flags-pattern size (suc (suc (suc zero))) Adp frame h e =
-    differ 0 (pattern_bits size Adp) (slot_bits size 3 (Flags frame)) refl refl (sym e)
-flags-pattern size (suc (suc (suc (suc zero)))) Odp frame h e =
-    differ 0 (pattern_bits size Odp) (slot_bits size 4 (Flags frame)) refl refl (sym e)
-flags-pattern size (suc (suc (suc (suc zero)))) Adp frame h e =
-    differ 0 (pattern_bits size Adp) (slot_bits size 4 (Flags frame)) refl refl (sym e)
-flags-pattern size (suc (suc (suc (suc (suc zero))))) Odp frame h e =
-    differ 0 (pattern_bits size Odp) (slot_bits size 5 (Flags frame)) refl refl (sym e)
-flags-pattern size (suc (suc (suc (suc (suc zero))))) Adp frame h e =
-    differ 0 (pattern_bits size Adp) (slot_bits size 5 (Flags frame)) refl refl (sym e)
-flags-pattern size (suc (suc (suc (suc (suc (suc zero)))))) Odp frame h e =
-    differ 0 (pattern_bits size Odp) (slot_bits size 6 (Flags frame)) refl refl (sym e)
-flags-pattern size (suc (suc (suc (suc (suc (suc zero)))))) Adp frame h e =
-    differ 0 (pattern_bits size Adp) (slot_bits size 6 (Flags frame)) refl refl (sym e)
-flags-pattern size (suc (suc (suc (suc (suc (suc (suc zero))))))) Odp frame h e =
-    differ 1 (slot_bits size 7 (Flags frame)) (pattern_bits size Odp) refl refl e
-flags-pattern size (suc (suc (suc (suc (suc (suc (suc zero))))))) Adp frame h e =
-    differ 1 (slot_bits size 7 (Flags frame)) (pattern_bits size Adp) refl refl e
+flags-pattern size (suc (suc (suc zero))) Odp frame h e = grind (arith, differ)
+flags-pattern size (suc (suc (suc zero))) Adp frame h e = grind (arith, differ)
+flags-pattern size (suc (suc (suc (suc zero)))) Odp frame h e = grind (arith, differ)
+flags-pattern size (suc (suc (suc (suc zero)))) Adp frame h e = grind (arith, differ)
+flags-pattern size (suc (suc (suc (suc (suc zero))))) Odp frame h e = grind (arith, differ)
+flags-pattern size (suc (suc (suc (suc (suc zero))))) Adp frame h e = grind (arith, differ)
+flags-pattern size (suc (suc (suc (suc (suc (suc zero)))))) Odp frame h e = grind (arith, differ)
+flags-pattern size (suc (suc (suc (suc (suc (suc zero)))))) Adp frame h e = grind (arith, differ)
+flags-pattern size (suc (suc (suc (suc (suc (suc (suc zero))))))) Odp frame h e = grind (arith, differ)
+flags-pattern size (suc (suc (suc (suc (suc (suc (suc zero))))))) Adp frame h e = grind (arith, differ)
 flags-pattern size (suc (suc (suc (suc (suc (suc (suc (suc phase)))))))) seen frame h e = absurd (omega arith)
 
 -- a zero stands among the first eight bits of a flag slot

@@ -30,12 +30,10 @@ inner_second Odp = 1
 inner_second Adp = 0
 
 leading-first : (seen : Seen) (rest : List Bool) → leading (reverse (first seen) ++ rest) ≡ inner_first seen
-leading-first Odp rest = refl
-leading-first Adp rest = refl
+leading-first q0 rest = grind (arith)
 
 leading-second : (seen : Seen) (rest : List Bool) → leading (reverse (second seen) ++ rest) ≡ inner_second seen
-leading-second Odp rest = refl
-leading-second Adp rest = refl
+leading-second q0 rest = grind (arith)
 
 -- a character can be read in one way only
 character-once : (character : List Bool) (inner most most_other : ℕ) (recent rest other : List Bool)
@@ -96,9 +94,7 @@ reversed f n s m k t x = simp (reverse-append, append_assoc) refl
 
 pub reverse-twice : (seen : Seen) (a b e : ℕ) (before : List Bool)
     → reverse (before ++ twice seen a b e) ≡ backwards seen a b e (reverse before)
-reverse-twice seen a b e before =
-    reversed (first seen) (ones a) (second seen) (ones b) (ones e) (ones 8) before
-    ∙ rw (reverse-ones a, reverse-ones b, reverse-ones e) refl
+reverse-twice seen a b e before = grind (arith, reversed, reverse-ones)
 
 pub pattern-chain : (seen : Seen) (bits : List Bool) → EndsPattern seen bits
     → (middle : List Bool) × (rest : List Bool) × EndsOnce seen 8 (reverse bits) middle × EndsOnce seen 17 middle rest
@@ -135,13 +131,7 @@ chain-pattern seen bits middle rest x y = record {
     last = omega (arith, x.later.low, x.later.high)
 
     all : reverse bits ≡ reverse (reverse rest ++ twice seen y.earlier.gap y.later.gap x.earlier.gap)
-    all =
-        x.later.ends ∙ ap (λ g. ones g ++ (reverse (second seen) ++ x.middle)) last
-        ∙ ap (λ l. ones 8 ++ (reverse (second seen) ++ l))
-        (x.earlier.ends ∙ ap (λ l. ones x.earlier.gap ++ (reverse (first seen) ++ l))
-        (y.later.ends ∙ ap (λ l. ones y.later.gap ++ (reverse (second seen) ++ l)) y.earlier.ends))
-        ∙ ap (backwards seen y.earlier.gap y.later.gap x.earlier.gap) (sym (reverse-reverse rest))
-        ∙ sym (reverse-twice seen y.earlier.gap y.later.gap x.earlier.gap (reverse rest))
+    all = grind (arith, last, reverse-reverse, reverse-twice)
 
 -- what the code answers
 

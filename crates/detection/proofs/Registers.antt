@@ -15,14 +15,10 @@ use Rattle.detection.specs.Patterns.{ones}
 use Rattle.detection.specs.Reader.{Holds, ReaderStands, EndsCharacter}
 
 pub number-lt : (b : Bool) → number b < 2
-number-lt true = omega arith
-number-lt false = omega arith
+number-lt q0 = grind (arith)
 
 pub same_number : (a b : Bool) → number a ≡ number b → a ≡ b
-same_number true true e = refl
-same_number false false e = refl
-same_number true false e = absurd (omega arith)
-same_number false true e = absurd (omega arith)
+same_number q0 q1 e = grind (arith)
 
 number-of : (n : ℕ) → n < 2 → n ≡ number (nat_eq n 1)
 number-of zero h = refl
@@ -67,15 +63,10 @@ module _ (character : List Bool) (nine : length character ≡ 9) (gap : ℕ) (re
   recent = ones gap ++ (character ++ rest)
 
   at_gap : (i : ℕ) → i < gap → get_or (ones gap ++ (character ++ rest)) i true ≡ true
-  at_gap i h = get_or_append_left (ones gap) (character ++ rest) true i (omega (arith, h, length-replicate {A = Bool} gap true))
-      ∙ get_or-replicate gap i true true h
+  at_gap i h = grind (arith, get_or_append_left, length-replicate, get_or-replicate)
 
   at_character : (i : ℕ) → i < 9 → get_or (ones gap ++ (character ++ rest)) (gap + i) true ≡ get_or character i true
-  at_character i h =
-      let back : gap + i - gap ≡ i = omega arith in
-      get_or-append_right (ones gap) (character ++ rest) gap (gap + i) true (length-replicate gap true) (omega arith)
-      ∙ ap (λ j. get_or (character ++ rest) j true) back
-      ∙ get_or_append_left character rest true i (omega (arith, nine))
+  at_character i h = grind (arith, get_or-append_right, length-replicate, get_or_append_left, nine)
 
   at_rest : (i : ℕ) → get_or (ones gap ++ (character ++ rest)) (gap + 9 + i) true ≡ get_or rest i true
   at_rest i =

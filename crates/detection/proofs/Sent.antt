@@ -4,7 +4,7 @@ use Rattle.std.proofs.Common.{Some, None, arith, append_assoc, refl, sym, ◌∙
 use Rattle.std.proofs.lemmas.Bool.{false≢true}
 use Rattle.std.proofs.lemmas.List.{map-append, length-replicate}
 use Rattle.std.proofs.lemmas.List.Elements.{All-head, All-tail}
-use Rattle.bit_stuffing.specs.Slots.{slot_bits, sent_bits, next_phase, phase_after, IsSlot, AreSlots}
+use Rattle.bit_stuffing.specs.Slots.{slot_bits, next_phase, phase_after, IsSlot, AreSlots}
 use Rattle.bit_stuffing.proofs.Fill.{bits-append, next-low}
 use Rattle.bit_stuffing.proofs.Sizes.{length-slot_bits, length-empty, length-opening}
 use Rattle.lapm_frames.specs.declared.seen.Seen.{Seen}
@@ -23,8 +23,7 @@ use Rattle.detection.proofs.Inside.{is_end, own, placed, ends-there, end-place, 
 pub slot-added : (size : ℕ) (before : List Signal) (signal : Signal)
     → signal_bits size (before ++ signal ∷ []) ≡ signal_bits size before
     ++ slot_bits size (phase_after size (slots_of size before)) (slot_of size signal)
-slot-added size before signal =
-    ap (sent_bits size) (map-append (slot_of size) before (signal ∷ [])) ∙ bits-append size 0 (slots_of size before) (slot_of size signal)
+slot-added size before signal = grind (arith, map-append, bits-append)
 
 take-past : (past bits : List Bool) (p : ℕ) → take (length past + p) (past ++ bits) ≡ past ++ take p bits
 take-past [] bits p = let e : 0 + p ≡ p = omega arith in ap (λ n. take n bits) e
@@ -34,9 +33,7 @@ take-past (b ∷ past) bits p = let e : length (b ∷ past) + p ≡ suc (length 
 pub place-added : (size : ℕ) (before : List Signal) (signal : Signal) (p : ℕ)
     → take (length (signal_bits size before) + p) (signal_bits size (before ++ signal ∷ []))
     ≡ signal_bits size before ++ take p (slot_bits size (phase_after size (slots_of size before)) (slot_of size signal))
-place-added size before signal p =
-    ap (take (length (signal_bits size before) + p)) (slot-added size before signal)
-    ∙ take-past (signal_bits size before) (slot_bits size (phase_after size (slots_of size before)) (slot_of size signal)) p
+place-added size before signal p = grind (arith, slot-added, take-past)
 
 -- whatever came before
 behind-more : (past bits : List Bool) (seen : Seen) → EndsPattern seen bits → EndsPattern seen (past ++ bits)

@@ -25,10 +25,7 @@ before-front bits more (suc n) h =
 before-ranged : (bits more : List Bool) (own : ℕ → Option Seen) (n : ℕ) → n ≤ length more
     → ((p : ℕ) → 0 < p → p ≤ n → seen_at (take (length bits + p) (bits ++ more)) ≡ own p)
     → sights_before (bits ++ more) (length bits + n) ≡ sights_before bits (length bits) ++ ranged own (length bits) n
-before-ranged bits more own zero h is =
-    let e : length bits + 0 ≡ length bits = omega arith in
-    ap (sights_before (bits ++ more)) e ∙ before-front bits more (length bits) (omega arith)
-    ∙ sym (append-nil (sights_before bits (length bits)))
+before-ranged bits more own zero h is = grind (arith, before-front, append-nil)
 before-ranged bits more own (suc n) h is =
     let e : length bits + suc n ≡ suc (length bits + n) = omega arith in
     let before = before-ranged bits more own n (omega arith) (λ p low high. is p low (omega arith)) in
@@ -42,8 +39,7 @@ pub sights-ranged : (bits more : List Bool) (own : ℕ → Option Seen)
     → ((p : ℕ) → 0 < p → p ≤ length more → seen_at (take (length bits + p) (bits ++ more)) ≡ own p)
     → sights_of (bits ++ more) ≡ sights_of bits ++ ranged own (length bits) (length more)
 unfolding sights_of
-sights-ranged bits more own is =
-    ap (sights_before (bits ++ more)) (length-append {A = Bool} bits more) ∙ before-ranged bits more own (length more) (omega arith) is
+sights-ranged bits more own is = grind (arith, length-append, before-ranged)
 
 pub sights-more : (bits : List Bool) (bit : Bool)
     → sights_of (bits ++ bit ∷ []) ≡ sights_of bits ++ sights_at (length bits + 1) (seen_at (bits ++ bit ∷ []))

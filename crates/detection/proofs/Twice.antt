@@ -7,8 +7,7 @@ use Rattle.lapm_frames.specs.declared.seen.Seen.TheVariants.{Odp, Adp}
 use Rattle.detection.specs.Patterns.{first, second, ones, twice}
 
 pub length-first : (seen : Seen) → length (first seen) ≡ 9
-length-first Odp = refl
-length-first Adp = refl
+length-first q0 = grind (arith)
 
 pub length-second : (seen : Seen) → length (second seen) ≡ 9
 length-second Odp = refl
@@ -51,8 +50,7 @@ twice-front : (seen : Seen) (a b e : ℕ) → twice seen a b e ≡ first seen ++
 twice-front seen a b e = front-right (first seen) (ones a) (second seen) (ones b) (ones e) (ones 8)
 
 pub start-zero : (seen : Seen) (a b e : ℕ) → get_or (twice seen a b e) 0 false ≡ false
-start-zero Odp a b e = refl
-start-zero Adp a b e = refl
+start-zero q0 a b e = grind (arith)
 
 pub gap-ones : (seen : Seen) (a b e i : ℕ) → 9 ≤ i → i < 9 + a → get_or (twice seen a b e) i false ≡ true
 gap-ones seen a b e i low high =
@@ -73,8 +71,7 @@ second-zero seen a b e =
     ∙ starts seen
   where
     starts : (seen : Seen) → get_or (second seen ++ behind_second seen b e) 0 false ≡ false
-    starts Odp = refl
-    starts Adp = refl
+    starts q0 = grind (arith)
 
 -- from the back
 

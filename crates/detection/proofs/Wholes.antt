@@ -1,10 +1,9 @@
 -- How many quads the bits of a slot have.
-use Rattle.std.proofs.Common.{ℕ, ◌*◌, ◌≡◌, Bool, List, length, ap, sym, ◌∙◌, arith}
+use Rattle.std.proofs.Common.{ℕ, ◌*◌, ◌≡◌, Bool, List, length, arith}
 use Rattle.bit_stuffing.specs.BitSlot.{line_bits}
 use Rattle.bit_stuffing.proofs.Written.{length-line_bits}
 
 -- so many quads are a slot's
 pub whole-slot : (quads : List ℕ) (bits : List Bool) (symbols : ℕ) → line_bits quads ≡ bits → length bits ≡ 4 * symbols
     → length quads ≡ symbols
-whole-slot quads bits symbols same long =
-    let h : 4 * length quads ≡ 4 * symbols = sym (length-line_bits quads) ∙ ap length same ∙ long in omega (arith, h)
+whole-slot quads bits symbols same long = grind (arith, length-line_bits)

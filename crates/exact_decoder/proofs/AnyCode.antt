@@ -1,17 +1,21 @@
 -- What the laws of any code's table make of its survivors, whatever the states that sequences start in.
-use Rattle.exact_decoder.proofs.Names.{◌≡◌, ℕ, zero, suc, ◌+◌, ◌<◌, ◌≤◌, ◌⊎◌, inl, inr, nat_lt, Bool, true, false, ◌&&◌, List, [], ◌∷◌}
-use Rattle.exact_decoder.proofs.Names.{◌++◌, length, map, take, drop, arith, length-append, append_assoc, refl, sym, ◌∙◌, ap, subst, Option}
-use Rattle.exact_decoder.proofs.Names.{Some, None, cases_lt, cases_eq, lt-ltb, ltb-true, and_parts, false≢true, take-take, take-append-drop}
-use Rattle.exact_decoder.proofs.Names.{take-append-le, take_all, length-take-le, heard, Beats, IsSurvivor, IsReleased, IsLost, LostIs}
-use Rattle.exact_decoder.proofs.Names.{Trellis, trellis_of, IsSequence, HasLaws, IsPrefixOf, distance_of, Sample, IsBounded, StaysWithin}
-use Rattle.exact_decoder.proofs.Names.{EntersOnce, Reaches, Leads, cost}
-use Rattle.std.proofs.lemmas.Bool.{and_from}
+use Rattle.std.proofs.Common.{◌≡◌, ℕ, zero, suc, ◌+◌, ◌<◌, ◌≤◌, ◌⊎◌, inl, inr, nat_lt, Bool, true, false, ◌&&◌, List, [], ◌∷◌, ◌++◌, length}
+use Rattle.std.proofs.Common.{map, take, drop, arith, length-append, append_assoc, refl, sym, ◌∙◌, ap, subst, Option, Some, None}
+use Rattle.std.proofs.lemmas.Bool.{cases_lt, cases_eq, lt-ltb, ltb-true, and_parts, and_from, false≢true}
+use Rattle.std.proofs.lemmas.List.{take-take, take-append-drop, take-append-le, take_all, length-take-le}
+use Rattle.symbol_map.specs.declared.sample.Sample.{Sample}
+use Rattle.symbol_map.specs.Distance.{distance_of}
 use Rattle.symbol_map.proofs.Distances.{equal_from_no_distance, no_distance_from_equal}
-use Rattle.trellis_tables.specs.Sequences.{IsCodeSequence}
-use Rattle.trellis_tables.specs.Codes.{PointsDiffer}
+use Rattle.trellis_tables.specs.Sequences.{Leads, IsCodeSequence, cost}
+use Rattle.trellis_tables.specs.Codes.{IsBounded, StaysWithin, EntersOnce, Reaches, PointsDiffer}
 use Rattle.trellis_tables.proofs.Sequences.{Leads-take}
+use Rattle.shared_terms.specs.Prefix.{IsPrefixOf}
+use Rattle.exact_decoder.specs.Surviving.Orders.{Beats}
+use Rattle.exact_decoder.specs.Surviving.Trellises.{Trellis, trellis_of, IsSequence, HasLaws}
+use Rattle.exact_decoder.specs.Surviving.Survivors.{IsSurvivor, IsReleased, IsLost, LostIs}
 use Rattle.exact_decoder.proofs.Surviving.Fronts.{stays-prefix, released-once, lost-once, lost-stays, over-before}
 use Rattle.exact_decoder.proofs.Surviving.Least.{some-released, released-is_least}
+use Rattle.exact_decoder.specs.Decoder.{heard}
 use Rattle.exact_decoder.specs.Laws.{AreStarts, IsOnlyLeast, OnlySentIsLeast, ReleasesSent, DecoderReleasesLeast, DecoderReleasesStay}
 use Rattle.exact_decoder.specs.Laws.{DecodersAgree, FewUnreleased}
 
@@ -77,16 +81,9 @@ sent-survives table points states few starts labels end bounded differ q = recor
         → (cost (λ label sample. distance_of (points label) sample) other (map points labels) ≡ 0)
         ⊎ (cost (λ label sample. distance_of (points label) sample) other (map points labels) ≡ 0 → ⊥)
         → (other ≡ labels) ⊎ Beats (λ label sample. distance_of (points label) sample) (map points labels) labels other
-    against other o (inl none) = inl
-        (no-cost table points states few o.code_sequence.from q.from end end other labels bounded differ o.code_sequence.leads q.leads
-        (o.same_length ∙ length-points points labels) none)
-    against other o (inr some) = inr
-        (inl (elim (cases_lt 0 (cost (λ label sample. distance_of (points label) sample) other (map points labels))) [
-          | inl more ↦ omega (arith, cost-own points labels)
-          | inr none_more ↦ let none : cost (λ label sample. distance_of (points label) sample) other (map points labels) ≡ 0 =
-              omega arith in
-              absurd (some none)
-        ]))
+    against other o (inl none) = inl (no-cost _ _ _ _ _ _ _ _ _ _ bounded differ o.code_sequence.leads q.leads
+        (o.same_length ∙ length-points _ _) none)
+    against other o (inr some) = grind (arith, cases_lt, cost-own)
 
 pub only-sent : (table : ℕ → ℕ → Option ℕ) (points : ℕ → Sample) (states few : ℕ) → IsBounded table states few → PointsDiffer points few
     → OnlySentIsLeast table points
@@ -216,13 +213,12 @@ few-lost table points states labels steps depth starts samples symbol front code
           | inr m ↦ let z : symbol ≡ 0 = omega arith in
               absurd (some z)
         ] in
-        let one = some-released (trellis_of table points (among states starts)) states labels steps xs
-        (has-laws table points states labels steps code (among states starts) starts_in) in
-        let old = released-along table points (among states starts) starts xs one.0 (up xs) (down xs many) one.1 in
+        let one = some-released (trellis_of table points (among states starts)) _ _ _ xs (has-laws _ _ _ _ _ code _ starts_in) in
+        let old = released-along _ _ _ _ _ _ (up _) (down _ many) one.1 in
         let cut : take (symbol + 1) samples ≡ xs ++ drop symbol (take (symbol + 1) samples) =
         sym (ap (λ l. l ++ drop symbol (take (symbol + 1) samples)) (sym (take-take symbol (symbol + 1) samples (omega arith)))
         ∙ take-append-drop symbol (take (symbol + 1) samples)) in
-        let p = stays-prefix (trellis_of table points starts) xs (drop symbol (take (symbol + 1) samples)) one.0 front old
+        let p = stays-prefix (trellis_of table points starts) xs (drop symbol (take (symbol + 1) samples)) _ _ old
         (subst (λ k. IsReleased (trellis_of table points starts) k front) cut r) in
         let grown : length front ≡ length one.0 + length p.0 = ap length (sym p.1) ∙ length-append {A = ℕ} one.0 p.0 in
         elim (cases_lt (length one.0 + depth) symbol) [
@@ -236,8 +232,7 @@ few-lost table points states labels steps depth starts samples symbol front code
         let many : 1 ≤ length (take (symbol + 1) samples) =
         omega (arith, length-take-le (symbol + 1) samples (omega (arith, lost.within))) in
         let p = r.longest (0 ∷ front) (λ state l v.
-        absurd (never v.sequence.code_sequence.from
-        (starts-among table points states labels starts (take (symbol + 1) samples) l state code.bounded many v.sequence)
+        absurd (never v.sequence.code_sequence.from (starts-among _ _ _ _ _ _ _ _ code.bounded many v.sequence)
         v.sequence.code_sequence.starts_there)) in
         let e : length ((0 ∷ front) ++ p.0) ≡ length front = ap length p.1 in
         omega (arith, e, length-append {A = ℕ} (0 ∷ front) p.0)
@@ -268,8 +263,7 @@ few-unreleased table points states labels steps code starts depth d samples take
 pub releases-least : (table : ℕ → ℕ → Option ℕ) (points : ℕ → Sample) (states labels steps : ℕ) → IsCodeTable table states labels steps
     → DecoderReleasesLeast table points states
 releases-least table points states labels steps code starts depth d samples taken are h =
-    released-is_least (trellis_of table points starts) states labels steps (heard d.lost samples) (taken ++ d.pending)
-    (has-laws table points states labels steps code starts are) h.released
+    released-is_least (trellis_of table points starts) _ _ _ (heard d.lost samples) _ (has-laws _ _ _ _ _ code _ are) h.released
 
 pub decoders-agree : (table : ℕ → ℕ → Option ℕ) (points : ℕ → Sample) → DecodersAgree table points
 decoders-agree table points starts depth d other samples taken other_taken h k =

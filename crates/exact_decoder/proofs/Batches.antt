@@ -1,9 +1,14 @@
 -- Several samples more.
-use Rattle.exact_decoder.proofs.Names.{◌≡◌, ℕ, ◌+◌, ◌≤◌, min, inl, inr, List, [], ◌∷◌, ◌++◌, length, Option, arith, append_assoc}
-use Rattle.exact_decoder.proofs.Names.{length-append, sym, subst, min-le_left, min-le_right, min-eq_left, min-eq_right, cases_lt}
-use Rattle.exact_decoder.proofs.Names.{append-nil, SteppedEach, Kept, KeepsSurvivors, Stepped, trellis_of, Sample, IsBounded, StaysWithin}
-use Rattle.exact_decoder.proofs.Names.{Reaches, EntersOnce}
-use Rattle.exact_decoder.specs.Batches.{IsSmallAfter}
+use Rattle.std.proofs.Common.{◌≡◌, ℕ, ◌+◌, ◌≤◌, min, inl, inr, List, [], ◌∷◌, ◌++◌, length, Option, arith, append_assoc}
+use Rattle.std.proofs.Common.{length-append, sym, subst}
+use Rattle.std.proofs.lemmas.Bool.{cases_lt}
+use Rattle.std.proofs.lemmas.List.{append-nil}
+use Rattle.std.proofs.Math.Nat.{min-le_left, min-le_right, min-eq_left, min-eq_right}
+use Rattle.symbol_map.specs.declared.sample.Sample.{Sample}
+use Rattle.trellis_tables.specs.Codes.{IsBounded, StaysWithin, Reaches, EntersOnce}
+use Rattle.exact_decoder.specs.Surviving.Trellises.{trellis_of}
+use Rattle.exact_decoder.specs.Kept.{Kept, KeepsSurvivors, Stepped}
+use Rattle.exact_decoder.specs.Batches.{IsSmallAfter, SteppedEach}
 use Rattle.exact_decoder.proofs.Pushed.{keeps-stepped}
 use Rattle.exact_decoder.proofs.Spreading.{spread-next}
 
@@ -24,13 +29,11 @@ module _ (table : ℕ → ℕ → Option ℕ) (points : ℕ → Sample) (states 
       record {
         keeps = λ starts past front h.
             subst (λ l. KeepsSurvivors (trellis_of table points starts) new l front) (append_assoc past samples (sample ∷ []))
-            (keeps-stepped table points states labels starts sample mid new (past ++ samples) front bounded once p
-            (s.keeps starts past front h));
+            (keeps-stepped _ _ _ _ _ _ _ _ _ _ bounded once p (s.keeps starts past front h));
         small = λ count h.
             let more : (count + length samples) + 1 ≡ count + length (samples ++ sample ∷ []) = omega (arith, n) in
             subst (λ m. IsSmallAfter table states reach m new) more
-            (spread-next table points states labels reach sample mid new (count + length samples) bounded within reaches p
-            (s.small count h));
+            (spread-next _ _ _ _ _ _ _ _ _ bounded within reaches p (s.small count h));
         longer = omega (arith, n, s.longer, p.longer_by_one);
       }
 

@@ -1,9 +1,16 @@
 -- The least keys of eight states, each of 32 bits, stand for those of the definition.
-use Rattle.exact_decoder.proofs.Names.{◌≡◌, ℕ, zero, suc, ◌+◌, ◌-◌, ◌*◌, ◌/◌, ◌%◌, ◌<◌, ◌≤◌, ◌^◌, min, inl, inr, List, [], ◌∷◌, slice_index}
-use Rattle.exact_decoder.proofs.Names.{refl, arith, sym, ◌∙◌, ap, subst, min-le_left, min-le_right, zip2, Advances, IsNearest, AreClose}
-use Rattle.exact_decoder.proofs.Names.{IsLeastWay, least_four, words, sample_at, nearest_000, nearest_001, nearest_010, nearest_011}
-use Rattle.exact_decoder.proofs.Names.{nearest_100, nearest_101, nearest_110, nearest_111, far_key, leveled, choice_in, chosen, choice_by}
-use Rattle.exact_decoder.proofs.Names.{point_of, way_before, way_subset}
+use Rattle.std.proofs.Common.{◌≡◌, ℕ, zero, suc, ◌+◌, ◌-◌, ◌*◌, ◌/◌, ◌%◌, ◌<◌, ◌≤◌, ◌^◌, min, inl, inr, List, [], ◌∷◌, slice_index, refl}
+use Rattle.std.proofs.Common.{arith, sym, ◌∙◌, ap, subst}
+use Rattle.std.specs.Simd.Lanes.{zip2}
+use Rattle.std.proofs.Math.Nat.{min-le_left, min-le_right}
+use Rattle.symbol_map.specs.Points.{point_of}
+use Rattle.trellis_tables.specs.Ways.{way_before, way_subset}
+use Rattle.exact_decoder.specs.Keys.{IsNearest, AreClose, IsLeastWay}
+use Rattle.exact_decoder.specs.Settled.{far_key, leveled, choice_in, chosen}
+use Rattle.exact_decoder.specs.Advances.{Advances}
+use Rattle.exact_decoder.specs.Lines.{least_four, words, sample_at, nearest_000, nearest_001, nearest_010, nearest_011, nearest_100}
+use Rattle.exact_decoder.specs.Lines.{nearest_101, nearest_110, nearest_111}
+use Rattle.exact_decoder.specs.Traced.{choice_by}
 use Rattle.exact_decoder.proofs.Keeping.{leveled-near, settled-near}
 use Rattle.exact_decoder.proofs.Vectors.{each_of_four, each_of_eight}
 use Rattle.exact_decoder.proofs.Subsets.{min-one}
@@ -88,12 +95,10 @@ least_of_eight k least e = record {
     under a b c d i l n = omega arith
 
     left : (pair i j : ℕ) → pair < 4 → pairs pair ≡ min (k i) (k j) → least ≤ k i
-    left pair i j l is = under least (pairs p.place) (pairs pair) (k i) (e ∙ p.is) (p.below_each pair l)
-        (subst (λ n. n ≤ k i) (sym is) (min-le_left (k i) (k j)))
+    left pair i j l is = under _ _ _ _ (e ∙ p.is) (p.below_each pair l) (subst (λ n. n ≤ k i) (sym is) (min-le_left (k i) (k j)))
 
     right : (pair i j : ℕ) → pair < 4 → pairs pair ≡ min (k i) (k j) → least ≤ k j
-    right pair i j l is = under least (pairs p.place) (pairs pair) (k j) (e ∙ p.is) (p.below_each pair l)
-        (subst (λ n. n ≤ k j) (sym is) (min-le_right (k i) (k j)))
+    right pair i j l is = under _ _ _ _ (e ∙ p.is) (p.below_each pair l) (subst (λ n. n ≤ k j) (sym is) (min-le_right (k i) (k j)))
 
 -- a key of 32 bits stands for one of a state to which a sequence leads
 stands-near : (x y key word : ℕ) → x < 65536 → y < 65536 → key < 2 ^ 32 → StandsFor x y key word → word < far_key

@@ -1,20 +1,28 @@
 -- What is kept of the survivors, over sums and columns.
-use Rattle.exact_decoder.proofs.Names.{◌≡◌, ◌≢◌, ℕ, zero, suc, ◌+◌, ◌-◌, ◌*◌, ◌/◌, ◌%◌, ◌^◌, ◌<◌, ◌≤◌, ◌⊎◌, inl, inr, Bool, true, false}
-use Rattle.exact_decoder.proofs.Names.{nat_lt, List, [], ◌∷◌, ◌++◌, length, map, take, reverse, All, get_or, slice_index, set, replicate}
-use Rattle.exact_decoder.proofs.Names.{Option, Some, None, option_map, arith, refl, sym, ◌∙◌, ap, subst, cases_lt, cases_eq, nat_tests}
-use Rattle.exact_decoder.proofs.Names.{common_steps, take_at, length-reverse, reverse-append, length-replicate, All-take, All-same}
-use Rattle.exact_decoder.proofs.Names.{All-push, All-head, All-tail, Advances, Entry, branch_of, sum_of, sum_in, entry_in, sums_at, tail_at}
-use Rattle.exact_decoder.proofs.Names.{entry_at, new_sums_at, kept_of, HoldsColumns, AreSums, AllChosen, Stepped, Covered, IsParted}
-use Rattle.exact_decoder.proofs.Names.{Released, IsLeastSum, IsLeastKeyOf, far_key, leveled, chosen, choice_in, choice_at, Chooses}
-use Rattle.exact_decoder.proofs.Names.{trellis_of, traced, IsColumn, AreColumns, Splits, Choice, distance_of, Sample, Reaches, Leads}
-use Rattle.std.proofs.Common.{add-one}
+use Rattle.std.proofs.Common.{◌≡◌, ◌≢◌, ℕ, zero, suc, ◌+◌, ◌-◌, ◌*◌, ◌/◌, ◌%◌, ◌^◌, ◌<◌, ◌≤◌, ◌⊎◌, inl, inr, Bool, true}
+use Rattle.std.proofs.Common.{List, [], ◌∷◌, ◌++◌, length, map, take, reverse, All, get_or, slice_index, set, replicate, Option, Some, None}
+use Rattle.std.proofs.Common.{option_map, arith, add-one, refl, sym, ◌∙◌, ap, subst}
 use Rattle.std.specs.List.{range_with_len}
-use Rattle.std.proofs.lemmas.List.{append_cancel_left, reverse-reverse, length-set}
+use Rattle.std.proofs.lemmas.Grind.{common_steps}
+use Rattle.std.proofs.lemmas.Bool.{cases_lt, cases_eq, lt-ltb, le-ltb}
+use Rattle.std.proofs.lemmas.List.{take_at, append_cancel_left, length-reverse, reverse-reverse, reverse-append, length-set}
+use Rattle.std.proofs.lemmas.List.{length-replicate, length-take-le}
 use Rattle.std.proofs.lemmas.List.FromFn.{get_or-map-range_with_len}
-use Rattle.std.proofs.lemmas.List.Elements.{All-cons}
-use Rattle.exact_decoder.specs.Settled.{settled}
-use Rattle.exact_decoder.specs.Traced.{Part}
-use Rattle.exact_decoder.proofs.Subsets.{label-within}
+use Rattle.std.proofs.lemmas.List.Elements.{All-cons, All-take, All-same, All-push, All-head, All-tail}
+use Rattle.std.proofs.lemmas.Option.{same_Some}
+use Rattle.symbol_map.specs.declared.sample.Sample.{Sample}
+use Rattle.symbol_map.specs.Distance.{distance_of}
+use Rattle.trellis_tables.specs.Sequences.{Leads}
+use Rattle.trellis_tables.specs.Codes.{Reaches}
+use Rattle.exact_decoder.specs.Surviving.Trellises.{trellis_of}
+use Rattle.exact_decoder.specs.Surviving.Steps.{Chooses}
+use Rattle.exact_decoder.specs.declared.choice.Choice.{Choice}
+use Rattle.exact_decoder.specs.Settled.{IsLeastKeyOf, far_key, leveled, settled, chosen, choice_in, choice_at}
+use Rattle.exact_decoder.specs.Advances.{Advances}
+use Rattle.exact_decoder.specs.Columns.{Entry, branch_of, sum_of, sum_in, entry_in, sums_at, tail_at, entry_at, new_sums_at}
+use Rattle.exact_decoder.specs.Traced.{traced, IsColumn, AreColumns, Part, Splits}
+use Rattle.exact_decoder.specs.Kept.{kept_of, HoldsColumns, AreSums, AllChosen, Stepped, Covered, IsParted, Released, IsLeastSum}
+use Rattle.exact_decoder.proofs.Subsets.{label-within, set-index, set-index_here}
 use Rattle.exact_decoder.proofs.Stepping.{IsCode, AreKeys, map-at, map-past, sum-near, entry-near, entry-far, known-at, key-parts}
 use Rattle.exact_decoder.proofs.Stepping.{chosen-all}
 use Rattle.exact_decoder.proofs.Walking.{length-traced, traced-below}
@@ -35,44 +43,28 @@ parts-within table points states labels parallel subsets ways before subset samp
     let q = code.ways_within to way.place l way.within in
     let near = keys.near (subset to way.place) q.1 in
     let label = parallel * subset to way.place + near.place in
-    let in_labels : label < labels = label-within parallel (subset to way.place) near.place subsets labels code.fill q.1 near.within in
+    let in_labels : label < labels = label-within _ _ _ _ _ code.fill q.1 near.within in
     let is : slice_index entered to ≡ slice_index sums (before to way.place) + (65536 * distance_of (points label) sample + 256 * label) =
     way.key_is ∙ ap (λ x. slice_index sums (before to way.place) + x) near.key_is in
-    let parts = key-parts (slice_index sums (before to way.place)) (before to way.place) (distance_of (points label) sample) label
-    (slice_index entered to) (keys.states_in (before to way.place) q.0) (omega (arith, q.0, code.states_few))
+    let parts = key-parts _ _ _ _ _ (keys.states_in (before to way.place) q.0) (omega (arith, q.0, code.states_few))
     (omega (arith, in_labels, code.labels_few)) is in
     (omega (arith, parts.2, q.0), omega (arith, parts.1, in_labels))
 
 -- a key, and what it is settled as
 pub settled-near : (key least : ℕ) → key < far_key → settled key least ≡ key
-settled-near key least l = let e : nat_lt key far_key ≡ true = yes_less key far_key l in rw e refl
-  where
-    yes_less : (a b : ℕ) → a < b → nat_lt a b ≡ true
-    yes_less a b q = grind (arith, nat_tests)
+settled-near key least l = rw (lt-ltb key far_key l) refl
 
 settled-far : (key least : ℕ) → far_key ≤ key → settled key least ≡ least
-settled-far key least l = let e : nat_lt key far_key ≡ false = no_less key far_key l in rw e refl
-  where
-    no_less : (a b : ℕ) → b ≤ a → nat_lt a b ≡ false
-    no_less a b q = grind (arith, nat_tests)
+settled-far key least l = rw (le-ltb key far_key l) refl
 
 pub leveled-near : (key least to : ℕ) → key < far_key → leveled key least to ≡ (key / 65536 - least / 65536) * 65536 + to
-leveled-near key least to l = let e : nat_lt key far_key ≡ true = yes_less key far_key l in rw e refl
-  where
-    yes_less : (a b : ℕ) → a < b → nat_lt a b ≡ true
-    yes_less a b q = grind (arith, nat_tests)
+leveled-near key least to l = rw (lt-ltb key far_key l) refl
 
 leveled-far : (key least to : ℕ) → far_key ≤ key → leveled key least to ≡ far_key + to
-leveled-far key least to l = let e : nat_lt key far_key ≡ false = no_less key far_key l in rw e refl
-  where
-    no_less : (a b : ℕ) → b ≤ a → nat_lt a b ≡ false
-    no_less a b q = grind (arith, nat_tests)
+leveled-far key least to l = rw (le-ltb key far_key l) refl
 
 sum-far : (key : ℕ) → far_key ≤ key → sum_in key ≡ None
-sum-far key l = let e : nat_lt key far_key ≡ false = no_less key far_key l in rw e refl
-  where
-    no_less : (a b : ℕ) → b ≤ a → nat_lt a b ≡ false
-    no_less a b q = grind (arith, nat_tests)
+sum-far key l = rw (le-ltb key far_key l) refl
 
 -- the sums and the column that keys make, and the least of these
 pub record Settles (states : ℕ) (entered : List ℕ) (least : ℕ) (new_sums : List ℕ) (column : List Choice) : Type 0 where
@@ -110,27 +102,22 @@ new_sum-known states entered s m long e = elim (cases_lt s states) [
   | inl l ↦ elim (cases_lt (slice_index entered s) far_key) [
     | inl near ↦ let is : new_sums_at (map entry_in entered) s ≡ Some (slice_index entered s / 65536) =
         ap (option_map sum_of) (map-at entry_in entered s (omega arith) ∙ entry-near (slice_index entered s) near) in
-        (l, near, some_one (sym is ∙ e))
+        (l, near, same_Some _ _ (sym is ∙ e))
     | inr far ↦ let is : new_sums_at (map entry_in entered) s ≡ None =
         ap (option_map sum_of) (map-at entry_in entered s (omega arith) ∙ entry-far (slice_index entered s) far) in absurd cc
   ]
   | inr l ↦ let none : new_sums_at (map entry_in entered) s ≡ None = ap (option_map sum_of) (map-past entry_in entered s (omega arith)) in
       absurd cc
 ]
-  where
-    some_one : {a b : ℕ} → Some a ≡ Some b → a ≡ b
-    some_one q = cc
 
 pub new_sum-near : (states : ℕ) (entered : List ℕ) (s : ℕ) → length entered ≡ states → s < states → slice_index entered s < far_key
     → new_sums_at (map entry_in entered) s ≡ Some (slice_index entered s / 65536)
-new_sum-near states entered s long l near =
-    ap (option_map sum_of) (map-at entry_in entered s (omega arith) ∙ entry-near (slice_index entered s) near)
+new_sum-near states entered s long l near = grind (arith, option_map, map-at, entry-near)
 
 -- the least key is that of a state that was reached
 pub least-near : (states : ℕ) (entered : List ℕ) (least : ℕ) → length entered ≡ states → IsLeastKeyOf states entered least
     → ((t : ℕ) × (n : ℕ) × (new_sums_at (map entry_in entered) t ≡ Some n)) → least < far_key
-least-near states entered least long h some = let k = new_sum-known states entered some.0 some.1 long some.2 in
-    omega (arith, h.below some.0 k.0, k.1)
+least-near states entered least long h some = grind (arith, new_sum-known)
 
 -- where a state's key is near, and where it is far, the new sum
 new_sums-at : (states : ℕ) (entered new_sums : List ℕ) (least : ℕ) (column : List Choice) (s : ℕ) → states ≤ 256 → length entered ≡ states
@@ -181,25 +168,23 @@ covered-of states entered new_sums least column columns newer unreleased few lon
           let r = made.is_least.state in
           let in_r = made.is_least.within in
           let near_r : slice_index entered r < far_key = omega (arith, made.is_least.least_is) in
-          let mine : choice_at column s ≡ choice_in least =
-          made.choices s l ∙ ap choice_in (settled-far (slice_index entered s) least far) in
+          let mine : choice_at column s ≡ choice_in least = made.choices s l ∙ ap choice_in (settled-far _ _ far) in
           let theirs : choice_at column r ≡ choice_in least =
-          made.choices r in_r ∙ ap choice_in (settled-near (slice_index entered r) least near_r ∙ sym made.is_least.least_is) in (
+          made.choices r in_r ∙ ap choice_in (settled-near _ _ near_r ∙ sym made.is_least.least_is) in (
             r,
             slice_index entered r / 65536 - least / 65536,
             in_r,
             known r in_r near_r,
-            tail-at states (take (unreleased + 1) newer) s l ∙ ap (λ c. traced c s) (newest-more column columns newer unreleased room e)
-                ∙ ap (λ x. traced (take unreleased columns) x.before ++ x.label ∷ []) (mine ∙ sym theirs)
-                ∙ sym (tail-at states (take (unreleased + 1) newer) r in_r
-                ∙ ap (λ c. traced c r) (newest-more column columns newer unreleased room e)),
+            tail-at _ (take (unreleased + 1) newer) _ l ∙ ap (λ c. traced c s) (newest-more _ _ _ _ room e) ∙ ap
+                (λ x. traced (take unreleased columns) x.before ++ x.label ∷ []) (mine ∙ sym theirs) ∙ sym
+                (tail-at _ (take (unreleased + 1) newer) _ in_r ∙ ap (λ c. traced c r) (newest-more _ _ _ _ room e)),
           )
     ]
   where
     known : (s : ℕ) → s < states → slice_index entered s < far_key
         → sums_at (map sum_in new_sums) s ≡ Some (slice_index entered s / 65536 - least / 65536)
-    known s l here = new_sums-at states entered new_sums least column s few long made
-        ∙ ap (option_map (λ n. n - least / 65536)) (new_sum-near states entered s long l here)
+    known s l here = new_sums-at _ _ _ _ _ _ few long made
+        ∙ ap (option_map (λ n. n - least / 65536)) (new_sum-near _ _ _ long l here)
 
 module _ (table : ℕ → ℕ → Option ℕ) (points : ℕ → Sample) (states labels parallel subsets ways : ℕ) (before subset : ℕ → ℕ
     → ℕ) (sample : Sample) (sums nearest entered new_sums : List ℕ) (least : ℕ) (column : List Choice) (columns newer : List (List Choice))
@@ -212,18 +197,15 @@ module _ (table : ℕ → ℕ → Option ℕ) (points : ℕ → Sample) (states 
       → Stepped table points sample (kept_of states sums columns unreleased) (kept_of states new_sums newer (unreleased + 1))
   stepped-of room = record {
     entries = map entry_in entered;
-    chosen = λ starts to. chosen-all table points states labels parallel subsets ways before subset sample sums nearest entered starts
-        to
-        code
-        keys;
+    chosen = λ starts to. chosen-all _ _ _ _ _ _ _ _ _ _ _ _ _ _ _ code keys;
     lowered = least / 65536;
     lowest = (
       made.is_least.state,
-      new_sum-near states entered made.is_least.state keys.entered_long made.is_least.within (omega (arith, made.is_least.least_is))
+      new_sum-near _ _ _ keys.entered_long made.is_least.within (omega (arith, made.is_least.least_is))
           ∙ ap (λ n. Some (n / 65536)) (sym made.is_least.least_is),
     );
-    least = λ s m f. let k = new_sum-known states entered s m keys.entered_long f in omega (arith, made.is_least.below s k.0, k.2);
-    sums = λ s. new_sums-at states entered new_sums least column s code.states_few keys.entered_long made;
+    least = λ s m f. let k = new_sum-known _ _ _ _ keys.entered_long f in omega (arith, made.is_least.below s k.0, k.2);
+    sums = λ s. new_sums-at _ _ _ _ _ _ code.states_few keys.entered_long made;
     follow = λ s f g. goes s f g;
     longer_by_one = refl;
     close = λ s label to b.
@@ -233,23 +215,19 @@ module _ (table : ℕ → ℕ → Option ℕ) (points : ℕ → Sample) (states 
         subst (λ x. distance_of (points x) sample < 2 ^ 33) w.5 (keys.close (subset to w.0) w.1 q.1 w.3);
   }
     where
-      some_one : {a b : Entry} → Some a ≡ Some b → a ≡ b
-      some_one q = cc
-
       goes : (s : ℕ) (f : Entry) → entry_at (map entry_in entered) s ≡ Some f
           → tail_at (map (traced (take (unreleased + 1) newer)) (range_with_len 0 states)) s ≡ tail_at
           (map (traced (take unreleased columns)) (range_with_len 0 states)) f.before ++ f.label ∷ []
       goes s f g =
-          let k = new_sum-known states entered s f.sum keys.entered_long (ap (option_map sum_of) g) in
+          let k = new_sum-known _ _ _ _ keys.entered_long (ap (option_map sum_of) g) in
           let is : entry_in (slice_index entered s) ≡ Some f = sym (map-at entry_in entered s (omega (arith, k.0, keys.entered_long))) ∙ g
           in
           let same : record {
             before = slice_index entered s % 256;
             label = slice_index entered s / 256 % 256;
             sum = slice_index entered s / 65536;
-          } ≡ f = some_one (sym (entry-near (slice_index entered s) k.1) ∙ is) in
-          let choice : choice_at column s ≡ choice_in (slice_index entered s) =
-          made.choices s k.0 ∙ ap choice_in (settled-near (slice_index entered s) least k.1) in
+          } ≡ f = same_Some _ _ (sym (entry-near _ k.1) ∙ is) in
+          let choice : choice_at column s ≡ choice_in (slice_index entered s) = made.choices s k.0 ∙ ap choice_in (settled-near _ _ k.1) in
           let b : (choice_at column s).before ≡ f.before = ap (λ c. c.before) choice ∙ ap (λ x. x.before) same in
           let l : (choice_at column s).label ≡ f.label = ap (λ c. c.label) choice ∙ ap (λ x. x.label) same in
           let within : f.before < states =
@@ -258,10 +236,10 @@ module _ (table : ℕ → ℕ → Option ℕ) (points : ℕ → Sample) (states 
             ap (λ x. x.before) same,
             (parts-within table points states labels parallel subsets ways before subset sample sums nearest entered s k.0 code keys).0,
           ) in
-          tail-at states (take (unreleased + 1) newer) s k.0 ∙ ap (λ c. traced c s) (newest-more column columns newer unreleased room e)
+          tail-at _ (take (unreleased + 1) newer) _ k.0 ∙ ap (λ c. traced c s) (newest-more _ _ _ _ room e)
           ∙ ap (λ x. traced (take unreleased columns) x ++ (choice_at column s).label ∷ []) b
           ∙ ap (λ x. traced (take unreleased columns) f.before ++ x ∷ []) l
-          ∙ ap (λ t. t ++ f.label ∷ []) (sym (tail-at states (take unreleased columns) f.before within))
+          ∙ ap (λ t. t ++ f.label ∷ []) (sym (tail-at _ (take unreleased columns) _ within))
 
   -- what holds of sums and columns holds after a step
   pub holds-next : (depth : ℕ) → unreleased ≤ depth → HoldsColumns states labels depth sums columns unreleased
@@ -288,7 +266,7 @@ module _ (table : ℕ → ℕ → Option ℕ) (points : ℕ → Sample) (states 
         code.states_few,
       ),
     );
-    columns_long = omega (arith, ap length e, length-take-less (length columns - 1) columns (omega arith), h.columns_long);
+    columns_long = omega (arith, ap length e, length-take-le (length columns - 1) columns (omega arith), h.columns_long);
     columns_fit = All-same (IsColumn states labels) newer (column ∷ take (length columns - 1) columns) e
         (All-cons (IsColumn states labels) column (take (length columns - 1) columns) (record {
           long = made.column_long;
@@ -298,19 +276,15 @@ module _ (table : ℕ → ℕ → Option ℕ) (points : ℕ → Sample) (states 
     within = omega arith;
   }
     where
-      length-take-less : (n : ℕ) (xs : List (List Choice)) → n ≤ length xs → length (take n xs) ≡ n
-      length-take-less n xs l = grind (arith, common_steps)
-
       own : (s : ℕ) → s < states → (slice_index entered s % 256 < states) × (slice_index entered s / 256 % 256 < labels)
       own s l = parts-within table points states labels parallel subsets ways before subset sample sums nearest entered s l code keys
 
       fits : (s : ℕ) → s < states → ((chosen (slice_index entered s) least).before < states)
           × ((chosen (slice_index entered s) least).label < labels)
       fits s l = elim (cases_lt (slice_index entered s) far_key) [
-        | inl here ↦ subst (λ k. ((choice_in k).before < states) × ((choice_in k).label < labels))
-            (sym (settled-near (slice_index entered s) least here)) (own s l)
+        | inl here ↦ subst (λ k. ((choice_in k).before < states) × ((choice_in k).label < labels)) (sym (settled-near _ _ here)) (own _ l)
         | inr far ↦ subst (λ k. ((choice_in k).before < states) × ((choice_in k).label < labels))
-            (sym (settled-far (slice_index entered s) least far ∙ made.is_least.least_is)) (own made.is_least.state made.is_least.within)
+            (sym (settled-far _ _ far ∙ made.is_least.least_is)) (own _ made.is_least.within)
       ]
 
 -- what is released is what the columns split off
@@ -328,8 +302,7 @@ released-of states sums columns unreleased left labels long some split covered =
   where
     moved : (s : ℕ) → s < states → tail_at (map (traced (take unreleased columns)) (range_with_len 0 states)) s ≡ reverse labels ++ tail_at
         (map (traced (take left columns)) (range_with_len 0 states)) s
-    moved s l = tail-at states (take unreleased columns) s l ∙ split.split s l
-        ∙ ap (λ t. reverse labels ++ t) (sym (tail-at states (take left columns) s l))
+    moved s l = grind (arith, tail-at)
 
     -- a state's labels are those of one that was reached
     like : (s x : ℕ) (a : List ℕ) → s < states → traced (take left columns) s ≡ x ∷ a → (r : ℕ) × (m : ℕ)
@@ -337,13 +310,12 @@ released-of states sums columns unreleased left labels long some split covered =
     like s x a l e =
         let c = covered s l in
         let same : reverse labels ++ tail_at (map (traced (take left columns)) (range_with_len 0 states)) s ≡ reverse labels ++ tail_at
-        (map (traced (take left columns)) (range_with_len 0 states)) c.0 = sym (moved s l) ∙ c.4 ∙ moved c.0 c.2 in (
+        (map (traced (take left columns)) (range_with_len 0 states)) c.0 = sym (moved _ l) ∙ c.4 ∙ moved _ c.2 in (
           c.0,
           c.1,
           c.3,
           sym (append_cancel_left (reverse labels) (tail_at (map (traced (take left columns)) (range_with_len 0 states)) s)
-              (tail_at (map (traced (take left columns)) (range_with_len 0 states)) c.0) same) ∙ tail-at states (take left columns) s l
-              ∙ e,
+              (tail_at (map (traced (take left columns)) (range_with_len 0 states)) c.0) same) ∙ tail-at _ (take left columns) _ l ∙ e,
         )
 
     parts : (left ≡ 0) ⊎ Part states (take left columns)
@@ -351,10 +323,8 @@ released-of states sums columns unreleased left labels long some split covered =
     parts (inl none) = inl (
       some.0,
       slice_index sums some.0 / 65536,
-      map-at sum_in sums some.0 (omega (arith, some.1))
-          ∙ sum-near (slice_index sums some.0) some.2,
-      tail-at states (take left columns) some.0 some.1
-          ∙ ap (λ n. traced (take n columns) some.0) none,
+      map-at sum_in sums some.0 (omega (arith, some.1)) ∙ sum-near _ some.2,
+      tail-at _ (take left columns) _ some.1 ∙ ap (λ n. traced (take n columns) some.0) none,
     )
     parts (inr p) =
         let a = like p.s p.x p.a p.s_within p.s_begins in
@@ -387,10 +357,9 @@ least_sum-of states sums least few long states_in some h =
       omega (arith, h.within),
       record {
         sum = slice_index sums r / 65536;
-        reached = ap (λ s. sums_at (map sum_in sums) s) state ∙ map-at sum_in sums r (omega (arith, h.within))
-            ∙ sum-near (slice_index sums r) near;
-        least = λ s m e. let k = known-at states sums s m long e in omega (arith, k.2, h.below s k.0, h.least_is);
-        first = λ s e. let k = known-at states sums s (slice_index sums r / 65536) long e in
+        reached = ap (λ s. sums_at (map sum_in sums) s) state ∙ map-at sum_in sums r (omega (arith, h.within)) ∙ sum-near _ near;
+        least = λ s m e. let k = known-at _ _ _ _ long e in omega (arith, k.2, h.below s k.0, h.least_is);
+        first = λ s e. let k = known-at _ _ _ _ long e in
             omega (arith, k.2, h.below s k.0, h.least_is, states_in s k.0, states_in r h.within, state);
       },
     )
@@ -410,12 +379,11 @@ pub push-all : (table : ℕ → ℕ → Option ℕ) (points : ℕ → Sample) (s
 push-all table points states labels parallel subsets ways steps depth before subset sample was sums made now columns newer unreleased
     code low
     reach small room holds is_was is_now (column, e, advanced) = (
-      holds-next table points states labels parallel subsets ways before subset sample sums step.nearest step.entered now step.least
+      holds-next _ points states labels parallel subsets ways before subset sample sums step.nearest step.entered now step.least
           column columns newer unreleased code keys settles far e depth room holds,
       stepped-of table points states labels parallel subsets ways before subset sample sums step.nearest step.entered now step.least
           column columns newer unreleased code keys settles far e (omega (arith, holds.columns_long)),
-      covered-of states step.entered now step.least column columns newer unreleased code.states_few step.entered_long settles far
-          (omega (arith, holds.columns_long)) e,
+      covered-of _ _ _ _ _ _ _ _ code.states_few step.entered_long settles far (omega (arith, holds.columns_long)) e,
     )
   where
     step : Advances points states parallel subsets ways before subset sample sums now column
@@ -443,14 +411,11 @@ push-all table points states labels parallel subsets ways steps depth before sub
     }
 
     far : step.least < far_key
-    far = least-near states step.entered step.least step.entered_long step.is_least
-        (reached-next table points states labels steps sample (map sum_in sums) (map entry_in step.entered) (λ s. true) low reach
+    far = least-near _ _ _ step.entered_long step.is_least
+        (reached-next _ _ _ labels _ _ _ (map entry_in step.entered) (λ s. true) low reach
         (λ starts to. chosen-all table points states labels parallel subsets ways before subset sample sums step.nearest step.entered
-        starts to
-        code keys)
-        holds.reached.0 (slice_index sums holds.reached.0 / 65536) holds.reached.1
-        (map-at sum_in sums holds.reached.0 (omega (arith, holds.reached.1, holds.sums_long))
-        ∙ sum-near (slice_index sums holds.reached.0) holds.reached.2))
+        starts to code keys) _ _ holds.reached.1 (map-at sum_in sums holds.reached.0 (omega (arith, holds.reached.1, holds.sums_long))
+        ∙ sum-near _ holds.reached.2))
 
 -- lists that are read from the last have the same labels
 pub All-reversed : (P : ℕ → Type 0) (xs : List ℕ) → All P (reverse xs) → All P xs
@@ -467,33 +432,37 @@ All-turned P xs h = All-reversed P (reverse xs) (All-same P (reverse (reverse xs
 pub released-below : (states labels : ℕ) (columns : List (List Choice)) (unreleased left : ℕ) (list : List ℕ) → 1 ≤ states
     → AreColumns states labels columns → Splits states columns unreleased left list → All (λ x. x < labels) list
 released-below states labels columns unreleased left list some h split =
-    let whole = traced-below states labels (take unreleased columns) 0 (omega arith)
-    (All-take (IsColumn states labels) unreleased columns h) in
+    let whole = traced-below _ _ _ 0 (omega arith) (All-take (IsColumn states labels) unreleased columns h) in
     let both : All (λ x. x < labels) (reverse list ++ traced (take left columns) 0) =
     All-same (λ x. x < labels) (reverse list ++ traced (take left columns) 0) (traced (take unreleased columns) 0)
     (sym (split.split 0 (omega arith))) whole in
     let front : All (λ x. x < labels) (take (length (reverse list)) (reverse list ++ traced (take left columns) 0)) =
     All-take (λ x. x < labels) (length (reverse list)) (reverse list ++ traced (take left columns) 0) both in
-    All-reversed (λ x. x < labels) list
+    All-reversed (λ x. x < labels) _
     (All-same (λ x. x < labels) (reverse list) (take (length (reverse list)) (reverse list ++ traced (take left columns) 0))
     (sym (take_at (reverse list) (traced (take left columns) 0) (length (reverse list)) refl)) front)
 
 pub labels-long : (columns : List (List Choice)) (unreleased from : ℕ) (list : List ℕ) → unreleased ≤ length columns
     → reverse list ≡ traced (take unreleased columns) from → length list ≡ unreleased
 labels-long columns unreleased from list l e =
-    omega (arith, length-reverse {A = ℕ} list, ap length e, length-traced (take unreleased columns) from, long unreleased columns l)
-  where
-    long : (n : ℕ) (xs : List (List Choice)) → n ≤ length xs → length (take n xs) ≡ n
-    long n xs l = grind (arith, common_steps)
+    omega (
+      arith,
+      length-reverse {A = ℕ} list,
+      ap length e,
+      length-traced (take unreleased columns) from,
+      length-take-le unreleased columns l,
+    )
 
 pub labels-below : (states labels : ℕ) (columns : List (List Choice)) (unreleased from : ℕ) (list : List ℕ) → from < states
     → AreColumns states labels columns → reverse list ≡ traced (take unreleased columns) from → All (λ x. x < labels) list
 labels-below states labels columns unreleased from list l h e =
-    All-reversed (λ x. x < labels) list
-    (All-same (λ x. x < labels) (reverse list) (traced (take unreleased columns) from) e
-    (traced-below states labels (take unreleased columns) from l (All-take (IsColumn states labels) unreleased columns h)))
+    All-reversed (λ x. x < labels) _ (All-same (λ x. x < labels) (reverse list) (traced (take unreleased columns) from) e
+    (traced-below _ _ _ _ l (All-take (IsColumn states labels) unreleased columns h)))
 
 -- before the first sample
+small-sum : (n : ℕ) → n < 256 → sum_in n ≡ Some 0
+small-sum n l = let zero_is : n / 65536 ≡ 0 = omega arith in sum-near n (omega arith) ∙ ap Some zero_is
+
 pub start-sums : (states start : ℕ) (sums : List ℕ) → states ≤ 256 → start < states → length sums ≡ states
     → ((s : ℕ) → s < states → slice_index sums s ≡ far_key + s)
     → map sum_in (set sums start start) ≡ set (replicate states None) start (Some 0)
@@ -501,18 +470,12 @@ start-sums states start sums few within long far =
     same_map (set sums start start) (set (replicate states None) start (Some 0))
     (length-set sums start start ∙ long ∙ sym (length-set (replicate states None) start (Some 0) ∙ length-replicate states None))
     (λ s l. let in_states : s < states = omega (arith, length-set sums start start) in elim (cases_eq s start) [
-      | inl e ↦ ap sum_in (here sums start start s e (omega arith)) ∙ small start (omega arith)
+      | inl e ↦ ap sum_in (set-index_here sums start start s e (omega arith)) ∙ small-sum start (omega arith)
           ∙ sym (set_here (replicate states None) (Some 0) start s e (omega (arith, length-replicate {A = Option ℕ} states None)))
-      | inr n ↦ ap sum_in (other sums start start s n ∙ far s in_states) ∙ sum-far (far_key + s) (omega arith)
+      | inr n ↦ ap sum_in (set-index sums start start s n ∙ far s in_states) ∙ sum-far (far_key + s) (omega arith)
           ∙ sym (set_other (replicate states None) (Some 0) start s n ∙ nowhere s)
     ])
   where
-    here : (xs : List ℕ) (x n i : ℕ) → i ≡ n → n < length xs → slice_index (set xs n x) i ≡ x
-    here xs x n i e l = grind (arith, common_steps)
-
-    other : (xs : List ℕ) (x n i : ℕ) → i ≢ n → slice_index (set xs n x) i ≡ slice_index xs i
-    other xs x n i e = grind (arith, common_steps)
-
     set_here : (xs : List (Option ℕ)) (x : Option ℕ) (n i : ℕ) → i ≡ n → n < length xs → get_or (set xs n x) i None ≡ x
     set_here xs x n i e l = grind (arith, common_steps)
 
@@ -521,9 +484,6 @@ start-sums states start sums few within long far =
 
     nowhere : (s : ℕ) → get_or {A = Option ℕ} (replicate states None) s None ≡ None
     nowhere s = grind (arith, common_steps)
-
-    small : (n : ℕ) → n < 256 → sum_in n ≡ Some 0
-    small n l = let zero_is : n / 65536 ≡ 0 = omega arith in sum-near n (omega arith) ∙ ap Some zero_is
 
     same_map : (xs : List ℕ) (ys : List (Option ℕ)) → length xs ≡ length ys
         → ((s : ℕ) → s < length xs → sum_in (slice_index xs s) ≡ get_or ys s None) → map sum_in xs ≡ ys
@@ -546,23 +506,15 @@ pub start-are : (states start : ℕ) (sums : List ℕ) → states ≤ 256 → st
 start-are states start sums few within long far = record {
   sums_long = length-set sums start start ∙ long;
   states_in = λ s l. elim (cases_eq s start) [
-    | inl e ↦ omega (arith, here sums start start s e (omega arith))
-    | inr n ↦ omega
-        (arith, other sums start start s n, far s l)
+    | inl e ↦ omega (arith, set-index_here sums start start s e (omega arith))
+    | inr n ↦ omega (arith, set-index sums start start s n, far s l)
   ];
   bound = λ s l. elim (cases_eq s start) [
-    | inl e ↦ omega (arith, here sums start start s e (omega arith))
-    | inr n ↦ omega
-        (arith, other sums start start s n, far s l)
+    | inl e ↦ omega (arith, set-index_here sums start start s e (omega arith))
+    | inr n ↦ omega (arith, set-index sums start start s n, far s l)
   ];
-  reached = (start, within, omega (arith, here sums start start start refl (omega arith)));
+  reached = (start, within, omega (arith, set-index_here sums start start start refl (omega arith)));
 }
-  where
-    here : (xs : List ℕ) (x n i : ℕ) → i ≡ n → n < length xs → slice_index (set xs n x) i ≡ x
-    here xs x n i e l = grind (arith, common_steps)
-
-    other : (xs : List ℕ) (x n i : ℕ) → i ≢ n → slice_index (set xs n x) i ≡ slice_index xs i
-    other xs x n i e = grind (arith, common_steps)
 
 -- the same where a sequence starts in each state
 pub any-are : (states : ℕ) (sums : List ℕ) → 1 ≤ states → states ≤ 256 → length sums ≡ states
@@ -578,12 +530,9 @@ pub any-sums : (states : ℕ) (sums : List ℕ) → states ≤ 256 → length su
     → map sum_in sums ≡ replicate states (Some 0)
 any-sums states sums few long own = each sums states long (λ s l. omega (arith, own s l))
   where
-    small : (n : ℕ) → n < 256 → sum_in n ≡ Some 0
-    small n l = let zero_is : n / 65536 ≡ 0 = omega arith in sum-near n (omega arith) ∙ ap Some zero_is
-
     each : (xs : List ℕ) (n : ℕ) → length xs ≡ n → ((s : ℕ) → s < n → slice_index xs s < 256) → map sum_in xs ≡ replicate n (Some 0)
     each [] zero e h = refl
     each [] (suc n) e h = absurd (omega arith)
     each (x ∷ xs) zero e h = absurd (omega arith)
-    each (x ∷ xs) (suc n) e h = let a : sum_in x ≡ Some 0 = small x (h 0 (omega arith)) in
+    each (x ∷ xs) (suc n) e h = let a : sum_in x ≡ Some 0 = small-sum x (h 0 (omega arith)) in
         ap (λ z. z ∷ map sum_in xs) a ∙ ap (λ t. Some 0 ∷ t) (each xs n (omega arith) (λ s l. h (suc s) (omega arith)))

@@ -1,4 +1,3 @@
-mod Names
 pub mod Surviving
 pub mod Rings
 pub mod Subsets

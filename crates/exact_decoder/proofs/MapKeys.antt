@@ -1,8 +1,12 @@
 -- Keys of 32 bits stand for those of the definition.
-use Rattle.exact_decoder.proofs.Names.{◌≡◌, ℕ, zero, suc, ◌+◌, ◌*◌, ◌<◌, ◌≤◌, ◌^◌, inl, inr, refl, arith, ◌∙◌, cases_lt, pos, IsNearest}
-use Rattle.exact_decoder.proofs.Names.{AreClose, least_four, coordinate, sample_at, nearest_000, nearest_001, nearest_010, nearest_011}
-use Rattle.exact_decoder.proofs.Names.{nearest_100, nearest_101, nearest_110, nearest_111, distance_of, squared_gap, point_of}
-use Rattle.std.proofs.Common.{ℤ}
+use Rattle.std.proofs.Common.{◌≡◌, ℕ, ℤ, zero, suc, ◌+◌, ◌*◌, ◌<◌, ◌≤◌, ◌^◌, inl, inr, refl, arith, ◌∙◌}
+use Rattle.std.specs.Prelude.{pos}
+use Rattle.std.proofs.lemmas.Bool.{cases_lt}
+use Rattle.symbol_map.specs.Distance.{distance_of, squared_gap}
+use Rattle.symbol_map.specs.Points.{point_of}
+use Rattle.exact_decoder.specs.Keys.{IsNearest, AreClose}
+use Rattle.exact_decoder.specs.Lines.{least_four, coordinate, sample_at, nearest_000, nearest_001, nearest_010, nearest_011}
+use Rattle.exact_decoder.specs.Lines.{nearest_100, nearest_101, nearest_110, nearest_111}
 use Rattle.exact_decoder.proofs.Vectors.{each_of_four}
 use Rattle.exact_decoder.proofs.Axes.{IsLine, below-1, below-2, below-3, below-4, above-0, above-1, above-2, above-3, above-4}
 
@@ -128,64 +132,56 @@ nearest x y subset a b c d ka kb kc kd =
 
 pub nearest-000 : (x y : ℕ) → x < 65536 → y < 65536 → IsNearestKey x y 0 (nearest_000 x y)
 nearest-000 x y lx ly =
-    nearest x y 0 _ _ _ _
-    (on x y 0 _ _ _ _ _ (omega arith) (below-4 x lx) (above-1 y ly) (omega arith))
-    (on x y 1 _ _ _ _ _ (omega arith) (above-0 x lx) (below-3 y ly) (omega arith))
-    (on x y 2 _ _ _ _ _ (omega arith) (above-0 x lx) (above-1 y ly) (omega arith))
-    (on x y 3 _ _ _ _ _ (omega arith) (above-4 x lx) (above-1 y ly) (omega arith))
+    nearest _ _ 0 _ _ _ _ (on _ _ 0 _ _ _ _ _ (omega arith) (below-4 _ lx) (above-1 _ ly) (omega arith))
+    (on _ _ 1 _ _ _ _ _ (omega arith) (above-0 _ lx) (below-3 _ ly) (omega arith))
+    (on _ _ 2 _ _ _ _ _ (omega arith) (above-0 _ lx) (above-1 _ ly) (omega arith))
+    (on _ _ 3 _ _ _ _ _ (omega arith) (above-4 _ lx) (above-1 _ ly) (omega arith))
 
 pub nearest-001 : (x y : ℕ) → x < 65536 → y < 65536 → IsNearestKey x y 1 (nearest_001 x y)
 nearest-001 x y lx ly =
-    nearest x y 1 _ _ _ _
-    (on x y 4 _ _ _ _ _ (omega arith) (above-4 x lx) (below-1 y ly) (omega arith))
-    (on x y 5 _ _ _ _ _ (omega arith) (above-0 x lx) (above-3 y ly) (omega arith))
-    (on x y 6 _ _ _ _ _ (omega arith) (above-0 x lx) (below-1 y ly) (omega arith))
-    (on x y 7 _ _ _ _ _ (omega arith) (below-4 x lx) (below-1 y ly) (omega arith))
+    nearest _ _ 1 _ _ _ _ (on _ _ 4 _ _ _ _ _ (omega arith) (above-4 _ lx) (below-1 _ ly) (omega arith))
+    (on _ _ 5 _ _ _ _ _ (omega arith) (above-0 _ lx) (above-3 _ ly) (omega arith))
+    (on _ _ 6 _ _ _ _ _ (omega arith) (above-0 _ lx) (below-1 _ ly) (omega arith))
+    (on _ _ 7 _ _ _ _ _ (omega arith) (below-4 _ lx) (below-1 _ ly) (omega arith))
 
 pub nearest-010 : (x y : ℕ) → x < 65536 → y < 65536 → IsNearestKey x y 2 (nearest_010 x y)
 nearest-010 x y lx ly =
-    nearest x y 2 _ _ _ _
-    (on x y 8 _ _ _ _ _ (omega arith) (below-2 x lx) (above-3 y ly) (omega arith))
-    (on x y 9 _ _ _ _ _ (omega arith) (below-2 x lx) (below-1 y ly) (omega arith))
-    (on x y 10 _ _ _ _ _ (omega arith) (above-2 x lx) (above-3 y ly) (omega arith))
-    (on x y 11 _ _ _ _ _ (omega arith) (above-2 x lx) (below-1 y ly) (omega arith))
+    nearest _ _ 2 _ _ _ _ (on _ _ 8 _ _ _ _ _ (omega arith) (below-2 _ lx) (above-3 _ ly) (omega arith))
+    (on _ _ 9 _ _ _ _ _ (omega arith) (below-2 _ lx) (below-1 _ ly) (omega arith))
+    (on _ _ 10 _ _ _ _ _ (omega arith) (above-2 _ lx) (above-3 _ ly) (omega arith))
+    (on _ _ 11 _ _ _ _ _ (omega arith) (above-2 _ lx) (below-1 _ ly) (omega arith))
 
 pub nearest-011 : (x y : ℕ) → x < 65536 → y < 65536 → IsNearestKey x y 3 (nearest_011 x y)
 nearest-011 x y lx ly =
-    nearest x y 3 _ _ _ _
-    (on x y 12 _ _ _ _ _ (omega arith) (above-2 x lx) (below-3 y ly) (omega arith))
-    (on x y 13 _ _ _ _ _ (omega arith) (above-2 x lx) (above-1 y ly) (omega arith))
-    (on x y 14 _ _ _ _ _ (omega arith) (below-2 x lx) (below-3 y ly) (omega arith))
-    (on x y 15 _ _ _ _ _ (omega arith) (below-2 x lx) (above-1 y ly) (omega arith))
+    nearest _ _ 3 _ _ _ _ (on _ _ 12 _ _ _ _ _ (omega arith) (above-2 _ lx) (below-3 _ ly) (omega arith))
+    (on _ _ 13 _ _ _ _ _ (omega arith) (above-2 _ lx) (above-1 _ ly) (omega arith))
+    (on _ _ 14 _ _ _ _ _ (omega arith) (below-2 _ lx) (below-3 _ ly) (omega arith))
+    (on _ _ 15 _ _ _ _ _ (omega arith) (below-2 _ lx) (above-1 _ ly) (omega arith))
 
 pub nearest-100 : (x y : ℕ) → x < 65536 → y < 65536 → IsNearestKey x y 4 (nearest_100 x y)
 nearest-100 x y lx ly =
-    nearest x y 4 _ _ _ _
-    (on x y 16 _ _ _ _ _ (omega arith) (below-3 x lx) (below-2 y ly) (omega arith))
-    (on x y 17 _ _ _ _ _ (omega arith) (above-1 x lx) (below-2 y ly) (omega arith))
-    (on x y 18 _ _ _ _ _ (omega arith) (below-3 x lx) (above-2 y ly) (omega arith))
-    (on x y 19 _ _ _ _ _ (omega arith) (above-1 x lx) (above-2 y ly) (omega arith))
+    nearest _ _ 4 _ _ _ _ (on _ _ 16 _ _ _ _ _ (omega arith) (below-3 _ lx) (below-2 _ ly) (omega arith))
+    (on _ _ 17 _ _ _ _ _ (omega arith) (above-1 _ lx) (below-2 _ ly) (omega arith))
+    (on _ _ 18 _ _ _ _ _ (omega arith) (below-3 _ lx) (above-2 _ ly) (omega arith))
+    (on _ _ 19 _ _ _ _ _ (omega arith) (above-1 _ lx) (above-2 _ ly) (omega arith))
 
 pub nearest-101 : (x y : ℕ) → x < 65536 → y < 65536 → IsNearestKey x y 5 (nearest_101 x y)
 nearest-101 x y lx ly =
-    nearest x y 5 _ _ _ _
-    (on x y 20 _ _ _ _ _ (omega arith) (above-3 x lx) (above-2 y ly) (omega arith))
-    (on x y 21 _ _ _ _ _ (omega arith) (below-1 x lx) (above-2 y ly) (omega arith))
-    (on x y 22 _ _ _ _ _ (omega arith) (above-3 x lx) (below-2 y ly) (omega arith))
-    (on x y 23 _ _ _ _ _ (omega arith) (below-1 x lx) (below-2 y ly) (omega arith))
+    nearest _ _ 5 _ _ _ _ (on _ _ 20 _ _ _ _ _ (omega arith) (above-3 _ lx) (above-2 _ ly) (omega arith))
+    (on _ _ 21 _ _ _ _ _ (omega arith) (below-1 _ lx) (above-2 _ ly) (omega arith))
+    (on _ _ 22 _ _ _ _ _ (omega arith) (above-3 _ lx) (below-2 _ ly) (omega arith))
+    (on _ _ 23 _ _ _ _ _ (omega arith) (below-1 _ lx) (below-2 _ ly) (omega arith))
 
 pub nearest-110 : (x y : ℕ) → x < 65536 → y < 65536 → IsNearestKey x y 6 (nearest_110 x y)
 nearest-110 x y lx ly =
-    nearest x y 6 _ _ _ _
-    (on x y 24 _ _ _ _ _ (omega arith) (above-1 x lx) (above-4 y ly) (omega arith))
-    (on x y 25 _ _ _ _ _ (omega arith) (below-3 x lx) (above-0 y ly) (omega arith))
-    (on x y 26 _ _ _ _ _ (omega arith) (above-1 x lx) (above-0 y ly) (omega arith))
-    (on x y 27 _ _ _ _ _ (omega arith) (above-1 x lx) (below-4 y ly) (omega arith))
+    nearest _ _ 6 _ _ _ _ (on _ _ 24 _ _ _ _ _ (omega arith) (above-1 _ lx) (above-4 _ ly) (omega arith))
+    (on _ _ 25 _ _ _ _ _ (omega arith) (below-3 _ lx) (above-0 _ ly) (omega arith))
+    (on _ _ 26 _ _ _ _ _ (omega arith) (above-1 _ lx) (above-0 _ ly) (omega arith))
+    (on _ _ 27 _ _ _ _ _ (omega arith) (above-1 _ lx) (below-4 _ ly) (omega arith))
 
 pub nearest-111 : (x y : ℕ) → x < 65536 → y < 65536 → IsNearestKey x y 7 (nearest_111 x y)
 nearest-111 x y lx ly =
-    nearest x y 7 _ _ _ _
-    (on x y 28 _ _ _ _ _ (omega arith) (below-1 x lx) (below-4 y ly) (omega arith))
-    (on x y 29 _ _ _ _ _ (omega arith) (above-3 x lx) (above-0 y ly) (omega arith))
-    (on x y 30 _ _ _ _ _ (omega arith) (below-1 x lx) (above-0 y ly) (omega arith))
-    (on x y 31 _ _ _ _ _ (omega arith) (below-1 x lx) (above-4 y ly) (omega arith))
+    nearest _ _ 7 _ _ _ _ (on _ _ 28 _ _ _ _ _ (omega arith) (below-1 _ lx) (below-4 _ ly) (omega arith))
+    (on _ _ 29 _ _ _ _ _ (omega arith) (above-3 _ lx) (above-0 _ ly) (omega arith))
+    (on _ _ 30 _ _ _ _ _ (omega arith) (below-1 _ lx) (above-0 _ ly) (omega arith))
+    (on _ _ 31 _ _ _ _ _ (omega arith) (below-1 _ lx) (above-4 _ ly) (omega arith))

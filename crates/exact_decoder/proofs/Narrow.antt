@@ -1,7 +1,11 @@
 -- Sums that keys of 32 bits have.
-use Rattle.exact_decoder.proofs.Names.{◌≡◌, ℕ, ◌+◌, ◌-◌, ◌*◌, ◌/◌, ◌%◌, ◌^◌, ◌<◌, ◌≤◌, Bool, true, false, nat_eq, List, [], ◌∷◌, arith}
-use Rattle.exact_decoder.proofs.Names.{refl, ◌∙◌, ap, bit_and, slice_index, cond, nat_tests, and_mask, mask_l, IsNarrow}
-use Rattle.std.proofs.lemmas.Nat.{and_block}
+use Rattle.std.proofs.Common.{◌≡◌, ℕ, ◌+◌, ◌-◌, ◌*◌, ◌/◌, ◌%◌, ◌^◌, ◌<◌, ◌≤◌, Bool, true, nat_eq, List, [], ◌∷◌, arith, ◌∙◌}
+use Rattle.std.proofs.Common.{ap, bit_and, slice_index}
+use Rattle.std.specs.Simd.Lanes.{mask_l}
+use Rattle.std.proofs.Math.Bool.{cond}
+use Rattle.std.proofs.lemmas.Bool.{eqb-true}
+use Rattle.std.proofs.lemmas.Nat.{and_mask, and_block}
+use Rattle.exact_decoder.specs.Lines.{IsNarrow}
 
 -- a word of which no bit is in the mask
 pub narrow-word : (word state : ℕ) → word < 2 ^ 62 → word % 65536 ≡ state → bit_and word 18444492274164236288 ≡ 0 → IsNarrow word state
@@ -38,7 +42,7 @@ pub record AreSet (a b c d e f g h : Bool) : Type 0 where
 pub are-set : (a b c d e f g h : Bool) → nat_eq (mask_l (a ∷ b ∷ c ∷ d ∷ e ∷ f ∷ g ∷ h ∷ []) % 18446744073709551616) 255 ≡ true
     → AreSet a b c d e f g h
 are-set a b c d e f g h q =
-    let sum : mask_l (a ∷ b ∷ c ∷ d ∷ e ∷ f ∷ g ∷ h ∷ []) % 18446744073709551616 ≡ 255 = equal _ 255 q in
+    let sum : mask_l (a ∷ b ∷ c ∷ d ∷ e ∷ f ∷ g ∷ h ∷ []) % 18446744073709551616 ≡ 255 = eqb-true _ 255 q in
     let la = one a in
     let lb = one b in
     let lc = one c in
@@ -58,9 +62,6 @@ are-set a b c d e f g h q =
       h_set = set h (omega arith);
     }
   where
-    equal : (a b : ℕ) → nat_eq a b ≡ true → a ≡ b
-    equal a b q = grind (arith, nat_tests)
-
     one : (b : Bool) → as_number b ≤ 1
     one q0 = grind (arith)
 
@@ -69,7 +70,4 @@ are-set a b c d e f g h q =
 
 pub narrow-lane : (sums : List ℕ) (state : ℕ) → slice_index sums state < 2 ^ 62 → slice_index sums state % 65536 ≡ state
     → nat_eq (bit_and (slice_index sums state) 18444492274164236288) 0 ≡ true → IsNarrow (slice_index sums state) state
-narrow-lane sums state small is test = narrow-word (slice_index sums state) state small is (equal _ 0 test)
-  where
-    equal : (a b : ℕ) → nat_eq a b ≡ true → a ≡ b
-    equal a b q = grind (arith, nat_tests)
+narrow-lane sums state small is test = narrow-word (slice_index sums state) state small is (eqb-true _ 0 test)

@@ -1,15 +1,24 @@
 -- The decoder after more samples.
-use Rattle.exact_decoder.proofs.Names.{◌≡◌, ℕ, ◌+◌, ◌-◌, ◌<◌, ◌≤◌, inl, inr, Bool, List, [], ◌∷◌, ◌++◌, length, take, Option, Some, None}
-use Rattle.exact_decoder.proofs.Names.{option_map, arith, append_assoc, length-append, refl, sym, ◌∙◌, ap, subst, cases_lt, append-nil}
-use Rattle.exact_decoder.proofs.Names.{take-append-le, take_all, SteppedEach, Entry, entry_at, branch_of, sums_at, branches_at, new_sums_at}
-use Rattle.exact_decoder.proofs.Names.{tail_at, Decoding, DecoderStands, heard, Kept, IsParted, KeepsSurvivors, Stepped, Released}
-use Rattle.exact_decoder.proofs.Names.{KnowsState, Keeps, GoesOn, IsSurvivor, IsCommon, IsReleased, IsOver, IsLost, LostIs, Trellis}
-use Rattle.exact_decoder.proofs.Names.{trellis_of, IsPrefixOf, Sample, IsBounded, EntersOnce, cost}
+use Rattle.std.proofs.Common.{◌≡◌, ℕ, ◌+◌, ◌-◌, ◌<◌, ◌≤◌, inl, inr, Bool, List, [], ◌∷◌, ◌++◌, length, take, Option, Some, None, option_map}
+use Rattle.std.proofs.Common.{arith, append_assoc, length-append, refl, sym, ◌∙◌, ap, subst}
+use Rattle.std.proofs.lemmas.Bool.{cases_lt}
 use Rattle.std.proofs.Math.Seq.{take-append-add}
+use Rattle.std.proofs.lemmas.List.{append-nil, take-append-le, take_all}
+use Rattle.symbol_map.specs.declared.sample.Sample.{Sample}
+use Rattle.trellis_tables.specs.Sequences.{cost}
+use Rattle.trellis_tables.specs.Codes.{IsBounded, EntersOnce}
+use Rattle.shared_terms.specs.Prefix.{IsPrefixOf}
+use Rattle.exact_decoder.specs.Surviving.Trellises.{Trellis, trellis_of}
+use Rattle.exact_decoder.specs.Surviving.Survivors.{IsSurvivor, IsCommon, IsReleased, IsOver, IsLost, LostIs}
+use Rattle.exact_decoder.specs.Surviving.Steps.{KnowsState, Keeps, GoesOn}
 use Rattle.exact_decoder.proofs.Surviving.Columns.{Keeps-more, kept, known}
 use Rattle.exact_decoder.proofs.Surviving.Release.{survivor-one, prefix-parted}
 use Rattle.exact_decoder.proofs.Surviving.Fronts.{released-once, stays-prefix, over-before, lost-stays}
+use Rattle.exact_decoder.specs.Columns.{Entry, entry_at, branch_of, sums_at, branches_at, new_sums_at, tail_at}
+use Rattle.exact_decoder.specs.Kept.{Kept, IsParted, KeepsSurvivors, Stepped, Released}
 use Rattle.exact_decoder.specs.Memory.{opened}
+use Rattle.exact_decoder.specs.Batches.{SteppedEach}
+use Rattle.exact_decoder.specs.Decoder.{Decoding, DecoderStands, heard}
 
 pub none-some : {P : Type 0} (symbol : ℕ) → ◌≡◌ {A = Option ℕ} None (Some symbol) → P
 none-some symbol e = cc
@@ -65,11 +74,9 @@ released-of {X} c samples base sums tails front k parted = record {
     longest : (other : List ℕ) → IsCommon c samples other → IsParted sums tails → IsPrefixOf other front
     longest other every (inl (s, m, e, empty)) =
         subst (IsPrefixOf other) (ap (λ l. front ++ l) empty ∙ append-nil front) (every s (front ++ tail_at tails s) (stands s m e))
-    longest other every (inr a) = prefix-parted other front a.a a.b a.x a.y a.apart
-        (subst (IsPrefixOf other) (ap (λ l. front ++ l) a.s_begins)
-        (every a.s (front ++ tail_at tails a.s) (stands a.s a.s_sum a.s_reached)))
-        (subst (IsPrefixOf other) (ap (λ l. front ++ l) a.t_begins)
-        (every a.t (front ++ tail_at tails a.t) (stands a.t a.t_sum a.t_reached)))
+    longest other every (inr a) = prefix-parted _ _ _ _ _ _ a.apart
+        (subst (IsPrefixOf other) (ap (λ l. front ++ l) a.s_begins) (every a.s (front ++ tail_at tails a.s) (stands _ _ a.s_reached)))
+        (subst (IsPrefixOf other) (ap (λ l. front ++ l) a.t_begins) (every a.t (front ++ tail_at tails a.t) (stands _ _ a.t_reached)))
 
 -- the survivors of one sample more, before any release
 pub keeps-stepped : (table : ℕ → ℕ → Option ℕ) (points : ℕ → Sample) (states labels : ℕ) (starts : ℕ → Bool) (sample : Sample)
@@ -78,11 +85,10 @@ pub keeps-stepped : (table : ℕ → ℕ → Option ℕ) (points : ℕ → Sampl
     → KeepsSurvivors (trellis_of table points starts) new (samples ++ sample ∷ []) front
 keeps-stepped table points states labels starts sample k new samples front bounded once p h = record {
   base = h.base + p.lowered;
-  keeps = keeps-sums c (samples ++ sample ∷ []) (h.base + p.lowered) (λ s. option_map (λ n. n - p.lowered) (new_sums_at p.entries s))
-      (sums_at new.sums) (λ s. front ++ tail_at new.tails s) p.sums
-      (keeps-lowered c (samples ++ sample ∷ []) h.base p.lowered (new_sums_at p.entries) (λ s. front ++ tail_at new.tails s) p.least
-      (Keeps-more c samples sample h.base (sums_at k.sums) (new_sums_at p.entries) (λ s. front ++ tail_at k.tails s)
-      (λ s. front ++ tail_at new.tails s) (branches_at p.entries) always h.keeps (p.chosen starts) goes));
+  keeps = keeps-sums c (samples ++ sample ∷ []) _ (λ s. option_map (λ n. n - p.lowered) (new_sums_at p.entries s)) _
+      (λ s. front ++ tail_at new.tails s) p.sums (keeps-lowered c (samples ++ sample ∷ []) _ _ _ (λ s. front ++ tail_at new.tails s)
+      p.least (Keeps-more c samples sample _ _ _ (λ s. front ++ tail_at k.tails s) (λ s. front ++ tail_at new.tails s) _ always h.keeps
+      (p.chosen starts) goes));
   long = omega (arith, h.long, p.longer_by_one, length-append {A = Sample} samples (sample ∷ []));
 }
   where
@@ -120,11 +126,9 @@ keeps-released {X} c k new samples taken pending more labels pending_is r h = (
     l = ap length front ∙ length-append {A = ℕ} (taken ++ pending) labels
 
     keeps : Keeps c samples h.base (sums_at new.sums) (λ s. (taken ++ more) ++ tail_at new.tails s)
-    keeps = keeps-paths c samples h.base (sums_at new.sums) (λ s. (taken ++ pending) ++ tail_at k.tails s)
-        (λ s. (taken ++ more) ++ tail_at new.tails s)
+    keeps = keeps-paths c samples _ _ (λ s. (taken ++ pending) ++ tail_at k.tails s) (λ s. (taken ++ more) ++ tail_at new.tails s)
         (λ s m e. ap (λ l. (taken ++ pending) ++ l) (r.moved s m e) ∙ sym (append_assoc (taken ++ pending) labels (tail_at new.tails s))
-        ∙ ap (λ l. l ++ tail_at new.tails s) (sym front))
-        (keeps-sums c samples h.base (sums_at k.sums) (sums_at new.sums) (λ s. (taken ++ pending) ++ tail_at k.tails s)
+        ∙ ap (λ l. l ++ tail_at new.tails s) (sym front)) (keeps-sums c samples _ _ _ (λ s. (taken ++ pending) ++ tail_at k.tails s)
         (λ s. ap (λ l. sums_at l s) r.sums_stay) h.keeps)
 
 -- after the last sample the line is lost where more labels than the depth are unreleased then
@@ -248,5 +252,4 @@ stands-stays table points depth starts more d samples taken symbol e h = record 
     was = subst (LostIs c depth samples) e h.lost
 
     same : heard d.lost (samples ++ more) ≡ heard d.lost samples
-    same = ap (λ o. heard o (samples ++ more)) e ∙ take-append-le (symbol + 1) samples more (omega (arith, was.within))
-        ∙ sym (ap (λ o. heard o samples) e)
+    same = grind (arith, take-append-le, was)

@@ -1,8 +1,11 @@
 -- Items from the newest one on.
-use Rattle.exact_decoder.proofs.Names.{◌≡◌, ℕ, zero, suc, ◌+◌, ◌-◌, ◌<◌, ◌≤◌, List, [], ◌∷◌, length, take, drop, set, get_or, slice_get}
-use Rattle.exact_decoder.proofs.Names.{Some, arith, refl, sym, ◌∙◌, ap, common_steps, take-map, choices_of, columns_in, from_newest, Choice}
-use Rattle.exact_decoder.proofs.Names.{Column}
-use Rattle.std.proofs.lemmas.List.{drop-set, length-map}
+use Rattle.std.proofs.Common.{◌≡◌, ℕ, zero, suc, ◌+◌, ◌-◌, ◌<◌, ◌≤◌, List, [], ◌∷◌, length, take, drop, set, get_or, slice_get, Some, arith}
+use Rattle.std.proofs.Common.{refl, sym, ◌∙◌, ap}
+use Rattle.std.proofs.lemmas.Grind.{common_steps}
+use Rattle.std.proofs.lemmas.List.{drop-set, take-map, length-map}
+use Rattle.exact_decoder.specs.declared.choice.Choice.{Choice}
+use Rattle.exact_decoder.specs.declared.column.Column.{Column}
+use Rattle.exact_decoder.specs.Traced.{choices_of, columns_in, from_newest}
 
 get-drop : {A : Type 0} (n : ℕ) (xs : List A) (i j : ℕ) → j ≡ n + i → slice_get (drop n xs) i ≡ slice_get xs j
 get-drop zero xs i j e = ap (slice_get xs) (omega arith)
@@ -25,8 +28,7 @@ get-some (x ∷ xs) (suc i) v l e = get-some xs i v (omega arith) e
 -- one that so many are newer than
 pub newest-at : {A : Type 0} (xs : List A) (n count back : ℕ) (v : A) → n + count ≤ length xs → back < count → v ≡ get_or xs (n + back) v
     → slice_get (from_newest n count xs) back ≡ Some v
-newest-at xs n count back v within l e =
-    get-take count (drop n xs) back l ∙ get-drop n xs back (n + back) refl ∙ get-some xs (n + back) v (omega arith) e
+newest-at xs n count back v within l e = get-take _ (drop n xs) _ l ∙ get-drop _ xs _ _ refl ∙ get-some xs _ v (omega arith) e
 
 pub newest-long : {A : Type 0} (xs : List A) (n count : ℕ) → n + count ≤ length xs → length (from_newest n count xs) ≡ count
 newest-long xs n count within = grind (arith, common_steps)
@@ -42,14 +44,9 @@ newest-more xs n count v some l = ap (take count) (drop-set xs n v l) ∙ take-o
 -- the columns from the newest on
 pub columns-long : {size : ℕ} (items : List (Column size)) (n count : ℕ) (columns : List (List Choice)) → n + count ≤ length items
     → columns_in (from_newest n count items) ≡ columns → length columns ≡ count
-columns-long items n count columns l e =
-    sym (ap length e) ∙ length-map (from_newest n count items) choices_of ∙ newest-long items n count l
+columns-long items n count columns l e = grind (arith, length-map, newest-long)
 
 pub columns-more : {size : ℕ} (items : List (Column size)) (n count : ℕ) (v : Column size) (old : List (List Choice)) → 1 ≤ count
     → n + 1 + count ≤ length items → columns_in (from_newest (n + 1) count items) ≡ old
     → columns_in (from_newest n count (set items n v)) ≡ choices_of v ∷ take (length old - 1) old
-columns-more items n count v old some l h =
-    ap columns_in (newest-more items n count v some (omega arith))
-    ∙ ap (λ t. choices_of v ∷ t) (sym (take-map choices_of (count - 1) (from_newest (n + 1) count items)))
-    ∙ ap (λ t. choices_of v ∷ take (count - 1) t) h
-    ∙ ap (λ m. choices_of v ∷ take (m - 1) old) (sym (columns-long items (n + 1) count old l h))
+columns-more items n count v old some l h = grind (arith, newest-more, take-map, columns-long)

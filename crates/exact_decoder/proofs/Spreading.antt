@@ -1,12 +1,22 @@
 -- How far sums are apart.
-use Rattle.exact_decoder.proofs.Names.{◌≡◌, ℕ, zero, suc, ◌+◌, ◌-◌, ◌*◌, ◌^◌, ◌<◌, ◌≤◌, min, inl, inr, true, List, [], ◌∷◌, length, All}
-use Rattle.exact_decoder.proofs.Names.{Option, Some, None, option_map, arith, length-append, refl, sym, ◌∙◌, ap, subst, min-le_left}
-use Rattle.exact_decoder.proofs.Names.{min-eq_left, min-eq_right, cases_lt, SteppedEach, Entry, branch_of, sum_of, sums_at, entry_at}
-use Rattle.exact_decoder.proofs.Names.{new_sums_at, Decoding, IsSound, Kept, AllChosen, Stepped, Released, Enters, Chooses, Trellis}
-use Rattle.exact_decoder.proofs.Names.{trellis_of, distance_of, Sample, Leads-front, IsBounded, StaysWithin, Reaches, Leads}
+use Rattle.std.proofs.Common.{◌≡◌, ℕ, zero, suc, ◌+◌, ◌-◌, ◌*◌, ◌^◌, ◌<◌, ◌≤◌, min, inl, inr, true, List, [], ◌∷◌, length, All, Option}
+use Rattle.std.proofs.Common.{Some, None, option_map, arith, length-append, refl, sym, ◌∙◌, ap, subst}
+use Rattle.std.proofs.lemmas.Bool.{cases_lt}
+use Rattle.std.proofs.Math.Nat.{min-le_left, min-eq_left, min-eq_right}
+use Rattle.std.proofs.lemmas.Option.{same_Some}
+use Rattle.symbol_map.specs.declared.sample.Sample.{Sample}
+use Rattle.symbol_map.specs.Distance.{distance_of}
+use Rattle.trellis_tables.specs.Sequences.{Leads}
+use Rattle.trellis_tables.specs.Codes.{IsBounded, StaysWithin, Reaches}
+use Rattle.trellis_tables.proofs.Sequences.{Leads-front}
+use Rattle.exact_decoder.specs.Surviving.Trellises.{Trellis, trellis_of}
+use Rattle.exact_decoder.specs.Surviving.Steps.{Enters, Chooses}
 use Rattle.exact_decoder.proofs.Surviving.Snoc.{snoc_of}
+use Rattle.exact_decoder.specs.Columns.{Entry, branch_of, sum_of, sums_at, entry_at, new_sums_at}
+use Rattle.exact_decoder.specs.Kept.{Kept, AllChosen, Stepped, Released}
 use Rattle.exact_decoder.specs.Memory.{opened}
-use Rattle.exact_decoder.specs.Decoder.{IsNearAfter, IsSpread}
+use Rattle.exact_decoder.specs.Decoder.{Decoding, IsNearAfter, IsSpread, IsSound}
+use Rattle.exact_decoder.specs.Batches.{SteppedEach}
 
 -- an entry with the sum that stands
 entered-some : {X : Type 0} (c : Trellis X) (d : X) (sums : ℕ → Option ℕ) (s m : ℕ) (entry : Option Entry)
@@ -18,8 +28,7 @@ entered-some c d sums s m (Some ch) e h = let same : ch.sum ≡ m = cc in (ch, r
 enters-at : (table : ℕ → ℕ → Option ℕ) (points : ℕ → Sample) (sample : Sample) (sums : List (Option ℕ)) (entries : List (Option Entry))
     (s m : ℕ) → AllChosen table points sample sums entries → new_sums_at entries s ≡ Some m
     → (e : Entry) × (entry_at entries s ≡ Some e) × Enters (trellis_of table points (λ s. true)) sample (sums_at sums) s (branch_of e) m
-enters-at table points sample sums entries s m h e =
-    entered-some (trellis_of table points (λ s. true)) sample (sums_at sums) s m (entry_at entries s) e (h (λ s. true) s)
+enters-at table points sample sums entries s m h e = entered-some (trellis_of table points (λ s. true)) sample _ _ _ _ e (h (λ s. true) s)
 
 -- a branch into a state bounds its sum
 sum-through : (table : ℕ → ℕ → Option ℕ) (points : ℕ → Sample) (sample : Sample) (sums : List (Option ℕ)) (entries : List (Option Entry))
@@ -81,15 +90,13 @@ near-each : (table : ℕ → ℕ → Option ℕ) (points : ℕ → Sample) (stat
     → IsBounded table states labels → StaysWithin table states labels → Stepped table points sample old new
     → IsSpread table states n (sums_at old.sums) → steps ≤ n + 1
     → (from : ℕ) × (from < states) × IsNearAfter table (sums_at new.sums) steps from
-near-each table points states labels sample old new n zero bounded within p h l =
-    near-least table points states labels sample old new bounded within p
+near-each table points states labels sample old new n zero bounded within p h l = near-least _ _ _ _ _ _ _ bounded within p
 near-each table points states labels sample old new n (suc steps) bounded within p h l =
     let was = h.near steps (omega arith) in
     let one : steps + 1 ≡ suc steps = omega arith in (
       was.0,
       was.1,
-      subst (λ k. IsNearAfter table (sums_at new.sums) k was.0) one
-          (near-next table points sample old new steps was.0 p was.2),
+      subst (λ k. IsNearAfter table (sums_at new.sums) k was.0) one (near-next _ _ _ _ _ _ _ p was.2),
     )
 
 -- a sum after a step
@@ -98,14 +105,11 @@ sum-after : (table : ℕ → ℕ → Option ℕ) (points : ℕ → Sample) (samp
     → m ≤ (n + 1) * 2 ^ 33
 sum-after table points sample old new n s m p small e = each (new_sums_at p.entries s) refl (sym (p.sums s) ∙ e)
   where
-    some_one : {a b : ℕ} → Some a ≡ Some b → a ≡ b
-    some_one q = cc
-
     each : (o : Option ℕ) → new_sums_at p.entries s ≡ o → option_map (λ n. n - p.lowered) o ≡ Some m → m ≤ (n + 1) * 2 ^ 33
     each None f g = absurd cc
     each (Some k) f g =
         let a = enters-at table points sample old.sums p.entries s k p.chosen f in
-        omega (arith, some_one g, a.2.sum_is, small a.0.before a.2.known a.2.reached, p.close a.0.before a.0.label s a.2.leads)
+        omega (arith, same_Some _ _ g, a.2.sum_is, small a.0.before a.2.known a.2.reached, p.close a.0.before a.0.label s a.2.leads)
 
 pub spread-next : (table : ℕ → ℕ → Option ℕ) (points : ℕ → Sample) (states labels reach : ℕ) (sample : Sample) (old new : Kept) (count : ℕ)
     → IsBounded table states labels → StaysWithin table states labels → Reaches table states labels reach
@@ -130,9 +134,6 @@ spread-next table points states labels reach sample old new count bounded within
       })
 ]
   where
-    some_one : {a b : ℕ} → Some a ≡ Some b → a ≡ b
-    some_one q = cc
-
     -- a state with a sum was entered
     entered : (s m : ℕ) (o : Option ℕ) → new_sums_at p.entries s ≡ o → option_map (λ n. n - p.lowered) o ≡ Some m → s < states
     entered s m None f e = absurd cc
@@ -147,7 +148,7 @@ spread-next table points states labels reach sample old new count bounded within
         let in_states : s < states = entered s m (new_sums_at p.entries s) refl (sym (p.sums s) ∙ e) in
         let path = reaches root.0 s root.1 in_states in
         let there = root.2 path.0 s path.1 path.2 in
-        omega (arith, there.2, some_one (sym there.1 ∙ e))
+        omega (arith, there.2, same_Some _ _ (sym there.1 ∙ e))
 
 -- before the first sample
 pub spread-start : (table : ℕ → ℕ → Option ℕ) (states reach start : ℕ) (sums : ℕ → Option ℕ) → start < states → sums start ≡ Some 0

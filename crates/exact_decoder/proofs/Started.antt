@@ -1,11 +1,19 @@
 -- A decoder before its first sample.
-use Rattle.exact_decoder.proofs.Names.{◌≡◌, ◌≢◌, ℕ, ◌<◌, ◌≤◌, nat_eq, nat_lt, inl, inr, Bool, true, false, if◌then◌else◌, List, [], ◌++◌}
-use Rattle.exact_decoder.proofs.Names.{length, get_or, replicate, set, Option, Some, None, arith, refl, sym, ◌∙◌, ap, subst, cases_lt}
-use Rattle.exact_decoder.proofs.Names.{lt-ltb, nat_tests, common_steps, length-replicate, sums_at, tail_at, Decoding, DecoderStands, heard}
-use Rattle.exact_decoder.proofs.Names.{Kept, KeepsSurvivors, Keeps, IsReleased, LostIs, Trellis, trellis_of, Sample}
-use Rattle.std.proofs.lemmas.Bool.{le-ltb}
+use Rattle.std.proofs.Common.{◌≡◌, ◌≢◌, ℕ, ◌<◌, ◌≤◌, nat_eq, nat_lt, inl, inr, Bool, true, false, if◌then◌else◌}
+use Rattle.std.proofs.Common.{List, [], ◌++◌, length, get_or, replicate, set, Option, Some, None, arith, refl, sym, ◌∙◌, ap, subst}
+use Rattle.std.proofs.lemmas.Grind.{common_steps}
+use Rattle.std.proofs.lemmas.Bool.{cases_lt, lt-ltb, le-ltb, eqb-true, eqb-false}
+use Rattle.std.proofs.lemmas.Bool.Decides.{nat_tests}
+use Rattle.std.proofs.lemmas.List.{length-replicate}
+use Rattle.symbol_map.specs.declared.sample.Sample.{Sample}
+use Rattle.exact_decoder.specs.Surviving.Trellises.{Trellis, trellis_of}
+use Rattle.exact_decoder.specs.Surviving.Survivors.{IsReleased, LostIs}
+use Rattle.exact_decoder.specs.Surviving.Steps.{Keeps}
 use Rattle.exact_decoder.proofs.Surviving.Columns.{Keeps-start}
+use Rattle.exact_decoder.specs.Columns.{sums_at, tail_at}
+use Rattle.exact_decoder.specs.Kept.{Kept, KeepsSurvivors}
 use Rattle.exact_decoder.specs.Memory.{opened}
+use Rattle.exact_decoder.specs.Decoder.{Decoding, DecoderStands, heard}
 use Rattle.exact_decoder.proofs.Pushed.{released-of}
 
 pub get_or-replicate : {X : Type 0} (n i : ℕ) (x d : X) → i < n → get_or (replicate n x) i d ≡ x
@@ -22,12 +30,6 @@ pub one_start : (states start : ℕ) → start < states → (s : ℕ)
     → sums_at (set (replicate states None) start (Some 0)) s ≡ (if nat_eq s start then Some 0 else None)
 one_start states start h s = each (nat_eq s start) refl
   where
-    apart : (s start : ℕ) → nat_eq s start ≡ false → s ≢ start
-    apart s start e = grind (arith, nat_tests)
-
-    same : (s start : ℕ) → nat_eq s start ≡ true → s ≡ start
-    same s start e = grind (arith, nat_tests)
-
     other : (xs : List (Option ℕ)) (x : Option ℕ) (n i : ℕ) → i ≢ n → get_or (set xs n x) i None ≡ get_or xs i None
     other xs x n i l = grind (arith, common_steps)
 
@@ -38,9 +40,8 @@ one_start states start h s = each (nat_eq s start) refl
     nowhere = elim (cases_lt s states) [ inl l ↦ get_or-replicate states s None None l | inr l ↦ replicate-past states s None None l ]
 
     each : (b : Bool) → nat_eq s start ≡ b → sums_at (set (replicate states None) start (Some 0)) s ≡ (if b then Some 0 else None)
-    each true e = here (replicate states None) (Some 0) start s (same s start e)
-        (omega (arith, h, length-replicate {A = Option ℕ} states None))
-    each false e = other (replicate states None) (Some 0) start s (apart s start e) ∙ nowhere
+    each true e = grind (arith, here, eqb-true, length-replicate)
+    each false e = other (replicate states None) (Some 0) start s (eqb-false s start e) ∙ nowhere
 
 -- sums that are those of a start are zero
 pub start-zero : (sums : List (Option ℕ)) (starts : ℕ → Bool) → ((s : ℕ) → sums_at sums s ≡ (if starts s then Some 0 else None)) → (s m : ℕ)

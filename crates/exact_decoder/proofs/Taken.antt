@@ -1,12 +1,15 @@
 -- The decoder after a label is taken, and at its end.
-use Rattle.exact_decoder.proofs.Names.{◌≡◌, ℕ, ◌<◌, Bool, List, [], ◌∷◌, ◌++◌, length, drop, reverse, All, Option, Some, None, append_assoc}
-use Rattle.exact_decoder.proofs.Names.{refl, sym, ◌∙◌, ap, subst, arith, append-nil, reverse-append, length-reverse, All-head, All-tail}
-use Rattle.exact_decoder.proofs.Names.{All-same, tail_at, Decoding, decoding_of, IsSound, DecoderStands, heard, Kept, KeepsSurvivors}
-use Rattle.exact_decoder.proofs.Names.{IsLeastSum, IsReleased, IsFirstLeast, trellis_of, Sample}
-use Rattle.std.proofs.Common.{IfSome, MatchOption}
-use Rattle.std.proofs.Common.{option_to_list}
+use Rattle.std.proofs.Common.{◌≡◌, ℕ, ◌<◌, Bool, List, [], ◌∷◌, ◌++◌, length, drop, reverse, All, Option, Some, None, IfSome, MatchOption}
+use Rattle.std.proofs.Common.{option_to_list, append_assoc, refl, sym, ◌∙◌, ap, subst, arith}
+use Rattle.std.proofs.lemmas.List.{append-nil, reverse-append, length-reverse}
+use Rattle.std.proofs.lemmas.List.Elements.{All-head, All-tail, All-same}
+use Rattle.symbol_map.specs.declared.sample.Sample.{Sample}
+use Rattle.exact_decoder.specs.Surviving.Trellises.{trellis_of}
+use Rattle.exact_decoder.specs.Surviving.Survivors.{IsReleased, IsFirstLeast}
+use Rattle.exact_decoder.specs.Columns.{tail_at}
+use Rattle.exact_decoder.specs.Kept.{Kept, KeepsSurvivors, IsLeastSum}
 use Rattle.exact_decoder.specs.Memory.{opened}
-use Rattle.exact_decoder.specs.Decoder.{two_in}
+use Rattle.exact_decoder.specs.Decoder.{Decoding, decoding_of, IsSound, DecoderStands, heard, two_in}
 use Rattle.exact_decoder.proofs.Least.{final-of}
 
 pub stands-taken : (table : ℕ → ℕ → Option ℕ) (points : ℕ → Sample) (depth : ℕ) (starts : ℕ → Bool) (d new : Decoding)
@@ -84,8 +87,7 @@ stands-popped table points depth starts k count old new lost samples taken None 
     subst (DecoderStands table points starts depth (decoding_of k count new lost) samples) (sym (append-nil taken))
     (subst (λ l. DecoderStands table points starts depth (decoding_of k count l lost) samples taken) (p.0 ∙ sym p.1) h)
 stands-popped table points depth starts k count old new lost samples taken (Some label) p h =
-    stands-taken table points depth starts (decoding_of k count old lost) (decoding_of k count new lost) samples taken label
-    (turned old new label p) refl h
+    stands-taken _ _ _ _ _ _ _ _ _ (turned _ _ _ p) refl h
 
 -- what taking the last two labels of a list gives
 abbrev pub IsPoppedTwo : List ℕ → List ℕ → Option (ℕ × ℕ) → Type 0
@@ -101,10 +103,8 @@ pub sound-popped-two : (table : ℕ → ℕ → Option ℕ) (states labels reach
 sound-popped-two table states labels reach depth k count old new lost None p h =
     (subst (λ l. IsSound table states labels reach depth (decoding_of k count l lost)) (sym p.1) h, tt)
 sound-popped-two table states labels reach depth k count old new lost (Some two) p h =
-    let first = sound-taken table states labels reach depth (decoding_of k count old lost) two.0 (two.1 ∷ reverse new)
-    (turned-two old new two p) h in
-    let second = sound-taken table states labels reach depth (record (decoding_of k count old lost) { pending = two.1 ∷ reverse new }) two.1
-    (reverse new) refl first.1 in
+    let first = sound-taken _ _ _ _ _ _ _ _ (turned-two _ _ _ p) h in
+    let second = sound-taken _ _ _ _ _ _ _ _ refl first.1 in
     (second.1, (first.0, second.0))
 
 -- the labels that are taken, and those that are left
@@ -124,7 +124,5 @@ stands-popped-two table points depth starts k count old new lost samples taken N
     (subst (λ l. DecoderStands table points starts depth (decoding_of k count l lost) samples taken) (sym p.1) h)
 stands-popped-two table points depth starts k count old new lost samples taken (Some two) p h =
     let middle : Decoding = record (decoding_of k count old lost) { pending = two.1 ∷ reverse new } in
-    subst (DecoderStands table points starts depth (decoding_of k count new lost) samples)
-    (append_assoc taken (two.0 ∷ []) (two.1 ∷ []))
-    (stands-taken table points depth starts middle (decoding_of k count new lost) samples (taken ++ two.0 ∷ []) two.1 refl refl
-    (stands-taken table points depth starts (decoding_of k count old lost) middle samples taken two.0 (turned-two old new two p) refl h))
+    subst (DecoderStands table points starts depth (decoding_of k count new lost) samples) (append_assoc taken (two.0 ∷ []) (two.1 ∷ []))
+    (stands-taken _ _ _ _ _ _ _ _ _ refl refl (stands-taken _ _ _ _ _ _ _ _ _ (turned-two _ _ _ p) refl h))

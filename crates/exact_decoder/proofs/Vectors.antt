@@ -1,6 +1,7 @@
 -- Lanes of vectors.
-use Rattle.exact_decoder.proofs.Names.{◌≡◌, ℕ, zero, suc, ◌+◌, ◌*◌, ◌<◌, List, [], ◌∷◌, ◌++◌, length, slice_index, arith, refl, ap, ◌∙◌}
-use Rattle.exact_decoder.proofs.Names.{pick_l, words}
+use Rattle.std.proofs.Common.{◌≡◌, ℕ, zero, suc, ◌+◌, ◌*◌, ◌<◌, List, [], ◌∷◌, ◌++◌, length, slice_index, arith, refl, ap, ◌∙◌}
+use Rattle.std.specs.Simd.Lanes.{pick_l}
+use Rattle.exact_decoder.specs.Lines.{words}
 
 -- a function of two vectors
 pub both : {A : Type 0} (f : List ℕ → List ℕ → A) (a p b q : List ℕ) → a ≡ p → b ≡ q → f a b ≡ f p q
@@ -12,17 +13,12 @@ turned places v w e = ap (λ u. pick_l 0 (u ++ u) places) e
 
 -- four lanes that are each equal
 pub four : (a b c d p q r s : ℕ) → a ≡ p → b ≡ q → c ≡ r → d ≡ s → (a ∷ b ∷ c ∷ d ∷ []) ≡ (p ∷ q ∷ r ∷ s ∷ [])
-four a b c d p q r s e f g h = ap (λ z. z ∷ b ∷ c ∷ d ∷ []) e ∙ ap (λ z. p ∷ z ∷ c ∷ d ∷ []) f ∙ ap (λ z. p ∷ q ∷ z ∷ d ∷ []) g ∙ ap
-    (λ z. p ∷ q ∷ r ∷ z ∷ []) h
+four a b c d p q r s e f g h = grind (arith)
 
 -- eight lanes that are each equal
 pub eight : (a b c d e f g h p q r s t u v w : ℕ) → a ≡ p → b ≡ q → c ≡ r → d ≡ s → e ≡ t → f ≡ u → g ≡ v → h ≡ w
     → (a ∷ b ∷ c ∷ d ∷ e ∷ f ∷ g ∷ h ∷ []) ≡ (p ∷ q ∷ r ∷ s ∷ t ∷ u ∷ v ∷ w ∷ [])
-eight a b c d e f g h p q r s t u v w i j k l m n o z =
-    ap (λ x. x ∷ b ∷ c ∷ d ∷ e ∷ f ∷ g ∷ h ∷ []) i ∙ ap (λ x. p ∷ x ∷ c ∷ d ∷ e ∷ f ∷ g ∷ h ∷ []) j
-    ∙ ap (λ x. p ∷ q ∷ x ∷ d ∷ e ∷ f ∷ g ∷ h ∷ []) k ∙ ap (λ x. p ∷ q ∷ r ∷ x ∷ e ∷ f ∷ g ∷ h ∷ []) l
-    ∙ ap (λ x. p ∷ q ∷ r ∷ s ∷ x ∷ f ∷ g ∷ h ∷ []) m ∙ ap (λ x. p ∷ q ∷ r ∷ s ∷ t ∷ x ∷ g ∷ h ∷ []) n
-    ∙ ap (λ x. p ∷ q ∷ r ∷ s ∷ t ∷ u ∷ x ∷ h ∷ []) o ∙ ap (λ x. p ∷ q ∷ r ∷ s ∷ t ∷ u ∷ v ∷ x ∷ []) z
+eight a b c d e f g h p q r s t u v w i j k l m n o z = grind (arith)
 
 -- what holds of each of four, and of each of eight
 pub each_of_four : (P : ℕ → Type 0) → P 0 → P 1 → P 2 → P 3 → (i : ℕ) → i < 4 → P i

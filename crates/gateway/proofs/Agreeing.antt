@@ -88,15 +88,11 @@ module _ (turn : ℕ) (a : Account) where
   due d b s e = record { own = own d e; left = record { setup = refl; terms = refl; answer = inr refl; phase = inl refl } }
     where
       own : (d : Answer) → a.owes.answer ≡ Some d → OnSent (OwnFrame (face a)) (frame_for d b)
-      own answers.Adp e = tt
-      own answers.Xid e = (none-numbered, (ap (λ (v : Setup). written v.offer) s, e))
-      own (answers.Ua pf) e = (none-numbered, tt)
-      own (answers.Dm pf) e = (none-numbered, tt)
+      own q0 e = grind (arith)
 
   -- RR or RNR
   ready : a.phase ≡ Connected → (busy command pf : Bool) (nr : ℕ) → OwnFrame (face a) (ready_frame busy command nr pf)
-  ready p true command pf nr = (λ z. p, tt)
-  ready p false command pf nr = (λ z. p, tt)
+  ready p q1 command pf nr = grind (arith)
 
   tries : (frame : Frame) → OwnFrame (face a) frame → Tries Says turn frame a
   tries frame own = tries-alike Says turn frame a (λ w. stays own) (stays tt)
@@ -188,11 +184,7 @@ not-xid d n e = let same : d ≡ answers.Xid = cc in false≢true (sym n ∙ ap 
 
 -- an ADP is no longer due
 xid-due : (o : Option Answer) → without_adp o ≡ Some answers.Xid → o ≡ Some answers.Xid
-xid-due None e = e
-xid-due (Some answers.Adp) e = absurd (none-some answers.Xid e)
-xid-due (Some answers.Xid) e = e
-xid-due (Some (answers.Ua pf)) e = e
-xid-due (Some (answers.Dm pf)) e = e
+xid-due q0 e = grind (arith)
 
 abbrev pub OnArrived : (Frame → Type 0) → Arrived → Type 0
 OnArrived P arrivals.Nothing = Unit {0}
@@ -323,8 +315,7 @@ module _ (so sa : Setup) (reads : Reads so sa) (r turn : ℕ) (a : Account) (h :
   )
     where
       met : (3 ≤ rank p) ⊎ (2 ≤ r) → 2 ≤ r
-      met (inl x) = let from : rank a.phase ≡ rank p = ap rank e in h.linked (omega (arith, from, x))
-      met (inr x) = x
+      met q0 = grind (arith)
 
   -- an offer makes it Negotiating
   commanded : (a.phase ≡ Detecting) ⊎ (a.phase ≡ Negotiating) → (info : List ℕ) (offer : Offer) → offer_in info ≡ Some offer
@@ -344,8 +335,7 @@ module _ (so sa : Setup) (reads : Reads so sa) (r turn : ℕ) (a : Account) (h :
       )
     where
       first : (a.phase ≡ Detecting) ⊎ (a.phase ≡ Negotiating) → rank a.phase ≤ 1
-      first (inl e) = let from : rank a.phase ≡ 0 = ap rank e in omega (arith, from)
-      first (inr e) = let from : rank a.phase ≡ 1 = ap rank e in omega (arith, from)
+      first q0 = grind (arith)
 
   early-a : (2 ≤ r → 1 ≤ rank a.phase) → hears.EarlyWays (Hears (KnowsA so sa r) (SentO so r) turn a) turn a
   early-a met = record {
@@ -398,13 +388,11 @@ KnowsAt Answerer so sa x lx y ly = Knows so sa (face y) (face x) ly lx
 pub knows-turned : (role : Role) (so sa : Setup) (x : Account) (lx : List Slot) (y : Account) (ly : List Slot)
     → KnowsAt role so sa x lx y ly
     → KnowsAt (other role) so sa y ly x lx
-knows-turned Originator so sa x lx y ly h = h
-knows-turned Answerer so sa x lx y ly h = h
+knows-turned q0 so sa x lx y ly h = grind (arith)
 
 pub knows-as : (role : Role) (so sa : Setup) (x b : Account) (lx : List Slot) (y : Account) (ly : List Slot) → face b ≡ face x
     → KnowsAt role so sa x lx y ly → KnowsAt role so sa b lx y ly
-knows-as Originator so sa x b lx y ly e h = subst (λ (f : Face). Knows so sa f (face y) lx ly) (sym e) h
-knows-as Answerer so sa x b lx y ly e h = subst (λ (f : Face). Knows so sa (face y) f ly lx) (sym e) h
+knows-as q0 so sa x b lx y ly e h = grind (arith)
 
 -- what was sent goes on to be so
 sent-weaker : (P Q : Frame → Type 0) → ((frame : Frame) → P frame → Q frame) → (s : Sent) → OnSent P s → OnSent Q s
@@ -426,16 +414,13 @@ more : (m n : ℕ) → 2 ≤ m → m ≤ n → 2 ≤ n
 more m n h l = omega (arith, h, l)
 
 kind_o-later : (so : Setup) (r s : ℕ) → r ≤ s → (frame : Frame) → KindO so r frame → KindO so s frame
-kind_o-later so r s l (Xid command pf info) h = h
-kind_o-later so r s l (Sabme pf) h = more r s h l
-kind_o-later so r s l frame h = tt
+kind_o-later so r s l frame h = grind (arith)
 
 sent_o-later : (so : Setup) (r s : ℕ) → r ≤ s → (frame : Frame) → SentO so r frame → SentO so s frame
 sent_o-later so r s l frame h = (λ e. more r s (h.0 e) l, kind_o-later so r s l frame h.1)
 
 kind_a-later : (sa : Setup) (m n : ℕ) → m ≤ n → (frame : Frame) → KindA sa m frame → KindA sa n frame
-kind_a-later sa m n l (Xid command pf info) h = (h.0, h.1, omega (arith, l, h.2))
-kind_a-later sa m n l frame h = tt
+kind_a-later sa m n l frame h = grind (arith)
 
 sent_a-later : (sa : Setup) (r m s n : ℕ) → r ≤ s → m ≤ n → (frame : Frame) → SentA sa r m frame → SentA sa s n frame
 sent_a-later sa r m s n l k frame h = (λ e. more r s (h.0 e) l, kind_a-later sa m n k frame h.1)
@@ -459,8 +444,7 @@ ArrivesAt Originator so sa x y arrived = OnArrived (SentA sa (rank x.phase) (ran
 ArrivesAt Answerer so sa x y arrived = OnArrived (SentO so (rank y.phase)) arrived
 
 pub nothing-arrives : (role : Role) (so sa : Setup) (x y : Account) → ArrivesAt role so sa x y arrivals.Nothing
-nothing-arrives Originator so sa x y = tt
-nothing-arrives Answerer so sa x y = tt
+nothing-arrives q0 so sa x y = grind (arith)
 
 on-arrives : (P : Frame → Type 0) (s : Sent) → OnSent P s → OnArrived P (arrives s)
 on-arrives P slots.Mark h = tt
@@ -471,13 +455,11 @@ on-arrives P (slots.Frame frame) h = h
 
 pub first-arrives : (role : Role) (so sa : Setup) (x : Account) (slot : Slot) (left : List Slot) (y : Account) (ly : List Slot)
     → KnowsAt role so sa x (slot ∷ left) y ly → ArrivesAt (other role) so sa y x (arrives slot.sent)
-first-arrives Originator so sa x slot left y ly h = on-arrives (SentO so (rank x.phase)) slot.sent h.line_o.0
-first-arrives Answerer so sa x slot left y ly h = on-arrives (SentA sa (rank y.phase) (rank x.phase)) slot.sent h.line_a.0
+first-arrives q0 so sa x slot left y ly h = grind (arith)
 
 pub knows-less : (role : Role) (so sa : Setup) (x : Account) (slot : Slot) (left : List Slot) (y : Account) (ly : List Slot)
     → KnowsAt role so sa x (slot ∷ left) y ly → KnowsAt role so sa x left y ly
-knows-less Originator so sa x slot left y ly h = record { orig = h.orig; answ = h.answ; line_o = h.line_o.1; line_a = h.line_a }
-knows-less Answerer so sa x slot left y ly h = record { orig = h.orig; answ = h.answ; line_o = h.line_o; line_a = h.line_a.1 }
+knows-less q0 so sa x slot left y ly h = grind (arith)
 
 pub knows-heard : (role : Role) (so sa : Setup) → Reads so sa → (x b : Account) (lx : List Slot) (y : Account) (ly : List Slot) (turn : ℕ)
     (arrived : Arrived) → ArrivesAt role so sa x y arrived → hear turn arrived x ≡ Ok b → KnowsAt role so sa x lx y ly
@@ -520,18 +502,14 @@ farther f g (inr (c, r)) =
     record { later = omega (arith, old, new); from = λ n few h. omega (arith, old, few); two = λ not z. omega (arith, new, z) }
 
 left-due : (x y : Option Answer) → (y ≡ x) ⊎ (y ≡ None) → y ≡ Some answers.Xid → x ≡ Some answers.Xid
-left-due x y (inl e) z = sym e ∙ z
-left-due x y (inr e) z = absurd (none-some answers.Xid (sym e ∙ z))
+left-due x y q2 z = grind (arith)
 
 own-o : (so sa : Setup) (m s : ℕ) (f : Face) → KnowsO so sa m f → rank f.phase ≤ s → (frame : Frame) → OwnFrame f frame → SentO so s frame
 own-o so sa m s f h l frame own =
     (λ e. let three : rank f.phase ≡ 3 = ap rank (own.0 e) in omega (arith, three, l), kind frame own.1)
   where
     kind : (frame : Frame) → OwnKind f frame → KindO so s frame
-    kind (Xid true pf info) k = (refl, k.0 ∙ ap (λ (v : Setup). written v.offer) h.setup_is)
-    kind (Xid false pf info) k = absurd (h.due k.1)
-    kind (Sabme pf) k = let two : rank f.phase ≡ 2 = ap rank k in omega (arith, two, l)
-    kind frame k = tt
+    kind frame k = grind (arith)
 
 own-a : (so sa : Setup) → Reads so sa → (r : ℕ) (f : Face) → KnowsA so sa r f → (frame : Frame) → OwnFrame f frame
     → SentA sa r (rank f.phase) frame
@@ -539,9 +517,7 @@ own-a so sa reads r f h frame own =
     (λ e. let three : rank f.phase ≡ 3 = ap rank (own.0 e) in h.linked (omega (arith, three)), kind frame own.1)
   where
     kind : (frame : Frame) → OwnKind f frame → KindA sa (rank f.phase) frame
-    kind (Xid true pf info) k = absurd (answers-not (ap (λ (v : Setup). v.role) h.setup_is ∙ reads.answers) k.1)
-    kind (Xid false pf info) k = (refl, k.0 ∙ ap (λ (v : Setup). written v.offer) h.setup_is, h.due k.1)
-    kind frame k = tt
+    kind frame k = grind (arith)
 
 pub knows-spoken : (role : Role) (so sa : Setup) → Reads so sa → (x : Account) (lx : List Slot) (y : Account) (ly : List Slot) (turn : ℕ)
     (release : Bool) (said : Said) (slot : Slot) → slot.sent ≡ said.sent → speak turn release x ≡ Ok said → KnowsAt role so sa x lx y ly
@@ -607,18 +583,13 @@ check-sent role so sa x lx y ly turn release said e h =
     (λ frame own n. check-by so sa said.account (s.left.terms ∙ terms role h (ap rank (own.0 n)))) said.sent s.own
   where
     terms : (role : Role) → KnowsAt role so sa x lx y ly → rank x.phase ≡ 3 → x.terms ≡ terms_of so sa
-    terms Originator h three = h.orig.terms_are (omega (arith, three))
-    terms Answerer h three = h.answ.terms_are (omega (arith, three))
+    terms q0 h three = grind (arith)
 
 -- and its hearer has it
 pub check-heard : (role : Role) (so sa : Setup) (x : Account) (slot : Slot) (left : List Slot) (y : Account) (ly : List Slot)
     → KnowsAt role so sa x (slot ∷ left) y ly → OnSent (λ frame. has_number frame ≡ true → check_of y ≡ agreed_check so sa) slot.sent
-check-heard Originator so sa x slot left y ly h =
-    sent-weaker (SentO so (rank x.phase)) (λ frame. has_number frame ≡ true → check_of y ≡ agreed_check so sa)
-    (λ frame k n. check-by so sa y (h.answ.terms_are (h.orig.met (k.0 n)))) slot.sent h.line_o.0
-check-heard Answerer so sa x slot left y ly h =
-    sent-weaker (SentA sa (rank y.phase) (rank x.phase)) (λ frame. has_number frame ≡ true → check_of y ≡ agreed_check so sa)
-    (λ frame k n. check-by so sa y (h.orig.terms_are (k.0 n))) slot.sent h.line_a.0
+check-heard Originator so sa x slot left y ly h = grind (arith, check-by)
+check-heard Answerer so sa x slot left y ly h = grind (arith, check-by)
 
 -- two ends before their first turns
 pub knows-first : (so sa : Setup) → Knows so sa (face (fresh so)) (face (fresh sa)) [] []

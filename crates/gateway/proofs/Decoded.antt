@@ -11,9 +11,8 @@ use Rattle.exact_decoder.specs.Decoder.{Decoding, DecoderStands, heard}
 use Rattle.exact_decoder.specs.Surviving.Trellises.{Trellis, trellis_of}
 use Rattle.exact_decoder.specs.Surviving.Survivors.{IsReleased, IsLost, LostIs}
 use Rattle.exact_decoder.proofs.Surviving.Fronts.{over-before, over-more}
-use Rattle.exact_decoder.proofs.Pushed.{none-some, stands-stays}
+use Rattle.exact_decoder.proofs.Pushed.{none-some}
 use Rattle.line_coding.specs.Reading.{Reading, SamplesRead}
-use Rattle.line_coding.specs.MiddleReading.{Middle, MiddleRead}
 use Rattle.gateway.specs.declared.any_reader.AnyReader.{AnyReader}
 use Rattle.gateway.specs.declared.any_reader.AnyReader.TheVariants as readers
 use Rattle.gateway.specs.declared.any_reader.LineKind.{LineKind}
@@ -112,8 +111,7 @@ stands-shorter table points depth starts more d samples taken symbol e within h 
     was = subst (LostIs c depth (samples ++ more)) e h.lost
 
     same : heard d.lost (samples ++ more) ≡ heard d.lost samples
-    same = ap (λ o. heard o (samples ++ more)) e ∙ take-append-le (symbol + 1) samples more (omega (arith, within))
-        ∙ sym (ap (λ o. heard o samples) e)
+    same = grind (arith, take-append-le)
 
 samples-shorter : {D : Type 0} (table : ℕ → ℕ → Option ℕ) (points : ℕ → Sample) (reads : D → List ℕ → List Bool → Type 0)
     (starts : ℕ → Bool) (depth : ℕ) (r : Reading D) (samples more : List Sample) (bits : List Bool) (symbol : ℕ)
@@ -144,20 +142,6 @@ reads-shorter lines.Quarters mode (readers.Begun r) samples more bits symbol e w
 reads-shorter lines.Quarters mode (readers.Middle r) samples more bits symbol e within h = h
 reads-shorter lines.Quarters mode (readers.Quarters r) samples more bits symbol e within h =
     samples-shorter _ _ _ _ _ r samples more bits symbol e within h
-
--- a reader of a line's middle that lost it stands for whatever follows too
-pub middle-stays : (mode : Mode) (depth : ℕ) (m : Middle) (samples more : List Sample) (bits : List Bool) (symbol : ℕ)
-    → m.reading.decoder.lost ≡ Some symbol → MiddleRead mode depth m samples bits → MiddleRead mode depth m (samples ++ more) bits
-middle-stays mode depth m samples more bits symbol e h = record {
-  all = h.all;
-  read = record {
-    labels = h.read.labels;
-    decoder = stands-stays _ _ depth _ more m.reading.decoder samples h.read.labels symbol e h.read.decoder;
-    demodulator = h.read.demodulator;
-  };
-  bits_are = h.bits_are;
-  counted = h.counted;
-}
 
 -- a decoder that read the first of some samples and didn't lose the line
 pub decoded-on : (line : LineKind) (mode : Mode) (old new : SampleDecoder) (past more : List Sample) (bits : List Bool) (read : ℕ)

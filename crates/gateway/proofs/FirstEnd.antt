@@ -39,8 +39,7 @@ only-end (Some f) added tail place found some same places whole =
     let e : place + 1 ≡ f.place = omega (arith, here.0, here.1) in e ∙ ap (λ g. g.place) is_found
 
 not-listed : (at : Option Found) → is_some (option_map (λ f. f.piece) at) ≡ false → listed at ≡ []
-not-listed None none = refl
-not-listed (Some f) none = absurd (true≢false none)
+not-listed q0 none = grind (arith)
 
 -- a piece ends with the bit at this place, and none before it: it is the one piece that all bits have
 pub first-ends : (octets : List ℕ) (place count : ℕ) (found : Found) → place < count → pieces_of (given place octets) ≡ []
@@ -71,11 +70,7 @@ pub none-ends : (octets : List ℕ) (place next : ℕ) → next ≡ suc place �
     → is_some (answer_of (given place octets ++ nat_eq (get_or octets place 0) 1 ∷ [])) ≡ false
     → ((bits : List Bool) (bit : Bool) → pieces_of (bits ++ bit ∷ []) ≡ pieces_of bits ++ listed (found_at (bits ++ bit ∷ [])))
     → pieces_of (given next octets) ≡ []
-none-ends octets place next e quiet none grow =
-    let bits : List Bool = given place octets in
-    let bit : Bool = nat_eq (get_or octets place 0) 1 in
-    ap (λ k. pieces_of (given k octets)) e ∙ grow bits bit ∙ ap (λ fs. fs ++ listed (found_at (bits ++ bit ∷ []))) quiet
-    ∙ not-listed (found_at (bits ++ bit ∷ [])) none
+none-ends octets place next e quiet none grow = grind (arith, not-listed)
 
 -- a frame alone in a slot is the one piece of its bits
 pub frame-alone : (size : ℕ) (octets : List ℕ) → IsFrame octets → length (opening 0 (Some octets)) ≤ size
@@ -99,8 +94,7 @@ given-take k n le octets =
 pub slot-alone : (symbols w phase : ℕ) (octets out bits : List ℕ) → w ≡ symbols → phase ≡ 0 → length out ≡ w
     → line_bits out ≡ slot_bits (4 * w) phase (Flags (Some octets)) → given (4 * length out) bits ≡ line_bits out
     → given (4 * symbols) bits ≡ slot_bits (4 * symbols) 0 (Flags (Some octets))
-slot-alone symbols w phase octets out bits e none count line put =
-    ap (λ n. given (4 * n) bits) (sym (count ∙ e)) ∙ put ∙ line ∙ (λ i. slot_bits (4 * e i) (none i) (Flags (Some octets)))
+slot-alone symbols w phase octets out bits e none count line put = grind (arith)
 
 -- they are the frame's where the place is that at which its piece ends
 pub opens : (size count : ℕ) (octets bits : List ℕ) → size ≡ 10460 → IsFrame octets → length (opening 0 (Some octets)) ≤ size

@@ -5,9 +5,7 @@ use Rattle.gateway.specs.Given.{heard}
 
 pub length-heard : (k : ℕ) (octets : List ℕ) → length (heard k octets) ≡ k
 length-heard zero octets = refl
-length-heard (suc k) octets =
-    let h = length-heard k octets in
-    length-append (heard k octets) (nat_eq (get_or octets k 0 % 2) 1 ∷ []) ∙ omega (arith, h)
+length-heard (suc k) octets = grind (arith, length-append, length-heard k octets)
 
 -- one bit more
 pub heard-more : (past : List Bool) (octets : List ℕ) (k k' : ℕ) → k' ≡ suc k

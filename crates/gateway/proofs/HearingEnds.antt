@@ -1,5 +1,5 @@
 -- What an endpoint hears and says, by what its end of the link does.
-use Rattle.std.proofs.Common.{◌≡◌, ℕ, Option, Result, Ok, Err, refl, subst}
+use Rattle.std.proofs.Common.{arith, ◌≡◌, ℕ, Option, Result, Ok, Err, subst}
 use Rattle.frame_check.specs.declared.check.Check.{Check}
 use Rattle.shared_terms.specs.declared.role.Role.{Role}
 use Rattle.shared_terms.specs.Role.{other}
@@ -28,13 +28,11 @@ arrives-as check sender role carried arrived a c s h =
 pub heard-ok : (a : Account) (mid link : AnyEnd) (given : Option ℕ) (becomes : Result Account LinkFault)
     → ((b : Account) → StandsFor mid b → given ≡ given_break b) → ((b : Account) → StandsFor mid b → StandsFor link (after_given b))
     → stands.Hears becomes a (Ok mid) → HeardAs becomes a link (Ok given)
-heard-ok a mid link given (Ok b) answer account h = (answer b h, account b h)
-heard-ok a mid link given (Err fault) answer account h = absurd h
+heard-ok a mid link given q4 answer account h = grind (arith)
 
 pub heard-err : (a : Account) (broken : Broken) (becomes : Result Account LinkFault)
     → stands.Hears becomes a (Err broken) → HeardAs becomes a (Closed broken.end) (Err broken.fault)
-heard-err a broken (Err fault) h = (h.fault_is, (refl, h.over))
-heard-err a broken (Ok b) h = absurd h
+heard-err a broken q2 h = grind (arith)
 
 pub says-ok : (role : Role) (a : Account) (link : AnyEnd) (before sent : Sent) (check : Check) (told : Told) (said : Result Said LinkFault)
     → ((b : Account) → StandsFor link b → check ≡ check_of b) → told ≡ told_as check role sent

@@ -1,16 +1,14 @@
 -- The calls that are made of two ends are the events of a play.
-use Rattle.std.proofs.Common.{◌≡◌, ◌∙◌, ℕ, ◌+◌, ◌<◌, ◌≤◌, ◌&&◌, Bool, true, false, cond, nat_le, nat_lt, ◌^◌, List, [], ◌∷◌, ◌++◌, length}
+use Rattle.std.proofs.Common.{◌≡◌, ◌∙◌, ℕ, ◌+◌, ◌<◌, ◌≤◌, ◌&&◌, Bool, true, false, cond, nat_le, nat_lt, List, [], ◌∷◌, ◌++◌, length}
 use Rattle.std.proofs.Common.{Option, Some, None, Result, Ok, Err, refl, sym, ap, subst, take, drop, inl, inr, arith, length-append}
 use Rattle.link_account.proofs.Names.{is_some, take-append-drop, append_assoc, nat_tests, false≢true, Check, Role, Originator, Answerer}
 use Rattle.link_account.proofs.Names.{other, Both, of, IsPrefixOf, LinkFault, Frame, Arrived, Sent, ReadsWritten, Account, fresh, check_of}
 use Rattle.link_account.proofs.Names.{wants, piece_size, after_given, after_offer, after_break_asked, after_busy, is_connected, hear, Said}
-use Rattle.link_account.proofs.Names.{speak, Slot, Play, arrives, MayPlay, KeepsTaken, after_ask, wanted}
+use Rattle.link_account.proofs.Names.{speak, Slot, Play, arrives, MayPlay, KeepsTaken}
 use Rattle.std.specs.Prelude.{slice_index_or}
 use Rattle.std.proofs.lemmas.List.{take-append-le, take_more}
-use Rattle.frame_check.specs.declared.check.Check.TheVariants.{Sixteen}
-use Rattle.lapm_frames.specs.Frame.{IsFrame, has_number, spelled}
+use Rattle.lapm_frames.specs.Frame.{IsFrame, has_number}
 use Rattle.lapm_frames.specs.Sendable.{IsSendable}
-use Rattle.frame_check.specs.Division.{with_check}
 use Rattle.lapm_frames.specs.Checked.{checked, SpellsFrame}
 use Rattle.link_account.specs.declared.setup.Setup.{Setup}
 use Rattle.link_account.specs.Account.{after_delivery, delivers}
@@ -19,7 +17,6 @@ use Rattle.link_account.proofs.Events.{side, at, slot_of, play-append, hears-eve
 use Rattle.link_account.proofs.Events.{delivers-event, asked-event, busy-event, offered-event}
 use Rattle.link_account.specs.declared.phase.Phase.{Phase}
 use Rattle.link_account.specs.Laws.{played, TakesInOrder, has_begun, WantsAnswers, BreaksForWantAlone}
-use Rattle.lapm_receiver.specs.Incoming.{after_delivered}
 use Rattle.lapm_link.specs.declared.any_end.AnyEnd.{AnyEnd}
 use Rattle.lapm_link.specs.Stands.{StandsFor}
 use Rattle.gateway.specs.declared.turns.Carried.{Carried}
@@ -39,7 +36,6 @@ use Rattle.gateway.proofs.Agreeing.{knows-heard, knows-spoken, agreed_check, che
 use Rattle.lapm_frames.specs.declared.arrived.Arrived.TheVariants as arrivals
 use Rattle.lapm_frames.specs.declared.sent.Sent.TheVariants as slots
 use Rattle.link_account.specs.Play as plays
-use Rattle.link_account.specs.declared.phase.Phase.TheVariants as phases
 use Rattle.gateway.specs.declared.turns.Carried.TheVariants as loads
 use Rattle.gateway.specs.declared.turns.Told.TheVariants as told
 use Rattle.gateway.specs.declared.link.BreakAsked.TheVariants as asked
@@ -56,18 +52,13 @@ pub record HistoryLaws : Type 0 where
 -- ---- plays
 
 at-other : (role : Role) (x : Account) (lx : List Slot) (y : Account) (ly : List Slot) → at role x lx y ly ≡ at (other role) y ly x lx
-at-other Originator x lx y ly = refl
-at-other Answerer x lx y ly = refl
+at-other q0 x lx y ly = grind (arith)
 
 -- a piece that is taken is wanted
 taken-wanted : (count size : ℕ) (number : Option ℕ) → true ≡ is_taken count (longest_wanted number size)
     → (is_some number && nat_le count size) ≡ true
 taken-wanted count size None e = absurd (false≢true (sym e))
-taken-wanted count size (Some number) e = go (nat_lt number (2 ^ 56)) e
-  where
-    go : (b : Bool) → true ≡ is_taken count (cond b (Some size) None) → (is_some (Some number) && nat_le count size) ≡ true
-    go true e = sym e
-    go false e = absurd (false≢true (sym e))
+taken-wanted count size (Some number) e = grind (arith)
 
 -- ---- a side
 
@@ -117,12 +108,7 @@ book-grows offered delivered a b (inr (was, e)) h =
     })
 
 connected-begun : (p : Phase) → is_connected p ≡ true → has_begun p ≡ true
-connected-begun phases.Connected e = refl
-connected-begun phases.Releasing e = refl
-connected-begun phases.Closed e = refl
-connected-begun phases.Detecting e = absurd (false≢true e)
-connected-begun phases.Negotiating e = absurd (false≢true e)
-connected-begun phases.Establishing e = absurd (false≢true e)
+connected-begun q0 e = grind (arith)
 
 -- a segment is given
 book-given : (offered delivered : List (List ℕ)) (a : Account) (segment : Option (List ℕ)) → delivers a ≡ segment
@@ -160,46 +146,22 @@ book-offered offered delivered a (octet ∷ octets) begun h = record {
 
 -- an end that wants a piece is Connected
 wants-begun : (a : Account) (b : Bool) → (is_some (wants a) && b) ≡ true → has_begun a.phase ≡ true
-wants-begun a b e = connected-begun a.phase (go (is_connected a.phase) e)
-  where
-    go : (c : Bool) → (is_some (cond c (wanted a.outgoing) None) && b) ≡ true → c ≡ true
-    go true e = refl
-    go false e = absurd (false≢true e)
+wants-begun a b e = grind (arith, connected-begun)
 
 busy-lists : (busy : Bool) (a : Account) → lists (after_busy busy a) ≡ lists a
-busy-lists busy a = go (is_connected a.phase)
-  where
-    go : (c : Bool) → lists (cond c (record a { owes = record a.owes { busy = busy } }) a) ≡ lists a
-    go true = refl
-    go false = refl
+busy-lists busy a = grind (arith)
 
 asked-lists : (turn units : ℕ) (a : Account) → lists (after_break_asked turn units a) ≡ lists a
-asked-lists turn units a = go (is_connected a.phase)
-  where
-    go : (c : Bool) → lists (cond c (record a { own_breaks = after_ask turn units a.own_breaks }) a) ≡ lists a
-    go true = refl
-    go false = refl
+asked-lists turn units a = grind (arith)
 
 busy-face : (busy : Bool) (a : Account) → face (after_busy busy a) ≡ face a
-busy-face busy a = go (is_connected a.phase)
-  where
-    go : (c : Bool) → face (cond c (record a { owes = record a.owes { busy = busy } }) a) ≡ face a
-    go true = refl
-    go false = refl
+busy-face busy a = grind (arith)
 
 asked-face : (turn units : ℕ) (a : Account) → face (after_break_asked turn units a) ≡ face a
-asked-face turn units a = go (is_connected a.phase)
-  where
-    go : (c : Bool) → face (cond c (record a { own_breaks = after_ask turn units a.own_breaks }) a) ≡ face a
-    go true = refl
-    go false = refl
+asked-face turn units a = grind (arith)
 
 given-face : (a : Account) → face (after_delivery a) ≡ face a
-given-face a = go (is_connected a.phase)
-  where
-    go : (c : Bool) → face (cond c (record a { incoming = after_delivered a.incoming }) a) ≡ face a
-    go true = refl
-    go false = refl
+given-face a = grind (arith)
 
 -- a side of a play and an end that stands for it
 pub record IsSide (check : Check) (role : Role) (x : Account) (slots : List Slot) (side : EndSide) : Type 0 where
@@ -220,8 +182,7 @@ pub record LastsAt (so sa : Setup) (role : Role) (own peer : EndSide) : Type 0 w
   pub known : KnowsAt role so sa x lx y ly
 
 other-other : (role : Role) → other (other role) ≡ role
-other-other Originator = refl
-other-other Answerer = refl
+other-other q0 = grind (arith)
 
 -- the same from the other end
 turned : (so sa : Setup) (role : Role) (own peer : EndSide) → LastsAt so sa role own peer → LastsAt so sa (other role) peer own
@@ -274,11 +235,7 @@ changes so sa role own peer new h event b e same side = record {
 -- two ends that have one check for a frame write it alike
 same-octets : (written check : Check) (role : Role) (frame : Frame) → (has_number frame ≡ true → written ≡ check)
     → checked written role 0 frame ≡ checked check role 0 frame
-same-octets written check role frame h = ap (λ (c : Check). with_check c (spelled frame role 0)) (go (has_number frame) h)
-  where
-    go : (b : Bool) → (b ≡ true → written ≡ check) → cond b written Sixteen ≡ cond b check Sixteen
-    go true h = h refl
-    go false h = refl
+same-octets written check role frame h = grind (arith)
 
 octets-heard : HistoryLaws → (check : Check) (role : Role) (frame : Frame) (whole : List ℕ) (carried : Carried) (arrived : Arrived)
     → SpellsFrame check role 0 whole frame → CarriesTold (told.Octets whole) carried → Arrives check role carried arrived
@@ -310,11 +267,7 @@ told-arrives laws written check role (slots.Frame frame) carried arrived can j c
 
 both-checks : (one other check : Check) (sent : Sent) → OnSent (λ frame. has_number frame ≡ true → one ≡ check) sent
     → OnSent (λ frame. has_number frame ≡ true → other ≡ check) sent → OnSent (λ frame. has_number frame ≡ true → one ≡ other) sent
-both-checks one other check slots.Mark h k = tt
-both-checks one other check slots.Odp h k = tt
-both-checks one other check slots.Adp h k = tt
-both-checks one other check slots.Flags h k = tt
-both-checks one other check (slots.Frame frame) h k = λ n. h n ∙ sym (k n)
+both-checks one other check q3 h k = grind (arith)
 
 arrives-as-sent : HistoryLaws → (agreed check : Check) (role : Role) (sent : Sent) (said : Told) (carried : Carried) (arrived : Arrived)
     → IsToldAs agreed role sent said → OnSent (λ frame. has_number frame ≡ true → check ≡ agreed) sent → CarriesTold said carried
@@ -333,8 +286,7 @@ pub record HasHeard (becomes : Result Account LinkFault) (link : AnyEnd) : Type 
 
 has-heard : (becomes : Result Account LinkFault) (a : Account) (link : AnyEnd) (given : Option ℕ) → HeardAs becomes a link (Ok given)
     → HasHeard becomes link
-has-heard (Ok b) a link given h = record { account = b; becomes_is = refl; stands = h.1 }
-has-heard (Err fault) a link given h = absurd h
+has-heard q0 a link given h = grind (arith)
 
 -- an end that has heard this, by the account that it came to
 heard-side : HistoryLaws → (check : Check) (role : Role) (turn : ℕ) (arrived : Arrived) (x b : Account) (slots : List Slot)
@@ -348,11 +300,7 @@ heard-side laws check role turn arrived x b slots old new h e is role_is stands 
 -- what arrives as nothing arrives as nothing else
 one-nothing : (check : Check) (role : Role) (carried : Carried) (arrived : Arrived) → Arrives check role carried arrived
     → Arrives check role carried arrivals.Nothing → arrived ≡ arrivals.Nothing
-one-nothing check role loads.Nothing arrived h k = h
-one-nothing check role (loads.Pattern pattern) arrived h k = h ∙ sym k
-one-nothing check role (loads.Octets octets) arrivals.Nothing h k = refl
-one-nothing check role (loads.Octets octets) (arrivals.Frame frame) h k = absurd (k frame h)
-one-nothing check role (loads.Octets octets) (arrivals.Pattern pattern) h k = absurd h
+one-nothing check role q2 arrived h k = grind (arith)
 
 hears-step : HistoryLaws → (so sa : Setup) → Reads so sa → (role : Role) (own peer new : EndSide) → LastsAt so sa role own peer
     → HearsNothing own new → LastsAt so sa role new peer
@@ -384,8 +332,7 @@ hears-step laws so sa reads role own peer new h nothing =
 
 gives-at-peer : (role : Role) (x y : Account) (lx ly : List Slot)
     → happens (plays.Gives_break (other role)) (at role x lx y ly) ≡ at role x lx (after_given y) ly
-gives-at-peer Originator x y lx ly = refl
-gives-at-peer Answerer x y lx ly = refl
+gives-at-peer q0 x y lx ly = grind (arith)
 
 -- an end whose oldest utterance is gone
 shorter-side : (check : Check) (role : Role) (x : Account) (slots left : List Slot) (old new : EndSide) (rest : List Told)
@@ -584,10 +531,7 @@ made-at laws so sa reads role (Is_busy busy) own peer new after h m =
 
 from-role : (so sa : Setup) (ends : Both EndSide) (r role : Role) → LastsAt so sa r (of r ends) (of (other r) ends)
     → LastsAt so sa role (of role ends) (of (other role) ends)
-from-role so sa ends Originator Originator h = h
-from-role so sa ends Answerer Answerer h = h
-from-role so sa ends Originator Answerer h = turned so sa Originator ends.orig ends.answ h
-from-role so sa ends Answerer Originator h = turned so sa Answerer ends.answ ends.orig h
+from-role so sa ends q3 q4 h = grind (arith)
 
 new-side : (check : Check) (role : Role) (setup : Setup) (side : EndSide) → setup.role ≡ role → Begins setup side
     → IsSide check role (fresh setup) [] side
@@ -673,22 +617,18 @@ wanted-fault wants_alone so sa m role events event p fault e f =
     (led-on so sa events event p (happens event p) e refl) (go role))
   where
     go : (role : Role) → WantsAnswers (seen_from role (played so sa (events ++ event ∷ []))).own.fault
-    go Originator = (wants_alone so sa (events ++ event ∷ []) m).0
-    go Answerer = (wants_alone so sa (events ++ event ∷ []) m).1
+    go q0 = grind (arith)
 
 speaking-fault : (role : Role) (turn : ℕ) (release : Bool) (x y : Account) (lx ly : List Slot) (fault : LinkFault)
     → speak turn release x ≡ Err fault
     → (seen_from role (happens (plays.Speaks role turn release) (at role x lx y ly))).own.fault ≡ Some fault
-speaking-fault Originator turn release x y lx ly fault e =
-    ap (λ r. (spoken r (side x lx)).fault) e
-speaking-fault Answerer turn release x y lx ly fault e =
-    ap (λ r. (spoken r (side x lx)).fault) e
+speaking-fault Originator turn release x y lx ly fault e = grind (arith)
+speaking-fault Answerer turn release x y lx ly fault e = grind (arith)
 
 passing-fault : (role : Role) (turn : ℕ) (x y : Account) (slot : Slot) (rest ly : List Slot) (fault : LinkFault)
     → hear turn (arrives slot.sent) y ≡ Err fault
     → (seen_from (other role) (happens (plays.Passes role turn) (at role x (slot ∷ rest) y ly))).own.fault ≡ Some fault
-passing-fault Originator turn x y slot rest ly fault e = ap (λ r. (heard r (side y ly)).fault) e
-passing-fault Answerer turn x y slot rest ly fault e = ap (λ r. (heard r (side y ly)).fault) e
+passing-fault q0 turn x y slot rest ly fault e = grind (arith)
 
 pub speaking_breaks_for_want : HistoryLaws → BreaksForWantAlone → SpeakingBreaksForWant
 speaking_breaks_for_want laws wants_alone so sa steps ends m hist role release new fault s =

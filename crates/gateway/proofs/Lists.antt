@@ -1,7 +1,7 @@
 -- What hearing and speaking make of the segments of an account: those offered, those taken, and how many are given.
-use Rattle.std.proofs.Common.{◌≡◌, ◌∙◌, ◌⊎◌, inl, inr, ℕ, Bool, true, false, cond, List, [], ◌∷◌, ◌++◌, refl, sym, ap, Ok}
+use Rattle.std.proofs.Common.{arith, ◌≡◌, ◌∙◌, ◌⊎◌, inl, inr, ℕ, Bool, true, false, List, [], ◌++◌, refl, sym, ap, Ok}
 use Rattle.link_account.proofs.Names.{append-nil, Arrived, Outgoing, Incoming, after_take, after_kind, kind_of, offset, KeepsTaken, Took}
-use Rattle.link_account.proofs.Names.{InOrder, Kept, Repeat, Gap, Account, hear, trying, Said, speak}
+use Rattle.link_account.proofs.Names.{Account, hear, trying, Said, speak}
 use Rattle.lapm_receiver.specs.Incoming.{after_asked}
 use Rattle.link_account.specs.declared.phase.Phase.{Phase}
 use Rattle.link_account.specs.declared.phase.Phase.TheVariants.{Detecting, Negotiating, Establishing, Connected, Releasing, Closed}
@@ -39,10 +39,7 @@ moved a p q e f = ap (λ (b : Bool). record (lists a) { begun = b }) (sym (ap ha
 -- ---- hearing
 
 kind-given : (kind : Took) (o : ℕ) (info : List ℕ) (i : Incoming) → (after_kind kind o info i).given ≡ i.given
-kind-given InOrder o info i = refl
-kind-given Kept o info i = refl
-kind-given Repeat o info i = refl
-kind-given Gap o info i = refl
+kind-given q0 o info i = grind (arith)
 
 module _ (keeps : KeepsTaken) (turn : ℕ) (a : Account) where
   abbrev Hears : Arrived → Account → Type 0
@@ -104,14 +101,7 @@ module _ (keeps : KeepsTaken) (turn : ℕ) (a : Account) where
 
 asked-in : (n : ℕ) (a : Account)
     → record (lists a) { taken = (after_asked n a.incoming).taken; given = (after_asked n a.incoming).given } ≡ lists a
-asked-in n a = go a.incoming.srej
-  where
-    go : (b : Bool) → record (lists a) {
-      taken = (cond b (record a.incoming { asked = a.incoming.asked ++ n ∷ [] }) (record a.incoming { rej = false })).taken;
-      given = (cond b (record a.incoming { asked = a.incoming.asked ++ n ∷ [] }) (record a.incoming { rej = false })).given;
-    } ≡ lists a
-    go true = refl
-    go false = refl
+asked-in n a = grind (arith)
 
 module _ (turn : ℕ) (a : Account) where
   abbrev Keeps : Said → Type 0

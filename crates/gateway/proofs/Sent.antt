@@ -7,7 +7,6 @@ use Rattle.std.proofs.lemmas.List.{take-append-drop, take-append-le, take_all}
 use Rattle.frame_check.specs.Bits.{low_bits}
 use Rattle.shared_terms.specs.Prefix.{IsPrefixOf}
 use Rattle.scramblers.specs.declared.mode.Mode.{Mode}
-use Rattle.scramblers.specs.declared.mode.Mode.TheVariants.{Call, Answer}
 use Rattle.scramblers.specs.Mode.{tap_of}
 use Rattle.scramblers.specs.Scrambles.{Descrambles}
 use Rattle.scramblers.proofs.Readings.{Descrambles_once, Descrambles_from_Scrambles, Scrambles_from_Descrambles, Scrambles-take}
@@ -18,8 +17,7 @@ use Rattle.line_coding.proofs.Readings.{first-stay}
 use Rattle.rate_4800.specs.Demodulates as quarter
 
 pub some-tap : (mode : Mode) → 1 ≤ tap_of mode
-some-tap Call = omega arith
-some-tap Answer = omega arith
+some-tap q0 = grind (arith)
 
 pub begins-more : {X : Type 0} (front back whole more : List X) → front ++ back ≡ whole → IsPrefixOf front (whole ++ more)
 begins-more front back whole more e = (back ++ more, sym (append_assoc front back more) ∙ ap (λ xs. xs ++ more) e)
@@ -64,8 +62,4 @@ quarters-carry-first tap labels front bits given low d g (back, e) =
 
 pub length-twos : (turns : List ℕ) → length (flat_map (low_bits 2) turns) ≡ 2 * length turns
 length-twos [] = refl
-length-twos (turn ∷ turns) =
-    let here : length (flat_map (low_bits 2) (turn ∷ turns)) ≡ suc (suc (length (flat_map (low_bits 2) turns))) = refl in
-    let below : length (flat_map (low_bits 2) turns) ≡ 2 * length turns = length-twos turns in
-    let count : length (turn ∷ turns) ≡ suc (length turns) = refl in
-    omega (arith, here, below, count)
+length-twos (turn ∷ turns) = grind (arith, length-twos turns)

@@ -6,7 +6,6 @@ use Rattle.std.proofs.lemmas.List.{take-append-drop, take-map, drop-map, drop-ta
 use Rattle.frame_check.specs.Bits.{low_bits}
 use Rattle.shared_terms.specs.Prefix.{IsPrefixOf}
 use Rattle.scramblers.specs.declared.mode.Mode.{Mode}
-use Rattle.scramblers.specs.declared.mode.Mode.TheVariants.{Call, Answer}
 use Rattle.scramblers.specs.Mode.{tap_of}
 use Rattle.scramblers.specs.Scrambles.{Descrambles}
 use Rattle.symbol_map.specs.declared.sample.Sample.{Sample}
@@ -39,8 +38,7 @@ use Rattle.gateway.proofs.Sent.{some-tap, take-front}
 use Rattle.gateway.proofs.SentBegun.{distances-cost, first-labels}
 
 low-tap : (mode : Mode) → tap_of mode ≤ 23
-low-tap Call = omega arith
-low-tap Answer = omega arith
+low-tap q0 = grind (arith)
 
 -- ---- turned labels
 

@@ -1,5 +1,5 @@
 -- What was sent at 4800 bit/s comes back.
-use Rattle.std.proofs.Common.{◌≡◌, ◌∙◌, ℕ, ◌+◌, ◌*◌, ◌<◌, Bool, List, [], ◌∷◌, ◌++◌, length, map, take, drop, get_or, Option, Some, None}
+use Rattle.std.proofs.Common.{◌≡◌, ◌∙◌, ℕ, ◌*◌, ◌<◌, Bool, List, [], ◌∷◌, ◌++◌, length, map, take, drop, get_or, Option, Some, None}
 use Rattle.std.proofs.Common.{refl, sym, ap, subst, arith, append-nil, append_assoc, length-append, All}
 use Rattle.std.specs.List.{range_with_len}
 use Rattle.std.proofs.lemmas.List.{take-append-drop, take-map, length-take-le}
@@ -67,16 +67,11 @@ read-all released read labels front samples few near r =
 -- the line is never lost, whatever was heard
 never-lost : AllAreReleased → (depth : ℕ) (samples : List Sample) (lost : Option ℕ) → LostIs quarters depth samples lost → lost ≡ None
 never-lost released depth samples None h = refl
-never-lost released depth samples (Some symbol) h =
-    let all : length h.over.front ≡ length (take (symbol + 1) samples) = released (take (symbol + 1) samples) h.over.front h.over.released
-    in
-    let long : length (take (symbol + 1) samples) ≡ symbol + 1 = length-take-le (symbol + 1) samples (omega (arith, h.within)) in
-    absurd (omega (arith, all, long, h.over.over))
+never-lost released depth samples (Some symbol) h = grind (arith, length-take-le)
 
 turns-small : (q places : List ℕ) → All (λ label. label < 4) (map (turned_at q) places)
 turns-small q [] = All-nil (λ label. label < 4)
-turns-small q (place ∷ places) = All-cons (λ label. label < 4) (turned_at q place) (map (turned_at q) places) (omega arith)
-    (turns-small q places)
+turns-small q (place ∷ places) = grind (arith, All-cons, turns-small q places)
 
 -- labels below 4 of which the first are below 4
 few-first : (front back : List ℕ) → All (λ label. label < 4) (front ++ back) → All (λ label. label < 4) front

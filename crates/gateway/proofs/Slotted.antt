@@ -1,5 +1,5 @@
 -- The bits of a slot, and the room that it needs.
-use Rattle.std.proofs.Common.{ℕ, zero, suc, ◌+◌, ◌-◌, ◌*◌, ◌/◌, ◌≡◌, ◌<◌, ◌≤◌, ◌∷◌, ◌++◌, Bool, List, [], Option, Some, None, nat_eq}
+use Rattle.std.proofs.Common.{ℕ, zero, suc, ◌+◌, ◌-◌, ◌*◌, ◌/◌, ◌≡◌, ◌<◌, ◌≤◌, ◌∷◌, ◌++◌, List, [], Option, Some, None}
 use Rattle.std.proofs.Common.{get_or, length, take, refl, ap, sym, subst, ◌∙◌, arith, length-append}
 use Rattle.std.proofs.lemmas.Grind.{flat_map-append}
 use Rattle.std.proofs.Math.Logic.{∥∥₁_map}
@@ -15,24 +15,20 @@ use Rattle.gateway.specs.Given.{given}
 
 pub length-given : (k : ℕ) (octets : List ℕ) → length (given k octets) ≡ k
 length-given zero octets = refl
-length-given (suc k) octets =
-    let h = length-given k octets in
-    length-append (given k octets) (nat_eq (get_or octets k 0) 1 ∷ []) ∙ omega (arith, h)
+length-given (suc k) octets = grind (arith, length-append, length-given k octets)
 
 -- a frame that a slot can carry leaves TAIL symbols behind it
 pub fits-room : (symbols phase : ℕ) (frame : Option (List ℕ)) → phase < 8 → 138 < symbols → CanCarry (4 * (symbols - 128)) (FlagSlot frame)
     → ((p : ℕ) → p < 8 → length (opening p None) ≤ 39)
     → ((p : ℕ) (octets : List ℕ) → p < 8 → length (opening p (Some octets)) ≤ 47 + 8 * length octets + 8 * length octets / 5)
     → length (opening phase frame) ≤ 4 * (symbols - 128)
-fits-room symbols phase None low many fits without with_frame = let h = without phase low in omega (arith, h, many)
-fits-room symbols phase (Some octets) low many fits without with_frame = let h = with_frame phase octets low in omega (arith, h, fits.1)
+fits-room symbols phase q2 low many fits without with_frame = grind (arith)
 
 -- a slot that can carry a frame, or none, is one of slots
 pub flags-slot : (symbols phase : ℕ) (frame : Option (List ℕ)) → CanCarry (4 * (symbols - 128)) (FlagSlot frame)
     → length (opening phase frame) ≤ 4 * (symbols - 128)
     → IsSlot (4 * symbols) phase (Flags frame)
-flags-slot symbols phase None fits room = omega (arith, room)
-flags-slot symbols phase (Some octets) fits room = (fits.0, omega (arith, room))
+flags-slot symbols phase q2 fits room = grind (arith)
 
 -- one quad more
 pub quad-more : (slot bits bits' : List ℕ) (place count : ℕ) → place < length slot → given (4 * place) bits ≡ line_bits (take place slot)
@@ -60,14 +56,7 @@ pub slot-more : (symbols w phase : ℕ) (signals : List Signal) (signal : Signal
     → ((size : ℕ) (slots : List Slot) (slot : Slot)
     → sent_bits size (slots ++ slot ∷ []) ≡ sent_bits size slots ++ slot_bits size (phase_after size slots) slot)
     → signal_bits (4 * symbols) (signals ++ signal ∷ []) ≡ signal_bits (4 * symbols) signals ++ given (4 * symbols) bits
-slot-more symbols w phase signals signal out bits e phase_is count line put grows =
-    let slots : List Slot = slots_of (4 * symbols) signals in
-    let whole : given (4 * symbols) bits ≡ slot_bits (4 * symbols) (phase_after (4 * symbols) slots) (slot_of (4 * symbols) signal) =
-    ap (λ n. given (4 * n) bits) (sym (count ∙ e)) ∙ put ∙ line ∙ (λ i. slot_bits (4 * w) (phase_is i) (slot_of (4 * w) signal))
-    ∙ (λ i. slot_bits (4 * e i) (phase_after (4 * e i) slots) (slot_of (4 * e i) signal)) in
-    ap (sent_bits (4 * symbols)) (map-append (slot_of (4 * symbols)) signals (signal ∷ []))
-    ∙ grows (4 * symbols) slots (slot_of (4 * symbols) signal)
-    ∙ ap (λ bs. sent_bits (4 * symbols) slots ++ bs) (sym whole)
+slot-more symbols w phase signals signal out bits e phase_is count line put grows = grind (arith, map-append)
 
 -- it stands behind the others
 pub stands-behind : (writer : Writer) (symbols w : ℕ) (signals : List Signal) (signal : Signal) → w ≡ symbols

@@ -48,9 +48,7 @@ ready-count ss o e = rw e (by (nat_lt (position_or_len is_empty ss) (length ss))
 before-first : (m n : ℕ) (ss : Row) → m < n → is_held m (held_from n ss) ≡ false
 before-first m n [] l = refl
 before-first m n (None ∷ ss) l = before-first m (n + 1) ss (omega arith)
-before-first m n (Some info ∷ ss) l =
-    let other : nat_eq n m ≡ false = grind (arith, nat_tests) in
-    rw other (before-first m (n + 1) ss (omega arith))
+before-first m n (Some info ∷ ss) l = grind (arith, nat_tests, before-first m (n + 1) ss (omega arith))
 
 run-later : (n m : ℕ) (ss : Row) → n < m → run_from n (held_from m ss) ≡ []
 run-later n m [] l = refl
@@ -72,9 +70,7 @@ run-ready n (Some info ∷ ss) = let same : nat_eq n n ≡ true = grind (arith, 
 pub rest-after : (n k : ℕ) (ss : Row) → k ≡ n + length (ready_of ss) → rest_from n (held_from n ss) ≡ held_after k ss
 rest-after n k [] e = refl
 rest-after n k (None ∷ ss) e = let same : k ≡ n = omega (arith, e) in rw same (rest-later n (n + 1) ss (omega arith))
-rest-after n k (Some info ∷ ss) e =
-    let same : nat_eq n n ≡ true = grind (arith, nat_tests) in
-    rw same (rest-after (n + 1) k ss (omega (arith, e)))
+rest-after n k (Some info ∷ ss) e = grind (arith, nat_tests, rest-after (n + 1) k ss (omega (arith, e)))
 
 -- whether a slot is full
 abbrev pub full : Option (Option (List ℕ)) → Bool
@@ -85,8 +81,7 @@ held-at m n k [] e = refl
 held-at m n zero (None ∷ ss) e = before-first m (n + 1) ss (omega arith)
 held-at m n zero (Some info ∷ ss) e = let same : nat_eq n m ≡ true = grind (arith, nat_tests) in rw same refl
 held-at m n (suc k) (None ∷ ss) e = held-at m (n + 1) k ss (omega arith)
-held-at m n (suc k) (Some info ∷ ss) e = let other : nat_eq n m ≡ false = grind (arith, nat_tests) in
-    rw other (held-at m (n + 1) k ss (omega arith))
+held-at m n (suc k) (Some info ∷ ss) e = grind (arith, nat_tests, held-at m (n + 1) k ss (omega arith))
 
 -- a slot is filled
 with-first : (m n : ℕ) (info : List ℕ) (ss : Row) → m < n
@@ -98,14 +93,10 @@ with-first m n info (Some other ∷ ss) l = let less : nat_lt m n ≡ true = gri
 pub held-set : (m n k : ℕ) (info : List ℕ) (ss : Row) → m ≡ n + k → k < length ss → full (slice_get ss k) ≡ false
     → held_from n (set ss k (Some info)) ≡ with_held (record { number = m; info = info }) (held_from n ss)
 held-set m n k info [] e l f = absurd (omega (arith, l))
-held-set m n zero info (None ∷ ss) e l f =
-    let same : m ≡ n = omega arith in
-    ap (λ x. (record { number = x; info = info }) ∷ held_from (n + 1) ss) (sym same) ∙ sym (with-first m (n + 1) info ss (omega arith))
+held-set m n zero info (None ∷ ss) e l f = grind (arith, with-first)
 held-set m n zero info (Some other ∷ ss) e l f = cc
 held-set m n (suc k) info (None ∷ ss) e l f = held-set m (n + 1) k info ss (omega arith) (omega (arith, l)) f
-held-set m n (suc k) info (Some other ∷ ss) e l f =
-    let less : nat_lt m n ≡ false = grind (arith, nat_tests) in
-    rw less (ap (λ hs. (record { number = n; info = other }) ∷ hs) (held-set m (n + 1) k info ss (omega arith) (omega (arith, l)) f))
+held-set m n (suc k) info (Some other ∷ ss) e l f = grind (arith, nat_tests, held-set m (n + 1) k)
 
 -- an empty slot goes behind the others
 pub ready-snoc : (ss : Row) → ready_of (ss ++ None ∷ []) ≡ ready_of ss
@@ -148,10 +139,7 @@ missing-full n info hs = let none : n - n ≡ 0 = omega arith in rw none refl
 
 pub find-missing : (low n : ℕ) (ss : Row) → find (λ m. nat_le low m) (missing_from n (held_from n ss)) ≡ missing_among low n ss
 find-missing low n [] = refl
-find-missing low n (Some info ∷ ss) =
-    let same : missing_from n ((record { number = n; info = info }) ∷ held_from (n + 1) ss) ≡ missing_from (n + 1) (held_from (n + 1) ss) =
-    missing-full n info (held_from (n + 1) ss) in
-    rw same (find-missing low (n + 1) ss)
+find-missing low n (Some info ∷ ss) = grind (arith, missing-full, find-missing low (n + 1) ss)
 find-missing low n (None ∷ ss) = by (any_held ss) refl (find-missing low (n + 1) ss)
   where
     by : (t : Bool) → any_held ss ≡ t
@@ -165,8 +153,7 @@ find-missing low n (None ∷ ss) = by (any_held ss) refl (find-missing low (n + 
       where
         within : (u : Bool) → cond u (Some n) (find (λ m. nat_le low m) (missing_from (n + 1) (held_from (n + 1) ss))) ≡ cond u (Some n)
             (missing_among low (n + 1) ss)
-        within true = refl
-        within false = rest
+        within q0 = grind (arith)
     by false e rest =
         let nothing : held_from (n + 1) ss ≡ [] = none-held (n + 1) ss e in
         let none : missing_among low (n + 1) ss ≡ None = none-missing low (n + 1) ss e in
@@ -178,9 +165,7 @@ seen room taken ss = record { room = room; taken = taken; ready = ready_of ss; h
 
 same-seen : (room taken : ℕ) (ss : Row) (ready : List (List ℕ)) (held : List Held) → ready_of ss ≡ ready → held_after taken ss ≡ held
     → seen room taken ss ≡ record { room = room; taken = taken; ready = ready; held = held }
-same-seen room taken ss ready held r h =
-    ap (λ rs. record { room = room; taken = taken; ready = rs; held = held_after taken ss }) r
-    ∙ ap (λ hs. record { room = room; taken = taken; ready = ready; held = hs }) h
+same-seen room taken ss ready held r h = grind (arith)
 
 -- The calls, of a view of slots. The next segment is taken.
 pub seen-take : (room taken : ℕ) (ss : Row) (info : List ℕ) (v : Arrived) → seen room taken ss ≡ v → v.ready ≡ [] → 0 < length ss
@@ -254,21 +239,11 @@ seen-keep room taken k ss info v e = subst (λ v. v.ready ≡ [] → 1 ≤ k →
 pub next-row : (room : ℕ) (info : List ℕ) (ss : Row) → length ss ≡ room → Some info ≡ info_at (slice_get ss 0)
     → drop (length (drop 1 ss ++ None ∷ []) - room) (drop 1 ss ++ None ∷ []) ≡ drop 1 ss ++ None ∷ []
 next-row room info [] l e = cc
-next-row room info (s ∷ rest) l e =
-    let none : length (rest ++ None ∷ []) - room ≡ 0 = omega (arith, l, length-append {A = Option (List ℕ)} rest (None ∷ [])) in
-    rw none refl
+next-row room info (s ∷ rest) l e = grind (arith, length-append)
 
 pub seen-deliver : (room taken : ℕ) (info : List ℕ) (ss : Row) (v : Arrived) → seen room taken ss ≡ v → Some info ≡ info_at (slice_get ss 0)
     → seen room taken (drop 1 ss ++ None ∷ []) ≡ record v { ready = drop 1 v.ready }
-seen-deliver room taken info ss v e first =
-    subst (λ v. seen room taken (drop 1 ss ++ None ∷ []) ≡ record v { ready = drop 1 v.ready }) e (core ss first)
-  where
-    core : (ss : Row) → Some info ≡ info_at (slice_get ss 0)
-        → seen room taken (drop 1 ss ++ None ∷ []) ≡ record (seen room taken ss) { ready = drop 1 (ready_of ss) }
-    core [] first = cc
-    core (None ∷ rest) first = cc
-    core (Some other ∷ rest) first =
-        same-seen room taken (rest ++ None ∷ []) (ready_of rest) (held_after taken rest) (ready-snoc rest) (held_after-snoc taken rest)
+seen-deliver room taken info ss v e first = grind (arith, same-seen, ready-snoc, held_after-snoc)
 
 pub ready-first : (room taken : ℕ) (info : List ℕ) (ss : Row) (v : Arrived) → seen room taken ss ≡ v → Some info ≡ info_at (slice_get ss 0)
     → v.ready ≡ info ∷ ready_of (drop 1 ss ++ None ∷ [])
@@ -291,8 +266,7 @@ none-ready room taken ss v e first = subst (λ v. v.ready ≡ []) e (core ss fir
 pub after-first : (taken : ℕ) (ss : Row) → held_after taken ss ≡ held_from taken (drop (position_or_len is_empty ss) ss)
 after-first taken [] = refl
 after-first taken (None ∷ ss) = refl
-after-first taken (Some info ∷ ss) = let one : 1 + position_or_len is_empty ss ≡ suc (position_or_len is_empty ss) = omega arith in
-    rw one (after-first taken ss)
+after-first taken (Some info ∷ ss) = grind (arith, after-first taken ss)
 
 -- a slot within is there
 pub slot-there : (ss : Row) (k : ℕ) → None ≡ slice_get ss k → k < length ss → ⊥
@@ -328,14 +302,12 @@ pub record Scans (low first start : ℕ) (ss : Row) (later : Bool) (missing : Op
 -- it goes on at the slot below
 scans-full : (low n : ℕ) (slot : Option (List ℕ)) (ss : Row) → is_some slot ≡ true
     → (true ≡ any_held (slot ∷ ss)) × (missing_among low (n + 1) ss ≡ missing_among low n (slot ∷ ss))
-scans-full low n None ss e = cc
-scans-full low n (Some info) ss e = (refl, refl)
+scans-full low n q2 ss e = grind (arith)
 
 scans-empty : (low n : ℕ) (slot : Option (List ℕ)) (ss : Row) → is_some slot ≡ false
     → (any_held ss ≡ any_held (slot ∷ ss))
     × (cond (any_held ss && nat_le low n) (Some n) (missing_among low (n + 1) ss) ≡ missing_among low n (slot ∷ ss))
-scans-empty low n None ss e = (refl, refl)
-scans-empty low n (Some info) ss e = cc
+scans-empty low n q2 ss e = grind (arith)
 
 row-next : (k place : ℕ) (ss : Row) → place ≡ suc k → k < length ss → drop k ss ≡ info_at (slice_get ss k) ∷ drop place ss
 row-next k place ss is l = subst (λ p. drop k ss ≡ info_at (slice_get ss k) ∷ drop p ss) (sym is) (row-at k ss l)
@@ -421,34 +393,12 @@ missing-within low n (None ∷ ss) = by (any_held ss && nat_le low n) (missing_a
 -- no number is found where all slots are full
 pub none-found : (low room taken : ℕ) (ss : Row) (v : Arrived) → seen room taken ss ≡ v → None ≡ position is_empty ss
     → None ≡ find (λ n. nat_le low n) (missing_from v.taken v.held)
-none-found low room taken ss v e none =
-    subst (λ v. None ≡ find (λ n. nat_le low n) (missing_from v.taken v.held)) e
-    (subst (λ hs. None ≡ find (λ n. nat_le low n) (missing_from taken hs)) (sym (after-first taken ss))
-    (by (nat_lt (position_or_len is_empty ss) (length ss)) refl none))
-  where
-    by : (t : Bool) → nat_lt (position_or_len is_empty ss) (length ss) ≡ t → None ≡ cond t (Some (position_or_len is_empty ss)) None
-        → None ≡ find (λ n. nat_le low n) (missing_from taken (held_from taken (drop (position_or_len is_empty ss) ss)))
-    by true t e = cc
-    by false t e =
-        let beyond : length ss ≤ position_or_len is_empty ss = grind (arith, nat_tests, t) in
-        let nothing : drop (position_or_len is_empty ss) ss ≡ [] = drop_of_length-le ss beyond in
-        rw nothing refl
+none-found low room taken ss v e none = grind (arith, after-first, nat_tests, drop_of_length-le)
 
 -- else it is found from the first empty slot on
 pub found-from : (low room taken start : ℕ) (ss : Row) (v : Arrived) → seen room taken ss ≡ v → Some start ≡ position is_empty ss
     → missing_among low taken (drop start ss) ≡ find (λ n. nat_le low n) (missing_from v.taken v.held)
-found-from low room taken start ss v e some =
-    subst (λ v. missing_among low taken (drop start ss) ≡ find (λ n. nat_le low n) (missing_from v.taken v.held)) e
-    (subst (λ hs. missing_among low taken (drop start ss) ≡ find (λ n. nat_le low n) (missing_from taken hs)) (sym (after-first taken ss))
-    (by (nat_lt (position_or_len is_empty ss) (length ss)) refl some))
-  where
-    by : (t : Bool) → nat_lt (position_or_len is_empty ss) (length ss) ≡ t → Some start ≡ cond t (Some (position_or_len is_empty ss)) None
-        → missing_among low taken (drop start ss) ≡ find (λ n. nat_le low n)
-        (missing_from taken (held_from taken (drop (position_or_len is_empty ss) ss)))
-    by true t e =
-        let same : start ≡ position_or_len is_empty ss = cc in
-        rw same (sym (find-missing low taken (drop (position_or_len is_empty ss) ss)))
-    by false t e = cc
+found-from low room taken start ss v e some = grind (arith, after-first, find-missing)
 
 -- what stands in a row rises
 rising-lower : (n m : ℕ) (hs : List Held) → n ≤ m → IsRising m hs → IsRising n hs

@@ -72,12 +72,10 @@ with-held n s (h ∷ hs) e = by (nat_lt s.number h.number) (inner (nat_eq h.numb
     inner false w e rest = rw w (rest e)
 
     first : (u : Bool) → u || (nat_eq h.number n || is_held n hs) ≡ true
-    first true = refl
-    first false = e
+    first q0 = grind (arith)
 
     by : (t : Bool) → nat_eq h.number n || is_held n (with_held s hs) ≡ true → is_held n (cond t (s ∷ h ∷ hs) (h ∷ with_held s hs)) ≡ true
-    by true rest = first (nat_eq s.number n)
-    by false rest = rest
+    by q0 rest = grind (arith)
 
 -- a segment is held
 pub stands-kept : (t : Taking) (i : Incoming) (ahead : ℕ) (info : List ℕ) → StandsIn t i
@@ -143,9 +141,7 @@ stands-delivered t i h = by (nat_lt i.given (length i.taken)) refl
 -- The missing numbers. None of them is held.
 below-held : (m n : ℕ) (hs : List Held) → IsRising n hs → m < n → is_held m hs ≡ false
 below-held m n [] r l = refl
-below-held m n (h ∷ hs) r l =
-    let other : nat_eq h.number m ≡ false = grind (arith, nat_tests, r.0, l) in
-    rw other (below-held m (h.number + 1) hs r.1 (omega (arith, r.0, l)))
+below-held m n (h ∷ hs) r l = grind (arith, nat_tests, below-held m (h.number + 1) hs r.1 (omega (arith, r.0, l)))
 
 -- numbers were asked for exactly where they lie below a limit
 abbrev Told : ℕ → List ℕ → ℕ → Type 0
@@ -154,11 +150,7 @@ Told low asked m = is_among m asked ≡ nat_lt m low
 -- one that wasn't is the first that doesn't lie below it
 told-first : (low m : ℕ) (asked : List ℕ) (o p : Option ℕ) → Told low asked m → o ≡ p
     → cond (is_among m asked) o (Some m) ≡ cond (nat_le low m) (Some m) p
-told-first low m asked o p told same = by (nat_lt m low) refl told
-  where
-    by : (u : Bool) → nat_lt m low ≡ u → is_among m asked ≡ u → cond (is_among m asked) o (Some m) ≡ cond (nat_le low m) (Some m) p
-    by true e told = let t : nat_le low m ≡ false = grind (arith, nat_tests, e) in rw (told, t) same
-    by false e told = let t : nat_le low m ≡ true = grind (arith, nat_tests, e) in rw (told, t) refl
+told-first low m asked o p told same = grind (arith, asked)
 
 outside-found : (low : ℕ) (asked : List ℕ) (r : ℕ) (hs : List Held) → IsRising r hs
     → ((m : ℕ) → r ≤ m → is_held m hs ≡ false → Told low asked m)
@@ -223,8 +215,7 @@ least-up low n h hs zero r e next f =
     }
   where
     at : (m : ℕ) (u : Bool) → nat_eq h.number m ≡ u → r ≤ m → m < n → low ≤ m → u || is_held m hs ≡ true
-    at m true w low_m less high = refl
-    at m false w low_m less high = (next f).held_before m (grind (arith, nat_tests, w, e, low_m)) less high
+    at m q1 w low_m less high = grind (arith)
 least-up low n h hs (suc k) r e next f = by (nat_le low r) refl f (least-up low n h hs k (r + 1) (omega (arith, e)) next)
   where
     by : (u : Bool) → nat_le low r ≡ u
@@ -254,11 +245,7 @@ found-least low r n (h ∷ hs) rising e =
 
 -- one more number was asked for
 among-snoc : (m n : ℕ) (xs : List ℕ) → is_among m (xs ++ n ∷ []) ≡ is_among m xs || nat_eq n m
-among-snoc m n [] = by (nat_eq n m)
-  where
-    by : (u : Bool) → u || false ≡ u
-    by true = refl
-    by false = refl
+among-snoc m n [] = grind (arith)
 among-snoc m n (x ∷ xs) = by (nat_eq x m) (among-snoc m n xs)
   where
     by : (u : Bool) → is_among m (xs ++ n ∷ []) ≡ is_among m xs || nat_eq n m
@@ -294,8 +281,7 @@ stands-asked t i found n h rising srej e a =
     below least m among = by (is_among m i.asked) refl among
       where
         by : (u : Bool) → is_among m i.asked ≡ u → u || nat_eq n m ≡ true → m < n + 1
-        by true w among = let less : m < t.asked_below = h.asked_are.lie_below m w in omega (arith, less, least.above)
-        by false w among = grind (arith, nat_tests, among)
+        by q0 w among = grind (arith)
 
     more : (m : ℕ) (u : Bool) → is_among m i.asked ≡ u → u ≡ true → is_among m (i.asked ++ n ∷ []) ≡ true
     more m u w t = rw (among-snoc m n i.asked, w, t) refl
@@ -309,8 +295,7 @@ stands-asked t i found n h rising srej e a =
         by true w v x = inr (rw (among-snoc m n i.asked, w) (last (is_among m i.asked)))
           where
             last : (b : Bool) → b || true ≡ true
-            last true = refl
-            last false = refl
+            last q0 = grind (arith)
         by false w true x =
             let under : m < t.asked_below = grind (arith, nat_tests, x) in
             elim (h.asked_are.were_asked m low under) [ inl held ↦ inl held | inr among ↦ inr (more m true among refl) ]

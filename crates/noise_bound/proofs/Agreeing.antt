@@ -171,11 +171,7 @@ agrees starts own_from samples labels q k most to own near enough apart s =
 pub released-all_but : (starts : ℕ → Bool) (samples : List Sample) (labels front : List ℕ) (most : ℕ)
     → ((to : ℕ) (q : List ℕ) → IsSurvivor (v32_code starts) samples q to → IsPrefixOf (take (length labels - most) labels) q)
     → IsReleased (v32_code starts) samples front → length labels ≤ length front + most
-released-all_but starts samples labels front most common r =
-    let p = r.longest (take (length labels - most) labels) common in
-    let whole : length front ≡ length (take (length labels - most) labels) + length p.0 =
-    ap length (sym p.1) ∙ length-append {A = ℕ} (take (length labels - most) labels) p.0 in
-    omega (arith, whole, length-take-le (length labels - most) labels (omega arith))
+released-all_but starts samples labels front most common r = grind (arith, length-append, length-take-le)
 
 -- and all that is released is among them
 pub released-begins : (starts : ℕ → Bool) (own_from : ℕ) (samples : List Sample) (labels front : List ℕ)

@@ -6,7 +6,7 @@ use Rattle.symbol_map.specs.Labels.{y0_of, y_of, IsInSubset}
 use Rattle.symbol_map.specs.Points.{point_of}
 use Rattle.symbol_map.proofs.MapFacts.{subsets_are_near}
 use Rattle.trellis_tables.specs.Sequences.{Leads, cost}
-use Rattle.trellis_tables.specs.Table.{next_by_y, next_state}
+use Rattle.trellis_tables.specs.Table.{next_state}
 use Rattle.trellis_tables.specs.V32Laws.{v32_reaches}
 use Rattle.trellis_tables.specs.Laws.{far_from}
 use Rattle.trellis_tables.proofs.Sequences.{Leads-append, Leads-split}
@@ -20,10 +20,7 @@ pub record Near (s label by to bound : ℕ) : Type 0 where
   pub near : far_from other (point_of label) ≤ 4194304 * bound
 
 in-subset : (s by to other : ℕ) → next_state s by ≡ Some to → IsInSubset (y0_of by) (y_of by) other → next_state s other ≡ Some to
-in-subset s by to other e h =
-    let b = branch_of s by to e in
-    next_state_from s other to
-    (record { in_states = b.in_states; in_labels = h.below; half = h.y0_is ∙ b.half; to_is = b.to_is ∙ ap (next_by_y s) (sym h.y_is) })
+in-subset s by to other e h = grind (arith, branch_of, next_state_from)
 
 y0_of-lt : (label : ℕ) → y0_of label < 2
 y0_of-lt label = omega arith

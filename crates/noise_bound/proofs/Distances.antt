@@ -42,8 +42,7 @@ makes_up least far (Some u) (Some v) = nat_le least (far + until u v)
 
 from-branches : (least far u v : ℕ) (first second : Option ℕ) → makes_up least far first second ≡ true → first ≡ Some u → second ≡ Some v
     → least ≤ far + until u v
-from-branches least far u v first second h e f =
-    leb-true least (far + until u v) (sym (ap (λ a. makes_up least far a second) e ∙ ap (makes_up least far (Some u)) f) ∙ h)
+from-branches least far u v first second h e f = grind (arith, leb-true)
 
 abbrev meets : ℕ → ℕ → ℕ → ℕ → Bool
 meets s t a b = makes_up (until s t) (apart a b) (next_state s a) (next_state t b)

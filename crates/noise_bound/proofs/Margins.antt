@@ -1,6 +1,6 @@
 -- What a margin has measured, and what follows where that is little.
-use Rattle.std.proofs.Common.{◌≡◌, ◌∙◌, ℕ, ◌+◌, List, [], ◌∷◌, ◌++◌, length, map, take, refl, sym, ap, subst, arith, length-append}
-use Rattle.std.proofs.lemmas.List.{take_all}
+use Rattle.std.proofs.Common.{◌≡◌, ◌∙◌, ℕ, ◌+◌, List, [], ◌∷◌, ◌++◌, length, map, take, refl, sym, ap, subst, arith}
+use Rattle.std.proofs.lemmas.List.{take_all, length_push}
 use Rattle.frame_check.specs.Bits.{bits_of}
 use Rattle.scramblers.specs.declared.mode.Mode.{Mode}
 use Rattle.symbol_map.specs.declared.sample.Sample.{Sample}
@@ -29,9 +29,6 @@ distances-snoc (p ∷ points) (s ∷ samples) point sample h =
     let same : length points ≡ length samples = omega arith in
     omega (arith, distances-snoc points samples point sample same)
 
-length-snoc : {X : Type 0} (xs : List X) (x : X) → length (xs ++ x ∷ []) ≡ length xs + 1
-length-snoc {X} xs x = omega (arith, length-append {A = X})
-
 -- one octet more, of two samples
 pub measures-more : (mode : Mode) (old : Measured) (modulator : Modulator) (octets : List ℕ) (octet : ℕ) (samples : List Sample)
     (first second low high : Sample) (price count : ℕ) → (s : MarginStands mode old octets samples)
@@ -41,12 +38,12 @@ pub measures-more : (mode : Mode) (old : Measured) (modulator : Modulator) (octe
     ((samples ++ first ∷ []) ++ second ∷ [])
 measures-more mode old modulator octets octet samples first second low high price count s m e n =
     let one : length (s.points ++ low ∷ []) ≡ length (samples ++ first ∷ []) =
-    omega (arith, s.same_length, length-snoc s.points low, length-snoc samples first) in
+    omega (arith, s.same_length, length_push s.points low, length_push samples first) in
     record {
       points = (s.points ++ low ∷ []) ++ high ∷ [];
       modulator = m;
-      two_each = omega (arith, s.two_each, length-snoc (samples ++ first ∷ []) second, length-snoc samples first, length-snoc octets octet);
-      same_length = omega (arith, one, length-snoc (s.points ++ low ∷ []) high, length-snoc (samples ++ first ∷ []) second);
+      two_each = omega (arith, s.two_each, length_push (samples ++ first ∷ []) second, length_push samples first, length_push octets octet);
+      same_length = omega (arith, one, length_push (s.points ++ low ∷ []) high, length_push (samples ++ first ∷ []) second);
       cost_is = omega (
         arith,
         e,
@@ -54,7 +51,7 @@ measures-more mode old modulator octets octet samples first second low high pric
         distances-snoc (s.points ++ low ∷ []) (samples ++ first ∷ []) high second one,
         distances-snoc s.points samples low first s.same_length,
       );
-      counted = omega (arith, n, s.counted, length-snoc octets octet);
+      counted = omega (arith, n, s.counted, length_push octets octet);
     }
 
 -- distances from points are what labels cost

@@ -45,11 +45,7 @@ behind-grows a b =
 -- at a place in both fronts
 at-place : (front labels : List ℕ) (i : ℕ) → IsPrefixOf front labels → i < length front
     → get_or (quads_of front) i 0 ≡ get_or (quads_of labels) i 0
-at-place front labels i p within =
-    let all : quads_of labels ≡ quads_of front ++ drop (length front) (quads_of (front ++ p.0)) =
-    ap quads_of (sym p.1) ∙ quads-grow front p.0 in
-    sym (ap (λ k. get_or k i 0) all
-    ∙ get_or_append_left (quads_of front) (drop (length front) (quads_of (front ++ p.0))) 0 i (omega (arith, length-quads_of front)))
+at-place front labels i p within = grind (arith, quads-grow, get_or_append_left, length-quads_of)
 
 pub quads-alike : (i : ℕ) (labels front turned_front : List ℕ) → BothBegin labels front turned_front → 1 ≤ i → i < length front
     → i < length turned_front
@@ -62,8 +58,7 @@ quads-alike i labels front turned_front h some within turned_within =
 -- the line's bits behind the first two
 
 head-rest : (xs : List ℕ) → 1 ≤ length xs → xs ≡ get_or xs 0 0 ∷ drop 1 xs
-head-rest [] h = absurd (omega arith)
-head-rest (x ∷ xs) h = refl
+head-rest q0 h = grind (arith)
 
 upper : (turn other q : ℕ) → turn < 4 → other < 4 → quad_of turn q / 2 / 2 ≡ quad_of other q / 2 / 2
 upper turn other q low high = omega arith
@@ -73,11 +68,7 @@ turn-lt labels = omega arith
 
 -- the first quad's last two bits, and the others
 two-behind : (labels : List ℕ) → 1 ≤ length labels → drop 2 (line_of labels) ≡ low_bits 2 (quad_at labels 0 / 2 / 2) ++ line_behind labels
-two-behind labels some =
-    let first : quads_of labels ≡ quad_at labels 0 ∷ drop 1 (quads_of labels) =
-    head-rest (quads_of labels) (omega (arith, length-quads_of labels))
-    ∙ ap (λ q. q ∷ drop 1 (quads_of labels)) (get_or-quads_of labels 0 (omega arith)) in
-    ap (λ k. drop 2 (flat_map (low_bits 4) k)) first
+two-behind labels some = grind (arith, head-rest, length-quads_of, get_or-quads_of)
 
 same-q : (labels : List ℕ) → 1 ≤ length labels → q3q4_of (get_or (map turned_label labels) 0 0) ≡ q3q4_of (get_or labels 0 0)
 same-q [] some = absurd (omega arith)

@@ -1,12 +1,18 @@
 -- Sums of a batch to which lines add their parts, one by one.
-use Rattle.noise_script.proofs.Names.{◌≡◌, ◌∙◌, ℕ, ◌+◌, ◌-◌, ◌<◌, ◌≤◌, ◌&&◌, inl, inr, Bool, true, false, if◌then◌else◌, List, length, take}
-use Rattle.noise_script.proofs.Names.{map, get_or, refl, sym, ap, subst, arith, length-set, cases_lt, nat_tests, ints, at_place, Grow}
-use Rattle.noise_script.proofs.Names.{AreWithin, plus, sum_of, IsWithin, IsQuiet, covers, hit_offset, noise_offset, drawn_offset, word_at}
-use Rattle.noise_script.proofs.Names.{stream_of, Hit, Noise, Offset, same_role, Role, Originator, Answerer}
-use Rattle.std.proofs.Common.{min}
-use Rattle.std.proofs.Common.{set}
+use Rattle.std.proofs.Common.{◌≡◌, ◌∙◌, ℕ, ◌+◌, ◌-◌, ◌<◌, ◌≤◌, ◌&&◌, inl, inr, min, Bool, true, false, if◌then◌else◌, List, length, take}
+use Rattle.std.proofs.Common.{map, get_or, set, refl, sym, ap, subst, arith, length-set}
+use Rattle.std.proofs.lemmas.Int.{ints}
+use Rattle.std.proofs.lemmas.Bool.{cases_lt}
+use Rattle.std.proofs.lemmas.Bool.Decides.{nat_tests}
 use Rattle.std.proofs.lemmas.Grind.{common_steps}
-use Rattle.noise_script.specs.Offsets.{nothing}
+use Rattle.shared_terms.specs.declared.role.Role.{Role}
+use Rattle.shared_terms.specs.Role.{same_role}
+use Rattle.noise_script.specs.declared.entry.Hit.{Hit}
+use Rattle.noise_script.specs.declared.entry.Noise.{Noise}
+use Rattle.noise_script.specs.declared.offset.Offset.{Offset}
+use Rattle.noise_script.specs.Offsets.{plus, sum_of, nothing, IsWithin, IsQuiet, covers, hit_offset, noise_offset, drawn_offset, word_at}
+use Rattle.noise_script.specs.Offsets.{stream_of}
+use Rattle.noise_script.specs.Batches.{at_place, Grow, AreWithin}
 use Rattle.noise_script.proofs.Sums.{same-offset, sum_of-next, plus-assoc, within-far}
 
 nothing-more : (a : Offset) → plus a nothing ≡ a
@@ -77,17 +83,15 @@ module _ (own : Bool) (from count start : ℕ) (x : ℕ → Offset) (old : List 
   pub apart : own ≡ false → Grow part old old
   apart o = record {
     long = refl;
-    each = λ place within. sym (ap (plus (at_place old place)) (other own (covers from count (start + place)) (x place) o)
-        ∙ nothing-more (at_place old place));
+    each = λ place within. sym (ap (plus (at_place old place)) (other _ _ _ o) ∙ nothing-more _);
   }
 
   -- nor before its first place
   pub begins : (begin : ℕ) → begin ≡ min (from - start) (length old) → GrowUpTo part begin old old
   begins begin is = record {
     long = refl;
-    below = λ place within low. sym (ap (plus (at_place old place)) (neither own (covers from count (start + place)) (x place)
-        (uncovered-before from count start (length old) place (subst (λ n. place < n) is low)))
-        ∙ nothing-more (at_place old place));
+    below = λ place within low. sym (ap (plus (at_place old place))
+        (neither _ _ _ (uncovered-before _ _ _ _ _ (subst (λ n. place < n) is low))) ∙ nothing-more _);
     above = λ place high. refl;
   }
 
@@ -95,9 +99,8 @@ module _ (own : Bool) (from count start : ℕ) (x : ℕ → Offset) (old : List 
       → end ≡ min (from + count - start) (length old) → own ≡ true → begin ≤ place → place < end → GrowUpTo part place old new
       → offset ≡ x place → value ≡ plus (at_place new place) offset → GrowUpTo part (place + 1) old (set new place value)
   goes-on begin end place new value offset b e o low high g is sum =
-      let here = both own (covers from count (start + place)) (x place) o
-      (covered from count start (length old) place (subst (λ n. n ≤ place) b low) (subst (λ n. place < n) e high)) in
-      grown-more part place old new value g (omega (arith, e, high)) (sum ∙ ap (plus (at_place new place)) (is ∙ sym here))
+      let here = both _ _ _ o (covered _ _ _ _ _ (subst (λ n. n ≤ place) b low) (subst (λ n. place < n) e high)) in
+      grown-more _ _ _ _ _ g (omega (arith, e, high)) (sum ∙ ap (plus (at_place new place)) (is ∙ sym here))
 
   -- nor behind its last
   pub ends : (end place : ℕ) (new : List Offset) → end ≡ min (from + count - start) (length old) → end ≤ place → GrowUpTo part place old new
@@ -106,9 +109,8 @@ module _ (own : Bool) (from count start : ℕ) (x : ℕ → Offset) (old : List 
     long = g.long;
     each = λ k within. elim (cases_lt k place) [
       | inl low ↦ g.below k within low
-      | inr high ↦ g.above k high ∙ sym (ap (plus (at_place old k)) (neither own (covers from count (start + k)) (x k)
-          (uncovered-behind from count start (length old) k within (omega (arith, is, past, high))))
-          ∙ nothing-more (at_place old k))
+      | inr high ↦ g.above k high ∙ sym (ap (plus (at_place old k))
+          (neither _ _ _ (uncovered-behind _ _ _ _ _ within (omega (arith, is, past, high)))) ∙ nothing-more _)
     ];
   }
 
@@ -122,10 +124,9 @@ pub line-more : {X : Type 0} (by : ℕ → X → Offset) (lines : List X) (i : �
     → Grow (λ place. sum_of (map (by place) (take (i + 1) lines))) first new
 line-more by lines i d first old new low g h = record {
   long = h.long ∙ g.long;
-  each = λ place within. h.each place (subst (λ n. place < n) (sym g.long) within)
-      ∙ ap (λ a. plus a (by place (get_or lines i d))) (g.each place within)
-      ∙ sym (plus-assoc (at_place first place) (sum_of (map (by place) (take i lines))) (by place (get_or lines i d)))
-      ∙ ap (plus (at_place first place)) (sym (sum_of-next (by place) lines i d low));
+  each = λ place within. h.each place (subst (λ n. place < n) (sym g.long) within) ∙ ap (λ a. plus a (by place (get_or lines i d)))
+      (g.each place within) ∙ sym (plus-assoc (at_place first place) (sum_of (map (by place) (take i lines)))
+      (by place (get_or lines i d))) ∙ ap (plus (at_place first place)) (sym (sum_of-next (by place) lines _ d low));
 }
 
 within-both : (a b : ℕ) (x y : Offset) → IsWithin a x → IsWithin b y → IsWithin (a + b) (plus x y)
@@ -144,8 +145,7 @@ pub far-more : (a b c : ℕ) (by : ℕ → Offset) (old new : List Offset) → A
 far-more a b c by old new w g small most = record {
   each = λ place within.
       let low : place < length old = subst (λ n. place < n) g.long within in
-      subst (IsWithin c) (sym (g.each place low))
-      (within-far (a + b) c _ most (within-both a b (at_place old place) (by place) (w.each place low) (small place)));
+      subst (IsWithin c) (sym (g.each place low)) (within-far _ _ _ most (within-both _ _ _ _ (w.each place low) (small place)));
 }
 
 within-if : (b : Bool) (m : ℕ) (x : Offset) → IsWithin m x → IsWithin m (if b then x else nothing)
@@ -159,14 +159,11 @@ within-if false m x h = record {
 
 pub hit-small : (hit : Hit) (offset : Offset) (sender : Role) → IsWithin 32768 offset → offset.re ≡ hit.re → offset.im ≡ hit.im
     → (symbol : ℕ) → IsWithin 32768 (hit_offset sender symbol hit)
-hit-small hit offset sender small re im symbol =
-    within-if (same_role hit.role sender && covers hit.from hit.count symbol) 32768 _
-    (subst (IsWithin 32768) (same-offset offset (record { re = hit.re; im = hit.im }) re im) small)
+hit-small hit offset sender small re im symbol = within-if _ 32768 _ (subst (IsWithin 32768) (same-offset _ _ re im) small)
 
 pub noise-small : (noise : Noise) (sender : Role) → IsQuiet noise → (symbol : ℕ) → IsWithin 32767 (noise_offset sender symbol noise)
 noise-small noise sender quiet symbol =
-    within-if (same_role noise.role sender && covers noise.from noise.count symbol) 32767 _
-    (drawn-small noise.amplitude (word_at noise.seed (stream_of noise.role) (symbol - noise.from)) quiet)
+    within-if _ 32767 _ (drawn-small noise.amplitude (word_at noise.seed (stream_of noise.role) (symbol - noise.from)) quiet)
   where
     drawn-small : (amplitude word : ℕ) → amplitude ≤ 32767 → IsWithin 32767 (drawn_offset amplitude word)
     drawn-small amplitude word few = record {
@@ -181,13 +178,7 @@ pub same-drawn : (noise : Noise) (sender role : Role) (seed place symbol word : 
     → seed ≡ noise.seed → role ≡ sender → place ≡ symbol - noise.from → word ≡ word_at seed (stream_of role) place
     → offset ≡ drawn_offset noise.amplitude word
     → offset ≡ drawn_offset noise.amplitude (word_at noise.seed (stream_of noise.role) (symbol - noise.from))
-same-drawn noise sender role seed place symbol word offset o s r p w is =
-    is ∙ ap (drawn_offset noise.amplitude) (w ∙ ap (λ n. word_at n (stream_of role) place) s
-    ∙ ap (λ n. word_at noise.seed (stream_of role) n) p
-    ∙ ap (λ n. word_at noise.seed n (symbol - noise.from)) (ap stream_of r ∙ sym (same-stream noise.role sender o)))
-  where
-    same-stream : (a b : Role) → same_role a b ≡ true → stream_of a ≡ stream_of b
-    same-stream q0 q1 e = grind (arith)
+same-drawn noise sender role seed place symbol word offset o s r p w is = grind (arith)
 
 pub within-at : (most : ℕ) (by : ℕ → Offset) (place : ℕ) (old new : List Offset) → AreWithin most old → GrowUpTo by place old new
     → place < length old → IsWithin most (at_place new place)

@@ -28,12 +28,7 @@ and-false q0 = grind (arith)
 -- an octet before one that is no line feed goes on its line
 line-goes-on : (x y : ℕ) (text : List ℕ) → eqb x 10 ≡ false → eqb y 10 ≡ false
     → lines_of (x ∷ y ∷ text) ≡ onto_first x (lines_of (y ∷ text))
-line-goes-on x y text x_not y_not = going (eqb x 10) (eqb y 10) (eqb x 13) x_not y_not
-  where
-    going : (a b c : Bool) → a ≡ false → b ≡ false
-        → cond a ([] ∷ lines_of (y ∷ text)) (cond (c && b) (lines_of (y ∷ text)) (onto_first x (lines_of (y ∷ text)))) ≡ onto_first x
-        (lines_of (y ∷ text))
-    going a b c a_not b_not = rw (a_not, b_not, and-false c) refl
+line-goes-on x y text x_not y_not = grind (arith, and-false)
 
 pub line-cut : (front rest : List ℕ) → list_all is_no_feed front ≡ true
     → lines_of (front ++ 10 ∷ rest) ≡ without_return front ∷ lines_of rest
@@ -73,12 +68,7 @@ word-ends line i h b = grind (arith, drop-cons)
 
 word-goes-on : (x y : ℕ) (line : List ℕ) → is_blank x ≡ false → is_blank y ≡ false
     → words_of (x ∷ y ∷ line) ≡ onto_first x (words_of (y ∷ line))
-word-goes-on x y line x_not y_not = going (is_blank x) (is_blank y) x_not y_not
-  where
-    going : (a b : Bool) → a ≡ false → b ≡ false
-        → cond a (words_of (y ∷ line)) (cond (not b) (onto_first x (words_of (y ∷ line))) ((x ∷ []) ∷ words_of (y ∷ line))) ≡ onto_first x
-        (words_of (y ∷ line))
-    going a b a_not b_not = rw (a_not, b_not) refl
+word-goes-on x y line x_not y_not = grind (arith)
 
 -- words of a line that begins with these octets, and then with a blank or not at all
 pub word-cut : (front rest : List ℕ) → front ≢ [] → list_all is_no_blank front ≡ true → is_in_word rest ≡ false

@@ -1,9 +1,12 @@
 -- The decimal digits of a number are a word that is read as a number, whose value it is.
-use Rattle.noise_script.proofs.Names.{◌≡◌, ℕ, ◌^◌, ◌<◌, ◌≤◌, Bool, true, ◌&&◌, nat_le, List, [], ◌∷◌, length, refl, arith, and_parts}
-use Rattle.noise_script.proofs.Names.{nat_tests, list_all, is_digit, is_number, value_of}
+use Rattle.std.proofs.Common.{◌≡◌, ℕ, ◌^◌, ◌<◌, ◌≤◌, Bool, true, ◌&&◌, nat_le, List, [], ◌∷◌, refl, arith}
 use Rattle.std.specs.Prelude.{decimal}
+use Rattle.std.specs.List.{list_all}
+use Rattle.std.proofs.lemmas.Bool.{and_parts}
+use Rattle.std.proofs.lemmas.Bool.Decides.{nat_tests}
 use Rattle.std.proofs.lemmas.Fmt.{decimal_nonempty, digits_decimal, length-decimal-le}
 use Rattle.std.proofs.lemmas.Str.Parse.{IsDigitsTest, IsNumeralModel, numerals_by_weight}
+use Rattle.noise_script.specs.Numbers.{is_digit, is_number, value_of}
 
 abbrev pub AllDigits : List ℕ → Type 0
 AllDigits word = list_all is_digit word ≡ true
@@ -33,10 +36,8 @@ IsSmall n = n < 2 ^ 64
 
 pub is-number : (n : ℕ) → IsSmall n → is_number (decimal n) ≡ true
 is-number n h =
-    both (nat_le 1 (length (decimal n))) (nat_le (length (decimal n)) 20 && list_all is_digit (decimal n))
-    (is-most 1 (length (decimal n)) (decimal_nonempty n h))
-    (both (nat_le (length (decimal n)) 20) (list_all is_digit (decimal n))
-    (is-most (length (decimal n)) 20 (length-decimal-le 20 n (omega arith) (omega (arith, h)) h)) (digits_decimal numerals n h))
+    both _ _ (is-most 1 _ (decimal_nonempty n h)) (both _ _ (is-most _ 20 (length-decimal-le 20 n (omega arith) (omega (arith, h)) h))
+    (digits_decimal numerals n h))
 
 -- what holds of each digit holds of the octets of a number
 all-weaker : (test : ℕ → Bool) → ((x : ℕ) → is_digit x ≡ true → test x ≡ true) → (xs : List ℕ) → AllDigits xs → list_all test xs ≡ true

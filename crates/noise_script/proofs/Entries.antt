@@ -1,17 +1,25 @@
 -- What lines say, one line more at a time.
-use Rattle.noise_script.proofs.Names.{◌≡◌, ℕ, ◌+◌, ◌<◌, ◌≤◌, Bool, true, false, ◌&&◌, ◌||◌, cond, List, [], ◌∷◌, ◌++◌, length, filter_map}
-use Rattle.noise_script.proofs.Names.{Option, Some, None, refl, sym, ap, subst, ◌∙◌, arith, append-nil, false≢true, cons_option, placed}
-use Rattle.noise_script.proofs.Names.{placed_each, in_order, Holds, Kind, row, kind_of, most, same_kind, standing, AreAllowed, whole, each}
-use Rattle.noise_script.proofs.Names.{first, delays_said, tries_said, window_said, length_said, loss_said, hit_said, noise_said, break_said}
-use Rattle.noise_script.proofs.Names.{pause_said, breaks_in, offered_in, Draft, Break, Entry, Form, Offered, same_role, Role, Originator}
-use Rattle.noise_script.proofs.Names.{Answerer}
-use Rattle.std.proofs.Common.{is_some}
+use Rattle.std.proofs.Common.{◌≡◌, ℕ, ◌+◌, ◌<◌, ◌≤◌, Bool, true, false, ◌||◌, cond, List, [], ◌∷◌, ◌++◌, length, filter_map, Option}
+use Rattle.std.proofs.Common.{Some, None, is_some, refl, sym, ap, subst, ◌∙◌, arith, append-nil}
+use Rattle.std.specs.List.{cons_option}
 use Rattle.std.proofs.lemmas.List.Elements.{filter_map-append}
+use Rattle.std.proofs.lemmas.Bool.{and_parts}
 use mir.Val.{bool_byte}
-use Rattle.noise_script.specs.declared.entry.Entry.TheVariants as entries
+use Rattle.shared_terms.specs.declared.role.Role.{Role}
+use Rattle.shared_terms.specs.declared.role.Role.TheVariants.{Originator, Answerer}
+use Rattle.shared_terms.specs.Role.{same_role}
+use Rattle.noise_script.specs.declared.entry.Break.{Break}
+use Rattle.noise_script.specs.declared.entry.Entry.{Entry}
+use Rattle.noise_script.specs.declared.forms.Form.{Form}
 use Rattle.noise_script.specs.declared.forms.Form.TheVariants as forms
-use Rattle.noise_script.specs.Grammar.{same_form, same_counted, stands}
-use Rattle.noise_script.specs.Draft.{Adds, or_before, offered_of, offered_after, placed_said}
+use Rattle.noise_script.specs.declared.offered.Offered.{Offered}
+use Rattle.noise_script.specs.declared.draft.Draft.{Draft}
+use Rattle.noise_script.specs.Forms.{Kind, row, kind_of, most}
+use Rattle.noise_script.specs.Breaks.{placed, placed_each, in_order}
+use Rattle.noise_script.specs.Grammar.{same_form, same_counted, same_kind, standing, AreAllowed, whole, each, stands, first, delays_said}
+use Rattle.noise_script.specs.Grammar.{tries_said, window_said, length_said, loss_said, hit_said, noise_said, break_said, pause_said}
+use Rattle.noise_script.specs.Grammar.{breaks_in, offered_in}
+use Rattle.noise_script.specs.Draft.{Holds, Adds, or_before, offered_of, offered_after, placed_said}
 
 -- kinds
 
@@ -33,16 +41,8 @@ same_counted-is q0 q1 e = grind (arith)
 same_counted-self : (a : Option Role) → same_counted a a ≡ true
 same_counted-self q0 = grind (arith)
 
-both-true : (a b : Bool) → (a && b) ≡ true → (a ≡ true) × (b ≡ true)
-both-true q0 b e = grind (arith)
-
 same_kind-is : (a b : Kind) → same_kind a b ≡ true → a ≡ b
-same_kind-is a b e =
-    let parts = both-true (same_form a.form b.form) (same_counted a.role b.role) e in
-    alike (same_form-is a.form b.form parts.0) (same_counted-is a.role b.role parts.1)
-  where
-    alike : a.form ≡ b.form → a.role ≡ b.role → a ≡ b
-    alike f r i = record { form = f i; role = r i }
+same_kind-is a b e = grind (arith, and_parts, same_form-is, same_counted-is)
 
 same_kind-self : (a : Kind) → same_kind a a ≡ true
 same_kind-self a = rw (same_form-self a.form, same_counted-self a.role) refl
@@ -55,9 +55,7 @@ standing-cons kind entry said = refl
 
 standing-append : (kind : Kind) (a b : List Entry) → standing kind (a ++ b) ≡ standing kind a + standing kind b
 standing-append kind [] b = let none : standing kind [] ≡ 0 = refl in omega (arith, none)
-standing-append kind (entry ∷ a) b =
-    let later = standing-append kind a b in
-    omega (arith, later, standing-cons kind entry a, standing-cons kind entry (a ++ b))
+standing-append kind (entry ∷ a) b = grind (arith, standing-cons, standing-append kind a b)
 
 standing-one : (kind : Kind) (entry : Entry) → standing kind (entry ∷ []) ≡ cond (same_kind kind (kind_of entry)) 1 0
 standing-one kind entry = let none : standing kind [] ≡ 0 = refl in omega (arith, standing-cons kind entry [], none)
@@ -210,11 +208,7 @@ lists-more say said entry = filter_map-append say said (entry ∷ [])
 
 flag-more : (kind : Kind) (said : List Entry) (entry : Entry)
     → stands kind (said ++ entry ∷ []) ≡ (stands kind said || same_kind kind (kind_of entry))
-flag-more kind [] entry = or-false (same_kind kind (kind_of entry))
-  where
-    or-false : (b : Bool) → (b || false) ≡ b
-    or-false true = refl
-    or-false false = refl
+flag-more kind [] entry = grind (arith)
 flag-more kind (other ∷ said) entry = by (same_kind kind (kind_of other)) (flag-more kind said entry)
   where
     by : (b : Bool) → stands kind (said ++ entry ∷ []) ≡ (stands kind said || same_kind kind (kind_of entry))
@@ -249,11 +243,9 @@ first-more {X = X} say kind counts one said entry few = by (say entry) refl ∙ 
 
 offered-more : (role : Role) (said : List Entry) (entry : Entry) → standing (kind_of entry) said < most (row (kind_of entry).form).bound
     → offered_after role entry (offered_in role said) ≡ offered_in role (said ++ entry ∷ [])
-offered-more role said entry few = alike
-    (first-more (window_said role) (each forms.Window role) (counts-window role) refl said entry few)
-    (first-more (length_said role) (each forms.Length role) (counts-length role) refl said entry few)
-    (sym (flag-more (each forms.Srej role) said entry))
-    (sym (flag-more (each forms.Check32 role) said entry))
+offered-more role said entry few = alike (first-more (window_said role) (each forms.Window role) (counts-window role) refl _ _ few)
+    (first-more (length_said role) (each forms.Length role) (counts-length role) refl _ _ few)
+    (sym (flag-more (each forms.Srej role) said entry)) (sym (flag-more (each forms.Check32 role) said entry))
   where
     alike : {a b : Offered} → a.window ≡ b.window → a.length ≡ b.length → a.srej ≡ b.srej → a.check32 ≡ b.check32 → a ≡ b
     alike w l s k i = record { window = w i; length = l i; srej = s i; check32 = k i }
@@ -274,11 +266,10 @@ breaks-more said entry = by (break_said entry) ∙ ap in_order (sym (lists-more 
 pub holds-more : (draft after : Draft) (said : List Entry) (entry : Entry) → Holds draft said → Adds draft entry after
     → standing (kind_of entry) said < most (row (kind_of entry).form).bound → Holds after (said ++ entry ∷ [])
 holds-more draft after said entry h a few = record {
-  delays = a.delays ∙ ap (or_before (delays_said entry)) h.delays
-      ∙ first-more delays_said (whole forms.Delay) counts-delay refl said entry few;
-  tries = a.tries ∙ ap (or_before (tries_said entry)) h.tries ∙ first-more tries_said (whole forms.Tries) counts-tries refl said entry few;
-  orig = a.orig ∙ ap (offered_after Originator entry) h.orig ∙ offered-more Originator said entry few;
-  answ = a.answ ∙ ap (offered_after Answerer entry) h.answ ∙ offered-more Answerer said entry few;
+  delays = a.delays ∙ ap (or_before (delays_said entry)) h.delays ∙ first-more delays_said (whole forms.Delay) counts-delay refl _ _ few;
+  tries = a.tries ∙ ap (or_before (tries_said entry)) h.tries ∙ first-more tries_said (whole forms.Tries) counts-tries refl _ _ few;
+  orig = a.orig ∙ ap (offered_after Originator entry) h.orig ∙ offered-more Originator _ _ few;
+  answ = a.answ ∙ ap (offered_after Answerer entry) h.answ ∙ offered-more Answerer _ _ few;
   losses = a.losses ∙ ap (λ xs. xs ++ cons_option (loss_said entry) []) h.losses ∙ sym (lists-more loss_said said entry);
   hits = a.hits ∙ ap (λ xs. xs ++ cons_option (hit_said entry) []) h.hits ∙ sym (lists-more hit_said said entry);
   noises = a.noises ∙ ap (λ xs. xs ++ cons_option (noise_said entry) []) h.noises ∙ sym (lists-more noise_said said entry);

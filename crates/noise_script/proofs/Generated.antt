@@ -1,7 +1,7 @@
 -- A generator that makes one step more.
 use Rattle.std.proofs.Common.{arith, ◌≡◌, ◌∙◌, ℕ, zero, suc, ◌+◌, refl, sym, ap, add-one}
-use Rattle.rand_pcg.specs.Lcg.{Lcg, next_state, state_after, started, increment_of}
-use Rattle.rand_pcg.specs.Pcg.{pcg32, multiplier_64}
+use Rattle.rand_pcg.specs.Lcg.{Lcg, next_state, state_after, increment_of}
+use Rattle.rand_pcg.specs.Pcg.{pcg32}
 use Rattle.noise_script.specs.Offsets.{generator_at}
 
 last-step : (w m increment n state : ℕ)

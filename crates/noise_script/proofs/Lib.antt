@@ -1,4 +1,3 @@
-mod Names
 pub mod Sums
 pub mod Cuts
 pub mod Digits

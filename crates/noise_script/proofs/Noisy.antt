@@ -1,12 +1,18 @@
 -- Lines on delays, noise and losses spell their script.
-use Rattle.noise_script.proofs.Names.{◌≡◌, ◌∙◌, ℕ, ◌+◌, ◌≤◌, ◌||◌, Bool, true, false, cond, List, [], ◌∷◌, ◌++◌, length, map, filter_map}
-use Rattle.noise_script.proofs.Names.{refl, sym, ap, subst, arith, Option, Some, None, cons_option, list_any, Kind, row, kind_of, most}
-use Rattle.noise_script.proofs.Names.{SpellsLine, Says, nothing, spelled, same_kind, standing, AreAllowed, each, tries_said, window_said}
-use Rattle.noise_script.proofs.Names.{length_said, loss_said, hit_said, noise_said, break_said, pause_said, script_of, lines_of, words_of}
-use Rattle.noise_script.proofs.Names.{Entry, Noise, Form, Role, Originator, Answerer}
+use Rattle.std.proofs.Common.{◌≡◌, ◌∙◌, ℕ, ◌+◌, ◌≤◌, ◌||◌, Bool, true, false, cond, List, [], ◌∷◌, ◌++◌, length, map, filter_map, refl, sym}
+use Rattle.std.proofs.Common.{ap, subst, arith, Option, Some, None}
+use Rattle.std.specs.List.{cons_option, list_any}
+use Rattle.shared_terms.specs.declared.role.Role.{Role}
 use Rattle.noise_script.specs.declared.entry.Loss.{Loss}
+use Rattle.noise_script.specs.declared.entry.Noise.{Noise}
+use Rattle.noise_script.specs.declared.entry.Entry.{Entry}
 use Rattle.noise_script.specs.declared.entry.Entry.TheVariants as entries
+use Rattle.noise_script.specs.declared.forms.Form.{Form}
 use Rattle.noise_script.specs.declared.forms.Form.TheVariants as forms
+use Rattle.noise_script.specs.Lines.{lines_of, words_of}
+use Rattle.noise_script.specs.Forms.{Kind, row, most, SpellsLine}
+use Rattle.noise_script.specs.Grammar.{Says, nothing, spelled, same_kind, standing, AreAllowed}
+use Rattle.noise_script.specs.Grammar.{loss_said, noise_said, script_of}
 use Rattle.noise_script.specs.Noisy.{text_of, IsWhole, SaysDelays, SaysNoise, SaysLoss, EachSays, noisy_script, NoisyLinesSpell}
 use Rattle.noise_script.proofs.Cuts.{line-cut}
 
@@ -44,9 +50,7 @@ losses-say : (losing : List (List ℕ)) (losses : List Loss) → EachSays SaysLo
 losses-say [] [] s = nothing
 losses-say [] (x ∷ xs) s = absurd s
 losses-say (line ∷ losing) [] s = absurd s
-losses-say (line ∷ losing) (loss ∷ losses) s =
-    one-line line (text_of losing) (entries.Lose loss) (loss_entries losses) s.0.whole (spells-loss line loss s.0)
-    (losses-say losing losses s.1)
+losses-say (line ∷ losing) (loss ∷ losses) s = one-line _ _ _ _ s.0.whole (spells-loss _ _ s.0) (losses-say losing losses s.1)
 
 noises-say : (noisy losing : List (List ℕ)) (noises : List Noise) (losses : List Loss) → EachSays SaysNoise noisy noises
     → EachSays SaysLoss losing losses
@@ -55,8 +59,7 @@ noises-say [] losing [] losses s l = losses-say losing losses l
 noises-say [] losing (x ∷ xs) losses s l = absurd s
 noises-say (line ∷ noisy) losing [] losses s l = absurd s
 noises-say (line ∷ noisy) losing (noise ∷ noises) losses s l =
-    one-line line (text_of (noisy ++ losing)) (entries.Noise noise) (all_entries noises losses) s.0.whole (spells-noise line noise s.0)
-    (noises-say noisy losing noises losses s.1 l)
+    one-line _ _ _ _ s.0.whole (spells-noise _ _ s.0) (noises-say noisy losing noises losses s.1 l)
 
 -- nothing else is said
 
@@ -73,8 +76,7 @@ none-stands : (test : Entry → Bool) → ((noise : Noise) → test (entries.Noi
     → (noises : List Noise) (losses : List Loss) → list_any test (all_entries noises losses) ≡ false
 none-stands test n l [] [] = refl
 none-stands test n l [] (loss ∷ losses) = ap (λ b. b || list_any test (loss_entries losses)) (l loss) ∙ none-stands test n l [] losses
-none-stands test n l (noise ∷ noises) losses =
-    ap (λ b. b || list_any test (all_entries noises losses)) (n noise) ∙ none-stands test n l noises losses
+none-stands test n l (noise ∷ noises) losses = grind (arith, none-stands test n l noises losses)
 
 losses-are : (noises : List Noise) (losses : List Loss) → filter_map loss_said (all_entries noises losses) ≡ losses
 losses-are [] [] = refl
@@ -148,8 +150,7 @@ allowed orig answ noises losses n l kind = go kind.form kind.role
 pub noisy-lines-spell : NoisyLinesSpell
 noisy-lines-spell delays noisy losing orig answ noises losses d n l few_noises few_losses = record {
   said = entries.Delay (record { orig = orig; answ = answ }) ∷ all_entries noises losses;
-  says = one-line delays (text_of (noisy ++ losing)) (entries.Delay (record { orig = orig; answ = answ }))
-      (all_entries noises losses) d.whole (spells-delays delays orig answ d) (noises-say noisy losing noises losses n l);
-  allowed = allowed orig answ noises losses few_noises few_losses;
-  script_is = script-is orig answ noises losses;
+  says = one-line _ _ _ _ d.whole (spells-delays _ _ _ d) (noises-say _ _ _ _ n l);
+  allowed = allowed orig answ _ _ few_noises few_losses;
+  script_is = script-is _ _ _ _;
 }

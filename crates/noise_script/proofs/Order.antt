@@ -1,8 +1,9 @@
 -- Break lines in rising order of turn.
-use Rattle.noise_script.proofs.Names.{◌≡◌, ℕ, suc, ◌+◌, ◌<◌, ◌≤◌, Bool, true, false, cond, nat_lt, nat_eq, List, [], ◌∷◌, ◌++◌, length}
-use Rattle.noise_script.proofs.Names.{refl, sym, ap, ◌∙◌, arith, append-nil, append_assoc, placed, placed_each, in_order, Break}
+use Rattle.std.proofs.Common.{◌≡◌, ℕ, suc, ◌+◌, ◌<◌, ◌≤◌, Bool, true, false, cond, nat_lt, nat_eq, List, [], ◌∷◌, ◌++◌, length, refl, sym}
+use Rattle.std.proofs.Common.{ap, ◌∙◌, arith, append-nil, append_assoc}
 use Rattle.std.proofs.lemmas.Bool.{ltb-true, ltb-false, eqb-true}
-use Rattle.noise_script.specs.Breaks.{AreFrom, AreRising, of_turn}
+use Rattle.noise_script.specs.declared.entry.Break.{Break}
+use Rattle.noise_script.specs.Breaks.{placed, placed_each, in_order, AreFrom, AreRising, of_turn}
 use Rattle.noise_script.specs.Laws.{BreaksInOrder}
 
 placed-length : (line : Break) (lines : List Break) → length (placed line lines) ≡ suc (length lines)
@@ -16,8 +17,7 @@ placed-length line (next ∷ lines) = by (nat_lt line.turn next.turn) (placed-le
 
 placed_each-length : (sorted lines : List Break) → length (placed_each sorted lines) ≡ length sorted + length lines
 placed_each-length sorted [] = let none : length {A = Break} [] ≡ 0 = refl in omega (arith, none)
-placed_each-length sorted (line ∷ lines) = let later = placed_each-length (placed line sorted) lines in
-    omega (arith, later, placed-length line sorted)
+placed_each-length sorted (line ∷ lines) = grind (arith, placed-length, placed_each-length (placed line sorted) lines)
 
 pub in_order-length : (lines : List Break) → length (in_order lines) ≡ length lines
 in_order-length lines = let e = placed_each-length [] lines in omega (arith, e)
@@ -80,10 +80,7 @@ placed-of turn line (next ∷ lines) r = by (nat_lt line.turn next.turn) refl (p
     by false e later = behind (nat_eq next.turn turn) later
 
 one-before : (turn : ℕ) (line : Break) (lines : List Break) → of_turn turn (line ∷ []) ++ of_turn turn lines ≡ of_turn turn (line ∷ lines)
-one-before turn line lines = by (nat_eq line.turn turn)
-  where
-    by : (b : Bool) → cond b (line ∷ []) [] ++ of_turn turn lines ≡ cond b (line ∷ of_turn turn lines) (of_turn turn lines)
-    by q0 = grind (arith)
+one-before turn line lines = grind (arith)
 
 placed_each-rising : (sorted lines : List Break) → AreRising sorted → AreRising (placed_each sorted lines)
 placed_each-rising sorted [] r = r
@@ -93,10 +90,9 @@ placed_each-of : (turn : ℕ) (sorted lines : List Break) → AreRising sorted
     → of_turn turn (placed_each sorted lines) ≡ of_turn turn sorted ++ of_turn turn lines
 placed_each-of turn sorted [] r = sym (append-nil (of_turn turn sorted))
 placed_each-of turn sorted (line ∷ lines) r =
-    placed_each-of turn (placed line sorted) lines (placed-rising line sorted r)
-    ∙ ap (λ ls. ls ++ of_turn turn lines) (placed-of turn line sorted r)
-    ∙ append_assoc (of_turn turn sorted) (of_turn turn (line ∷ [])) (of_turn turn lines)
-    ∙ ap (λ ls. of_turn turn sorted ++ ls) (one-before turn line lines)
+    placed_each-of turn (placed line sorted) lines (placed-rising _ _ r) ∙ ap (λ ls. ls ++ of_turn turn lines) (placed-of _ _ _ r)
+    ∙ append_assoc (of_turn turn sorted) (of_turn turn (line ∷ [])) (of_turn turn lines) ∙ ap (λ ls. of_turn turn sorted ++ ls)
+    (one-before turn line lines)
 
 pub in_order-is : BreaksInOrder
 in_order-is lines = record { rising = placed_each-rising [] lines tt; same = λ turn. placed_each-of turn [] lines tt }

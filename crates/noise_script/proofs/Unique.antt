@@ -1,16 +1,23 @@
 -- A text spells one script at most, or has one first fault, and never both.
-use Rattle.noise_script.proofs.Names.{◌≡◌, ◌⊎◌, inl, inr, ℕ, suc, ◌+◌, ◌<◌, true, false, nat_eq, if◌then◌else◌, pos, ◌<ℤ◌, List, [], ◌∷◌}
-use Rattle.noise_script.proofs.Names.{◌++◌, length, get_or, refl, sym, ap, subst, ◌∙◌, arith, false≢true, ints, Argument, ARole, Number}
-use Rattle.noise_script.proofs.Names.{Signed, Value, RoleIs, NumberIs, SignedIs, row, word_of, arguments_of, form_of, values_of, too_many}
-use Rattle.noise_script.proofs.Names.{Spells, Fails, SpellsEach, FirstFails, SpellsLine, Misspells, Says, nothing, passed_over, spelled}
-use Rattle.noise_script.proofs.Names.{AreAllowed, IsFaulty, script_of, ScriptSpelling, FirstFault, begins_with, words_of, is_passed_over}
-use Rattle.noise_script.proofs.Names.{value_of, signed_value_of, ScriptValue, Entry, Form, role_word, Cause, Role, Originator, Answerer}
-use Rattle.std.proofs.Common.{ℤ}
+use Rattle.std.proofs.Common.{◌≡◌, inl, inr, ℕ, suc, ◌+◌, true, false, nat_eq, if◌then◌else◌, ℤ, pos, List, [], ◌∷◌, ◌++◌}
+use Rattle.std.proofs.Common.{length, get_or, refl, sym, ap, subst, ◌∙◌, arith}
+use Rattle.std.proofs.lemmas.Bool.{false≢true}
+use Rattle.std.proofs.lemmas.Int.{ints}
+use Rattle.shared_terms.specs.declared.role.Role.{Role}
+use Rattle.shared_terms.specs.declared.role.Role.TheVariants.{Originator}
+use Rattle.shared_terms.specs.declared.cause.Cause.{Cause}
 use Rattle.shared_terms.specs.declared.cause.Cause.TheVariants as causes
+use Rattle.noise_script.specs.declared.entry.Entry.{Entry}
 use Rattle.noise_script.specs.declared.entry.Entry.TheVariants as entries
+use Rattle.noise_script.specs.declared.forms.Form.{Form}
 use Rattle.noise_script.specs.declared.forms.Form.TheVariants as forms
-use Rattle.noise_script.specs.Forms.{IsUnknown}
-use Rattle.noise_script.specs.Forms.{IsMiscounted, IsMisread}
+use Rattle.noise_script.specs.Lines.{begins_with, words_of, is_passed_over}
+use Rattle.noise_script.specs.Forms.{Argument, ARole, Number, Signed, Value, RoleIs, NumberIs, SignedIs, row, word_of, arguments_of}
+use Rattle.noise_script.specs.Forms.{form_of, values_of, too_many, Spells, Fails, SpellsEach, FirstFails, SpellsLine, IsUnknown}
+use Rattle.noise_script.specs.Forms.{IsMiscounted, IsMisread, Misspells}
+use Rattle.shared_terms.specs.Role.{role_word}
+use Rattle.noise_script.specs.Script.{ScriptValue}
+use Rattle.noise_script.specs.Grammar.{Says, nothing, passed_over, spelled, AreAllowed, IsFaulty, script_of, ScriptSpelling, FirstFault}
 use Rattle.noise_script.proofs.Entries.{allowed-full}
 
 cons-head : {X : Type 0} (x y : X) (xs ys : List X) → x ∷ xs ≡ y ∷ ys → x ≡ y
@@ -72,20 +79,12 @@ fail-spell ARole word causes.Word (RoleIs role) f s = f role s
 fail-spell ARole word causes.Word value f s = s
 fail-spell ARole word cause value f s = f
 fail-spell (Number low high) word causes.Number (NumberIs n) f s = false≢true (sym f ∙ s.digits)
-fail-spell (Number low high) word causes.Range (NumberIs n) f s = range f.1
-  where
-    range : (value_of word < low) ⊎ (high < value_of word) → ⊥
-    range (inl below) = omega (arith, below, s.value_is, s.not_below)
-    range (inr above) = omega (arith, above, s.value_is, s.not_above)
+fail-spell (Number low high) word causes.Range (NumberIs n) f s = grind (arith)
 fail-spell (Number low high) word causes.Number value f s = s
 fail-spell (Number low high) word causes.Range value f s = s
 fail-spell (Number low high) word cause value f s = f
 fail-spell (Signed low high) word causes.Number (SignedIs n) f s = false≢true (sym f ∙ s.digits)
-fail-spell (Signed low high) word causes.Range (SignedIs n) f s = range f.1
-  where
-    range : (signed_value_of word <ℤ low) ⊎ (high <ℤ signed_value_of word) → ⊥
-    range (inl below) = omega (arith, ints, below, s.value_is, s.not_below)
-    range (inr above) = omega (arith, ints, above, s.value_is, s.not_above)
+fail-spell (Signed low high) word causes.Range (SignedIs n) f s = grind (arith, ints)
 fail-spell (Signed low high) word causes.Number value f s = s
 fail-spell (Signed low high) word causes.Range value f s = s
 fail-spell (Signed low high) word cause value f s = f
@@ -101,10 +100,7 @@ each-once [] words a b s t = s.1 ∙ sym t.1
 each-once (argument ∷ arguments) [] a b s t = absurd s
 each-once (argument ∷ arguments) (word ∷ words) [] b s t = absurd s
 each-once (argument ∷ arguments) (word ∷ words) (x ∷ a) [] s t = absurd t
-each-once (argument ∷ arguments) (word ∷ words) (x ∷ a) (y ∷ b) s t =
-    let first : x ≡ y = value-once argument word x y s.0 t.0 in
-    let rest : a ≡ b = each-once arguments words a b s.1 t.1 in
-    rw (first, rest) refl
+each-once (argument ∷ arguments) (word ∷ words) (x ∷ a) (y ∷ b) s t = grind (arith, value-once, each-once arguments words a b s.1 t.1)
 
 each-length : (arguments : List Argument) (words : List (List ℕ)) (values : List Value) → SpellsEach arguments words values
     → length words ≡ length arguments
@@ -209,8 +205,7 @@ misread-spelled words entry cause m s =
 
 misspelled-spelled : (words : List (List ℕ)) (entry : Entry) (cause : Cause) → Misspells words cause → SpellsLine words entry → ⊥
 misspelled-spelled words entry cause (inl u) s = unknown-form words s.rest (form_of entry) cause u s.words_are
-misspelled-spelled words entry cause (inr (inl m)) s =
-    miscounted-length words s.rest (form_of entry) cause m s.words_are (each-length _ s.rest _ s.each)
+misspelled-spelled words entry cause (inr (inl m)) s = miscounted-length _ _ _ _ m s.words_are (each-length _ _ _ s.each)
 misspelled-spelled words entry cause (inr (inr m)) s = misread-spelled words entry cause m s
 
 misspelled-once : (words : List (List ℕ)) (a b : Cause) → Misspells words a → Misspells words b → a ≡ b

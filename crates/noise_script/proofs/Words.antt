@@ -1,10 +1,13 @@
 -- Reading words one behind another.
-use Rattle.noise_script.proofs.Names.{◌≡◌, ◌≢◌, ◌∙◌, ◌+◌, inl, inr, ℕ, List, ◌∷◌, [], length, refl, sym, ap, subst, arith, nil_from_length}
-use Rattle.noise_script.proofs.Names.{Argument, ARole, Value, RoleIs, NumberIs, Reads, FirstFails, SpellsEach, SpellsLine, Misspells}
-use Rattle.noise_script.proofs.Names.{word_of, arguments_of, values_of, Entry, Form, Cause, Role}
+use Rattle.std.proofs.Common.{◌≡◌, ◌≢◌, ◌∙◌, ◌+◌, inl, inr, ℕ, List, ◌∷◌, [], length, refl, sym, ap, subst, arith}
+use Rattle.std.proofs.lemmas.List.{nil_from_length}
+use Rattle.shared_terms.specs.declared.cause.Cause.{Cause}
 use Rattle.shared_terms.specs.declared.cause.Cause.TheVariants as causes
-use Rattle.noise_script.specs.Forms.{ReadsSpan, FailsToRead}
-use Rattle.noise_script.specs.Forms.{SpellsForm}
+use Rattle.shared_terms.specs.declared.role.Role.{Role}
+use Rattle.noise_script.specs.declared.entry.Entry.{Entry}
+use Rattle.noise_script.specs.declared.forms.Form.{Form}
+use Rattle.noise_script.specs.Forms.{Argument, ARole, Value, RoleIs, NumberIs, Reads, ReadsSpan, FailsToRead, FirstFails, SpellsEach}
+use Rattle.noise_script.specs.Forms.{SpellsForm, SpellsLine, Misspells, word_of, arguments_of, values_of}
 
 pub fails-here : (argument : Argument) (arguments : List Argument) (words : List (List ℕ)) (cause : Cause)
     → FailsToRead argument words cause → FirstFails (argument ∷ arguments) words cause
@@ -20,9 +23,8 @@ pub fails-behind : (second third : Argument) (more : List Argument) (words rest 
     (cause : Cause) → ReadsSpan second third words role from count rest → FirstFails more rest cause
     → FirstFails (ARole ∷ second ∷ third ∷ more) words cause
 fails-behind second third more words rest role from count cause s f =
-    fails-later ARole (second ∷ third ∷ more) words s.behind_role (RoleIs role) cause s.role_is
-    (fails-later second (third ∷ more) s.behind_role s.behind_from (NumberIs from) cause s.from_is
-    (fails-later third more s.behind_from rest (NumberIs count) cause s.count_is f))
+    fails-later _ (second ∷ third ∷ more) _ _ _ cause s.role_is
+    (fails-later _ (third ∷ more) _ _ _ cause s.from_is (fails-later _ _ _ _ _ _ s.count_is f))
 
 -- a word was read, and the words behind it spell the other values
 pub spells-here : (argument : Argument) (more : List Argument) (words rest : List (List ℕ)) (value : Value) (values : List Value)
@@ -34,9 +36,8 @@ pub spells-behind : (second third : Argument) (more : List Argument) (words rest
     (values : List Value) → ReadsSpan second third words role from count rest → SpellsEach more rest values
     → SpellsEach (ARole ∷ second ∷ third ∷ more) words (RoleIs role ∷ NumberIs from ∷ NumberIs count ∷ values)
 spells-behind second third more words rest role from count values r s =
-    spells-here ARole (second ∷ third ∷ more) words r.behind_role (RoleIs role) (NumberIs from ∷ NumberIs count ∷ values) r.role_is
-    (spells-here second (third ∷ more) r.behind_role r.behind_from (NumberIs from) (NumberIs count ∷ values) r.from_is
-    (spells-here third more r.behind_from rest (NumberIs count) values r.count_is s))
+    spells-here _ (second ∷ third ∷ more) _ _ _ (NumberIs from ∷ NumberIs count ∷ values) r.role_is
+    (spells-here _ (third ∷ more) _ _ _ (NumberIs count ∷ values) r.from_is (spells-here _ _ _ _ _ _ r.count_is s))
 
 pub spells-none : (words : List (List ℕ)) → length words ≡ 0 → SpellsEach [] words []
 spells-none words none = (nil_from_length words none, refl)

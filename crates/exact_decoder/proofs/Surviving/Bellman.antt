@@ -1,12 +1,14 @@
 -- The front of a survivor survives, and the best branch from the survivors before makes the survivor.
-use Rattle.exact_decoder.proofs.Names.{◌≡◌, ℕ, ◌+◌, ◌<◌, ◌≤◌, ◌⊎◌, inl, inr, List, [], ◌∷◌, ◌++◌, length, arith, length-append, refl, sym}
-use Rattle.exact_decoder.proofs.Names.{◌∙◌, ap, subst, Some, cases_lt, append_cancel_right, Beats, IsSurvivor, Trellis, IsSequence}
-use Rattle.exact_decoder.proofs.Names.{Leads-front, cost-snoc, cost}
-use Rattle.trellis_tables.proofs.Sequences.{Leads-snoc}
+use Rattle.std.proofs.Common.{◌≡◌, ℕ, ◌+◌, ◌<◌, ◌≤◌, ◌⊎◌, inl, inr, List, [], ◌∷◌, ◌++◌, length, arith, refl, sym, ◌∙◌, ap}
+use Rattle.std.proofs.Common.{subst, Some}
+use Rattle.std.proofs.lemmas.List.{append_cancel_right, length_push}
+use Rattle.std.proofs.lemmas.Bool.{cases_lt}
+use Rattle.trellis_tables.specs.Sequences.{cost}
+use Rattle.exact_decoder.specs.Surviving.Orders.{Beats}
+use Rattle.exact_decoder.specs.Surviving.Trellises.{Trellis, IsSequence}
+use Rattle.exact_decoder.specs.Surviving.Survivors.{IsSurvivor}
+use Rattle.trellis_tables.proofs.Sequences.{Leads-snoc, Leads-front, cost-snoc}
 use Rattle.exact_decoder.proofs.Surviving.Snoc.{Less-last, Less-front, Less-of_front, snoc_of}
-
-pub length-snoc : {X : Type 0} (xs : List X) (x : X) → length (xs ++ x ∷ []) ≡ length xs + 1
-length-snoc {X} xs x = omega (arith, length-append {A = X})
 
 pub sequence-more : {X : Type 0} (c : Trellis X) (samples : List X) (sample : X) (labels : List ℕ) (mid label to : ℕ)
     → IsSequence c samples labels mid → c.next mid label ≡ Some to → IsSequence c (samples ++ sample ∷ []) (labels ++ label ∷ []) to
@@ -16,7 +18,7 @@ sequence-more c samples sample labels mid label to h e = record {
     starts_there = h.code_sequence.starts_there;
     leads = Leads-snoc c.next h.code_sequence.from labels mid label to h.code_sequence.leads e;
   };
-  same_length = length-snoc labels label ∙ ap (λ n. n + 1) h.same_length ∙ sym (length-snoc samples sample);
+  same_length = length_push labels label ∙ ap (λ n. n + 1) h.same_length ∙ sym (length_push samples sample);
 }
 
 -- the front of a survivor is the survivor of the state before
@@ -33,23 +35,8 @@ survivor-front c samples sample labels label mid to h e s = record {
         ⊎ Beats c.distance (samples ++ sample ∷ []) (labels ++ label ∷ []) (other ++ label ∷ []))
         → (other ≡ labels) ⊎ Beats c.distance samples labels other
     decided other o (inl same) = inl (append_cancel_right other labels (label ∷ []) same)
-    decided other o (inr (inl less)) =
-        inr (inl (omega (
-          arith,
-          less,
-          cost-snoc c.distance labels samples label sample h.same_length,
-          cost-snoc c.distance other samples label sample o.same_length,
-        )))
-    decided other o (inr (inr (equal, less))) =
-        inr (inr (
-          omega (
-            arith,
-            equal,
-            cost-snoc c.distance labels samples label sample h.same_length,
-            cost-snoc c.distance other samples label sample o.same_length,
-          ),
-          Less-of_front labels other label (h.same_length ∙ sym o.same_length) less,
-        ))
+    decided other o (inr (inl less)) = grind (arith, cost-snoc, labels, label)
+    decided other o (inr (inr (equal, less))) = grind (arith, cost-snoc, labels, label, Less-of_front)
 
 -- a survivor's last label, and the survivor before it
 pub record Cut {X : Type 0} (c : Trellis X) (samples : List X) (labels : List ℕ) : Type 0 where
@@ -62,10 +49,10 @@ pub record Cut {X : Type 0} (c : Trellis X) (samples : List X) (labels : List �
 pub survivor-cut : {X : Type 0} (c : Trellis X) (samples : List X) (sample : X) (state : ℕ) (labels : List ℕ)
     → IsSurvivor c (samples ++ sample ∷ []) labels state → Cut c samples labels
 survivor-cut c samples sample state labels s =
-    let cut = snoc_of labels (length samples) (s.sequence.same_length ∙ length-snoc samples sample) in
+    let cut = snoc_of labels (length samples) (s.sequence.same_length ∙ length_push samples sample) in
     let here = subst (λ l. IsSurvivor c (samples ++ sample ∷ []) l state) cut.2 s in
     let parts = Leads-front c.next here.sequence.code_sequence.from cut.0 cut.1 state here.sequence.code_sequence.leads in
-    let n : length cut.0 ≡ length samples = omega (arith, here.sequence.same_length, length-snoc cut.0 cut.1, length-snoc samples sample) in
+    let n : length cut.0 ≡ length samples = omega (arith, here.sequence.same_length, length_push cut.0 cut.1, length_push samples sample) in
     let h : IsSequence c samples cut.0 parts.0 =
     record {
       code_sequence =
@@ -151,10 +138,10 @@ survivor-more {X} c samples sample to a once kept chosen = record {
     against : (other : List ℕ) → IsSequence c (samples ++ sample ∷ []) other to
         → Decided c (samples ++ sample ∷ []) (a.labels ++ a.label ∷ []) other
     against other o =
-        let cut = snoc_of other (length samples) (o.same_length ∙ length-snoc samples sample) in
+        let cut = snoc_of other (length samples) (o.same_length ∙ length_push samples sample) in
         let here = subst (λ l. IsSequence c (samples ++ sample ∷ []) l to) cut.2 o in
         let parts = Leads-front c.next here.code_sequence.from cut.0 cut.1 to here.code_sequence.leads in
-        let n : length cut.0 ≡ length samples = omega (arith, here.same_length, length-snoc cut.0 cut.1, length-snoc samples sample) in
+        let n : length cut.0 ≡ length samples = omega (arith, here.same_length, length_push cut.0 cut.1, length_push samples sample) in
         let q : IsSequence c samples cut.0 parts.0 =
         record {
           code_sequence = record { from = here.code_sequence.from; starts_there = here.code_sequence.starts_there; leads = parts.1 };

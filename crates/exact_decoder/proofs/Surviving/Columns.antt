@@ -1,10 +1,16 @@
 -- The sums and paths of all states, sample by sample.
-use Rattle.exact_decoder.proofs.Names.{◌≡◌, ℕ, ◌+◌, ◌<◌, ◌≤◌, ◌⊎◌, inl, inr, Bool, true, false, if◌then◌else◌, List, [], ◌∷◌, ◌++◌, length}
-use Rattle.exact_decoder.proofs.Names.{arith, refl, sym, ◌∙◌, ap, subst, Option, Some, None, eq-or-lt_of_le, false≢true, Branch, KnowsState}
-use Rattle.exact_decoder.proofs.Names.{Keeps, GoesOn, Enters, Chooses, IsSurvivor, Trellis, IsSequence, Leads-front, cost-snoc, cost}
+use Rattle.std.proofs.Common.{◌≡◌, ℕ, ◌+◌, ◌<◌, ◌≤◌, ◌⊎◌, inl, inr, Bool, true, false, if◌then◌else◌, List, [], ◌∷◌, ◌++◌, length}
+use Rattle.std.proofs.Common.{arith, refl, sym, ◌∙◌, ap, subst, Option, Some, None}
+use Rattle.std.proofs.lemmas.List.{nil_from_length, length_push}
+use Rattle.std.proofs.Math.Nat.{eq-or-lt_of_le}
+use Rattle.trellis_tables.specs.Sequences.{cost}
+use Rattle.exact_decoder.specs.Surviving.Trellises.{Trellis, IsSequence}
+use Rattle.exact_decoder.specs.Surviving.Survivors.{IsSurvivor}
+use Rattle.exact_decoder.specs.Surviving.Steps.{Branch, KnowsState, Keeps, GoesOn, Enters, Chooses}
+use Rattle.trellis_tables.proofs.Sequences.{Leads-front, cost-snoc}
 use Rattle.exact_decoder.proofs.Surviving.Snoc.{snoc_of}
 use Rattle.exact_decoder.proofs.Surviving.Release.{survivor-one}
-use Rattle.exact_decoder.proofs.Surviving.Bellman.{Candidate, survivor-more, length-snoc}
+use Rattle.exact_decoder.proofs.Surviving.Bellman.{Candidate, survivor-more}
 
 -- a sequence's state has a survivor
 pub kept : {X : Type 0} (c : Trellis X) (samples : List X) (base : ℕ) (paths : ℕ → List ℕ) (state : ℕ) (labels : List ℕ) (sum : Option ℕ)
@@ -46,18 +52,17 @@ Keeps-more {X} c samples sample base sums next_sums paths next_paths column once
     each : (to : ℕ) (b : Option Branch) (sum : Option ℕ) → column to ≡ b → Chooses c sample sums to b sum
         → KnowsState c (samples ++ sample ∷ []) base next_paths to sum
     each to None None e none = λ labels q.
-        let cut = snoc_of labels (length samples) (q.same_length ∙ length-snoc samples sample) in
+        let cut = snoc_of _ _ (q.same_length ∙ length_push samples sample) in
         let here = subst (λ l. IsSequence c (samples ++ sample ∷ []) l to) cut.2 q in
-        let parts = Leads-front c.next here.code_sequence.from cut.0 cut.1 to here.code_sequence.leads in
-        let n : length cut.0 ≡ length samples = omega (arith, here.same_length, length-snoc cut.0 cut.1, length-snoc samples sample) in
+        let parts = Leads-front _ _ _ _ _ here.code_sequence.leads in
+        let n : length cut.0 ≡ length samples = omega (arith, here.same_length, length_push cut.0 cut.1, length_push samples sample) in
         let front : IsSequence c samples cut.0 parts.0 =
         record {
           code_sequence = record { from = here.code_sequence.from; starts_there = here.code_sequence.starts_there; leads = parts.1 };
           same_length = n;
         } in
-        let s = kept c samples base paths parts.0 cut.0 (sums parts.0) front (k.knows parts.0) in
-        none (record { before = parts.0; label = cut.1 }) (s.0 + c.distance cut.1 sample)
-        (record { leads = parts.2; known = s.0; reached = s.1; sum_is = refl })
+        let s = kept c samples _ paths _ _ _ front (k.knows parts.0) in
+        none _ _ (record { leads = parts.2; known = s.0; reached = s.1; sum_is = refl })
     each to None (Some sum) e h = absurd h
     each to (Some b) None e h = absurd h
     each to (Some b) (Some sum) e h =
@@ -79,22 +84,16 @@ pub Keeps-start : {X : Type 0} (c : Trellis X) (sums : ℕ → Option ℕ) (path
 Keeps-start {X} c sums paths empty starts =
     record { knows = λ s. subst (KnowsState c [] 0 paths s) (sym (starts s)) (each s (c.starts s) refl) }
   where
-    nothing : (labels : List ℕ) → length labels ≡ 0 → labels ≡ []
-    nothing [] h = refl
-    nothing (x ∷ l) h = absurd (omega arith)
-
     none : (labels : List ℕ) (s : ℕ) → c.starts s ≡ false → labels ≡ [] → IsSequence c [] labels s → ⊥
-    none labels s e n q =
-        let l = subst (λ t. IsSequence c [] t s) n q in
-        false≢true (sym e ∙ ap c.starts (sym l.code_sequence.leads) ∙ l.code_sequence.starts_there)
+    none labels s e n q = grind (arith)
 
     each : (s : ℕ) (b : Bool) → c.starts s ≡ b → KnowsState c [] 0 paths s (if b then Some 0 else None)
     each s true e = (
       record {
         sequence = subst (λ l. IsSequence c [] l s) (sym (empty s))
             (record { code_sequence = record { from = s; starts_there = e; leads = refl }; same_length = refl });
-        best = λ other o. inl (nothing other o.same_length ∙ sym (empty s));
+        best = λ other o. inl (nil_from_length other o.same_length ∙ sym (empty s));
       },
       ap (λ l. cost c.distance l []) (empty s),
     )
-    each s false e = λ labels q. none labels s e (nothing labels q.same_length) q
+    each s false e = λ labels q. none labels s e (nil_from_length labels q.same_length) q

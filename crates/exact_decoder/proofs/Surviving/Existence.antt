@@ -1,10 +1,16 @@
 -- Each state that a sequence leads to has a survivor.
-use Rattle.exact_decoder.proofs.Names.{◌≡◌, ℕ, zero, suc, ◌+◌, ◌<◌, ◌≤◌, ◌⊎◌, inl, inr, Bool, true, false, List, [], ◌∷◌, ◌++◌, length}
-use Rattle.exact_decoder.proofs.Names.{arith, append_assoc, refl, sym, ◌∙◌, ap, subst, Option, Some, None, eq-or-lt_of_le, cases_lt}
-use Rattle.exact_decoder.proofs.Names.{cases_eq, false≢true, append-nil, IsSurvivor, Trellis, IsSequence, HasLaws, Leads-front, Leads, cost}
+use Rattle.std.proofs.Common.{◌≡◌, ℕ, zero, suc, ◌+◌, ◌<◌, ◌≤◌, ◌⊎◌, inl, inr, Bool, true, false, List, [], ◌∷◌, ◌++◌, length, arith}
+use Rattle.std.proofs.Common.{append_assoc, refl, sym, ◌∙◌, ap, subst, Option, Some, None}
+use Rattle.std.proofs.lemmas.Bool.{cases_lt, cases_eq, false≢true}
+use Rattle.std.proofs.lemmas.List.{append-nil, nil_from_length, length_push}
+use Rattle.std.proofs.Math.Nat.{eq-or-lt_of_le}
+use Rattle.trellis_tables.specs.Sequences.{Leads, cost}
+use Rattle.exact_decoder.specs.Surviving.Trellises.{Trellis, IsSequence, HasLaws}
+use Rattle.exact_decoder.specs.Surviving.Survivors.{IsSurvivor}
+use Rattle.trellis_tables.proofs.Sequences.{Leads-front}
 use Rattle.exact_decoder.proofs.Surviving.Snoc.{snoc_of}
 use Rattle.exact_decoder.proofs.Surviving.Release.{survivor-one}
-use Rattle.exact_decoder.proofs.Surviving.Bellman.{Candidate, IsChosen, length-snoc, sequence-more, survivor-more}
+use Rattle.exact_decoder.proofs.Surviving.Bellman.{Candidate, IsChosen, sequence-more, survivor-more}
 
 -- a state has a survivor, or never sequence leads to it
 abbrev pub Decided : {X : Type 0} → Trellis X → List X → ℕ → Type 0
@@ -26,11 +32,9 @@ one-price : {X : Type 0} (c : Trellis X) (states labels steps : ℕ) (samples : 
     → (a b : Candidate c samples to) → a.label ≡ b.label
     → cost c.distance a.labels samples + c.distance a.label sample ≡ cost c.distance b.labels samples + c.distance b.label sample
 one-price c states labels steps samples sample to laws a b e =
-    let same : a.before ≡ b.before =
-    enters-once c states labels steps laws a.before b.before b.label to
-    (subst (λ l. c.next a.before l ≡ Some to) e a.branch) b.branch in
+    let same : a.before ≡ b.before = enters-once c _ _ _ laws _ _ _ _ (subst (λ l. c.next a.before l ≡ Some to) e a.branch) b.branch in
     let one : a.labels ≡ b.labels =
-    survivor-one c samples a.labels b.labels b.before (subst (λ s. IsSurvivor c samples a.labels s) same a.survivor) b.survivor in
+    survivor-one c samples _ _ _ (subst (λ s. IsSurvivor c samples a.labels s) same a.survivor) b.survivor in
     let p : cost c.distance a.labels samples ≡ cost c.distance b.labels samples = ap (λ l. cost c.distance l samples) one in
     let d : c.distance a.label sample ≡ c.distance b.label sample = ap (λ l. c.distance l sample) e in
     omega arith
@@ -176,10 +180,10 @@ decided-more {X} c states labels steps samples sample laws decided to =
 
     none : ((a : Candidate c samples to) → a.label < labels → ⊥) → (l : List ℕ) → IsSequence c (samples ++ sample ∷ []) l to → ⊥
     none nothing l q =
-        let cut = snoc_of l (length samples) (q.same_length ∙ length-snoc samples sample) in
+        let cut = snoc_of l (length samples) (q.same_length ∙ length_push samples sample) in
         let here = subst (λ l. IsSequence c (samples ++ sample ∷ []) l to) cut.2 q in
         let parts = Leads-front c.next here.code_sequence.from cut.0 cut.1 to here.code_sequence.leads in
-        let n : length cut.0 ≡ length samples = omega (arith, here.same_length, length-snoc cut.0 cut.1, length-snoc samples sample) in
+        let n : length cut.0 ≡ length samples = omega (arith, here.same_length, length_push cut.0 cut.1, length_push samples sample) in
         let front : IsSequence c samples cut.0 parts.0 =
         record {
           code_sequence = record { from = here.code_sequence.from; starts_there = here.code_sequence.starts_there; leads = parts.1 };
@@ -202,20 +206,15 @@ decided-from : {X : Type 0} (c : Trellis X) (states labels steps : ℕ) (samples
 decided-from c states labels steps samples [] laws decided state = subst (λ l. Decided c l state) (sym (append-nil samples)) (decided state)
 decided-from c states labels steps samples (x ∷ more) laws decided state =
     subst (λ l. Decided c l state) (append_assoc samples (x ∷ []) more)
-    (decided-from c states labels steps (samples ++ x ∷ []) more laws
-    (λ s. decided-more c states labels steps samples x laws decided s) state)
+    (decided-from c states labels steps (samples ++ x ∷ []) more laws (λ s. decided-more c _ _ _ samples x laws decided _) state)
 
 -- before the first sample
 decided-start : {X : Type 0} (c : Trellis X) (state : ℕ) → Decided c [] state
 decided-start {X} c state = each (c.starts state) refl
   where
-    nothing : (labels : List ℕ) → length labels ≡ 0 → labels ≡ []
-    nothing [] h = refl
-    nothing (x ∷ l) h = absurd (omega arith)
-
     no-start : c.starts state ≡ false → (labels : List ℕ) → IsSequence c [] labels state → ⊥
     no-start e labels q =
-        let l = subst (λ k. IsSequence c [] k state) (nothing labels q.same_length) q in
+        let l = subst (λ k. IsSequence c [] k state) (nil_from_length labels q.same_length) q in
         false≢true (sym e ∙ ap c.starts (sym l.code_sequence.leads) ∙ l.code_sequence.starts_there)
 
     each : (b : Bool) → c.starts state ≡ b → Decided c [] state
@@ -223,7 +222,7 @@ decided-start {X} c state = each (c.starts state) refl
       [],
       record {
         sequence = record { code_sequence = record { from = state; starts_there = e; leads = refl }; same_length = refl };
-        best = λ other o. inl (nothing other o.same_length);
+        best = λ other o. inl (nil_from_length other o.same_length);
       },
     )
     each false e = inr (no-start e)
@@ -264,9 +263,8 @@ some-from : {X : Type 0} (c : Trellis X) (states labels steps : ℕ) (samples mo
     → (sequence : List ℕ) × (end : ℕ) × IsSequence c (samples ++ more) sequence end
 some-from c states labels steps samples [] laws (l, s, q) = (l, s, subst (λ k. IsSequence c k l s) (sym (append-nil samples)) q)
 some-from c states labels steps samples (x ∷ more) laws (l, s, q) =
-    let b = goes-on c states labels steps laws s (ends-within c states labels steps samples l s laws q) in
-    let r = some-from c states labels steps (samples ++ x ∷ []) more laws
-    (l ++ b.0 ∷ [], b.1, sequence-more c samples x l s b.0 b.1 q b.2) in
+    let b = goes-on c _ _ _ laws _ (ends-within c _ _ _ samples _ _ laws q) in
+    let r = some-from c states labels steps (samples ++ x ∷ []) more laws (l ++ b.0 ∷ [], b.1, sequence-more c samples x _ _ _ _ q b.2) in
     (r.0, r.1, subst (λ k. IsSequence c k r.0 r.1) (append_assoc samples (x ∷ []) more) r.2)
 
 pub some-survives : {X : Type 0} (c : Trellis X) (states labels steps : ℕ) (samples : List X) → HasLaws c states labels steps

@@ -1,9 +1,12 @@
 -- What survivors begin with, and what stays of it.
-use Rattle.exact_decoder.proofs.Names.{◌≡◌, ℕ, ◌+◌, ◌<◌, ◌≤◌, inl, inr, List, [], ◌∷◌, ◌++◌, length, take, drop, arith, length-append}
-use Rattle.exact_decoder.proofs.Names.{append_assoc, refl, sym, ◌∙◌, ap, subst, Option, Some, None, cases_lt, cases_eq, append-nil}
-use Rattle.exact_decoder.proofs.Names.{take-append-drop, take_all, take-take, take_at, take-append-le, IsSurvivor, IsCommon, IsReleased}
-use Rattle.exact_decoder.proofs.Names.{IsOver, IsLost, LostIs, Trellis, IsPrefixOf}
-use Rattle.exact_decoder.proofs.Surviving.Bellman.{length-snoc, survivor-cut}
+use Rattle.std.proofs.Common.{◌≡◌, ℕ, ◌+◌, ◌<◌, ◌≤◌, inl, inr, List, [], ◌∷◌, ◌++◌, length, take, drop, arith, length-append, append_assoc}
+use Rattle.std.proofs.Common.{refl, sym, ◌∙◌, ap, subst, Option, Some, None}
+use Rattle.std.proofs.lemmas.List.{nil_from_length, append-nil, take-append-drop, take_all, take-take, take_at, take-append-le, length_push}
+use Rattle.std.proofs.lemmas.Bool.{cases_lt, cases_eq}
+use Rattle.exact_decoder.specs.Surviving.Trellises.{Trellis}
+use Rattle.shared_terms.specs.Prefix.{IsPrefixOf}
+use Rattle.exact_decoder.specs.Surviving.Survivors.{IsSurvivor, IsCommon, IsReleased, IsOver, IsLost, LostIs}
+use Rattle.exact_decoder.proofs.Surviving.Bellman.{survivor-cut}
 
 front-is : (labels front rest : List ℕ) (n m : ℕ) → length front ≡ n → n ≤ m → take m labels ≡ front ++ rest → front ≡ take n labels
 front-is labels front rest n m l le e = sym (sym (take-take n m labels le) ∙ ap (take n) e ∙ take_at front rest n l)
@@ -18,9 +21,8 @@ fronts-survive c samples [] labels end s =
 fronts-survive c samples (x ∷ more) labels end s =
     let later = fronts-survive c (samples ++ x ∷ []) more labels end
     (subst (λ l. IsSurvivor c l labels end) (sym (append_assoc samples (x ∷ []) more)) s) in
-    let cut = survivor-cut c samples x later.0 (take (length (samples ++ x ∷ [])) labels) later.1 in
-    let e = front-is labels cut.front (cut.label ∷ []) (length samples) (length (samples ++ x ∷ [])) cut.survivor.sequence.same_length
-    (omega (arith, length-snoc samples x)) cut.joined in
+    let cut = survivor-cut c samples x _ _ later.1 in
+    let e = front-is _ _ _ _ _ cut.survivor.sequence.same_length (omega (arith, length_push samples x)) cut.joined in
     (cut.mid, subst (λ l. IsSurvivor c samples l cut.mid) e cut.survivor)
 
 -- what is released is a prefix of each later survivor
@@ -42,13 +44,9 @@ both-prefixes a b p q = elim (cases_lt (length a) (length b)) [
   | inl less ↦ let e : length (b ++ q.0) ≡ length a = ap length q.1 in absurd (omega (arith, e, length-append {A = ℕ} b q.0))
   | inr more ↦
       let e : length (a ++ p.0) ≡ length b = ap length p.1 in
-      let none : p.0 ≡ [] = nothing p.0 (omega (arith, e, length-append {A = ℕ} a p.0)) in
+      let none : p.0 ≡ [] = nil_from_length p.0 (omega (arith, e, length-append {A = ℕ} a p.0)) in
       sym (append-nil a) ∙ ap (λ l. a ++ l) (sym none) ∙ p.1
 ]
-  where
-    nothing : (l : List ℕ) → length l ≡ 0 → l ≡ []
-    nothing [] e = refl
-    nothing (x ∷ l) e = absurd (omega arith)
 
 pub released-once : {X : Type 0} (c : Trellis X) (samples : List X) (a b : List ℕ) → IsReleased c samples a → IsReleased c samples b → a ≡ b
 released-once c samples a b h k = both-prefixes a b (k.longest a h.common) (h.longest b k.common)

@@ -1,4 +1,5 @@
-use Rattle.exact_decoder.proofs.Names.{◌≡◌, ◌+◌, ◌-◌, arith, sym, subst, take, slice_index, Splits}
+use Rattle.std.proofs.Common.{◌≡◌, ◌-◌, arith, sym, subst, take}
+use Rattle.exact_decoder.specs.Traced.{Splits}
 use Rattle.exact_decoder.proofs.Walking.{back-none, back-within, back-met, first-long}
 use Rattle.exact_decoder.proofs.back.release.Goals as goal
 
@@ -28,14 +29,12 @@ release_one-requires g c =
               (
                 omega (arith, few.1),
                 (
-                  back-within g.row.STATES g.row.LABELS columns (c.loop-back.back + 1) left live first c.requires.columns back 0
-                      (omega (arith, few.0)),
+                  back-within _ _ _ _ _ _ _ c.requires.columns back 0 (omega (arith, few.0)),
                   (
                     c.step_back-agreed.ensures.agreed,
                     (
                       left,
-                      back-met g.row.STATES columns (c.loop-back.back + 1) left (slice_index live 0) live first
-                          (c.have_met.ensures c.if-have_met.true) back,
+                      back-met _ _ _ _ _ _ _ (c.have_met.ensures c.if-have_met.true) back,
                     ),
                   ),
                 ),

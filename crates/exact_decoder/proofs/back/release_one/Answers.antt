@@ -1,5 +1,5 @@
-use Rattle.std.proofs.Common.{◌≡◌, ◌<◌, ◌+◌, ◌-◌, ℕ, ◌∷◌, [], ap, sym, subst, arith, length, length-append, take}
-use Rattle.exact_decoder.specs.Traced.{choices_of, Splits}
+use Rattle.std.proofs.Common.{◌≡◌, ◌<◌, ◌-◌, ℕ, ◌∷◌, [], ap, sym, subst, arith, length, length-append, take}
+use Rattle.exact_decoder.specs.Traced.{Splits}
 use Rattle.exact_decoder.proofs.Walking.{back-one, first-long, first-more}
 use Rattle.exact_decoder.proofs.back.release_one.Goals as goal
 
@@ -39,9 +39,7 @@ loop-back-preserved g c =
       moved = omega (arith, i.moved);
       back = (
         i.back.0,
-        back-one g.row.STATES c.args.ring.now (choices_of c.column.result.now) c.loop-back.back i.back.0 c.loop-back.state here.before
-            here.label first (take (c.loop-back.agreed + 1) c.put_behind.new.self) c.column.ensures.next
-            (ap (λ c. c.before) c.choice-choice.ensures) (ap (λ c. c.label) c.choice-choice.ensures)
-            (first-more c.loop-back.labels c.put_behind.new.self c.loop-back.agreed here.label i.agreed c.put_behind.ensures) i.back.1,
+        back-one _ _ _ _ _ _ _ _ _ _ c.column.ensures.next (ap (λ c. c.before) c.choice-choice.ensures)
+            (ap (λ c. c.label) c.choice-choice.ensures) (first-more _ _ _ _ i.agreed c.put_behind.ensures) i.back.1,
       );
     }

@@ -1,4 +1,6 @@
-use Rattle.exact_decoder.proofs.Names.{◌+◌, set, arith, sym, subst, ◌∙◌, length-zip2, choice_by, choices_of}
+use Rattle.std.proofs.Common.{◌+◌, set, arith, sym, subst, ◌∙◌}
+use Rattle.std.proofs.lemmas.Simd.{length-zip2}
+use Rattle.exact_decoder.specs.Traced.{choice_by}
 use Rattle.exact_decoder.proofs.Settling.{SettledBelow, settled-more, choices-set}
 use Rattle.exact_decoder.proofs.choice.settle.Goals as goal
 
@@ -15,7 +17,5 @@ loop-to-preserved g c =
     let column = c.loop-to.column in
     let choice = c.choose-choice.result in
     subst (λ l. SettledBelow g.row.STATES c.args.entered.now c.args.least (set c.loop-to.sums c.loop-to.to c.level.result) l
-    (c.loop-to.to + 1))
-    (sym (choices-set column.before column.labels c.loop-to.to choice.before choice.label))
-    (settled-more g.row.STATES c.args.entered.now c.args.least c.loop-to.sums (choices_of column) c.loop-to.to c.level.result choice
-    (omega arith) c.level.ensures c.choose-choice.ensures c.loop-to.invariant)
+    (c.loop-to.to + 1)) (sym (choices-set _ _ _ _ _)) (settled-more _ _ _ _ _ _ _ _ (omega arith) c.level.ensures c.choose-choice.ensures
+    c.loop-to.invariant)

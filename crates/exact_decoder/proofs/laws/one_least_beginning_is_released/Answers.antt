@@ -16,16 +16,14 @@ returns g c =
       reaches = g.met.C.TrellisCode.reaches;
     } in
     record {
-      some = λ starts are samples. some-released
-          (trellis_of g.C.TrellisCode.table g.C.TrellisCode.points starts) g.row.STATES g.row.LABELS g.C.TrellisCode.REACH samples
-          (has-laws g.C.TrellisCode.table g.C.TrellisCode.points g.row.STATES g.row.LABELS g.C.TrellisCode.REACH code starts are);
-      once = λ starts are samples a b h k. released-once (trellis_of g.C.TrellisCode.table g.C.TrellisCode.points starts) samples a b h k;
+      some = λ starts are samples. some-released (trellis_of g.C.TrellisCode.table g.C.TrellisCode.points starts) _ _ _ samples
+          (has-laws _ _ _ _ _ code _ are);
+      once = λ starts are samples a b h k. released-once (trellis_of g.C.TrellisCode.table g.C.TrellisCode.points starts) samples _ _ h k;
       stays = λ starts are samples more front later h k.
-          stays-prefix (trellis_of g.C.TrellisCode.table g.C.TrellisCode.points starts) samples more front later h k;
+          stays-prefix (trellis_of g.C.TrellisCode.table g.C.TrellisCode.points starts) samples more _ _ h k;
       least = λ starts are samples front h.
-          released-is_least (trellis_of g.C.TrellisCode.table g.C.TrellisCode.points starts) g.row.STATES g.row.LABELS g.C.TrellisCode.REACH
-          samples front (has-laws g.C.TrellisCode.table g.C.TrellisCode.points g.row.STATES g.row.LABELS g.C.TrellisCode.REACH code starts
-          are) h;
+          released-is_least (trellis_of g.C.TrellisCode.table g.C.TrellisCode.points starts) _ _ _ samples _
+          (has-laws _ _ _ _ _ code _ are) h;
       first = λ starts are samples a b h k.
-          first-least-once (trellis_of g.C.TrellisCode.table g.C.TrellisCode.points starts) samples a b h k;
+          first-least-once (trellis_of g.C.TrellisCode.table g.C.TrellisCode.points starts) samples _ _ h k;
     }

@@ -16,12 +16,10 @@ returns g c =
     } in
     record {
       each = λ starts are samples sequence end q.
-          reached-survives (trellis_of g.C.TrellisCode.table g.C.TrellisCode.points starts) g.row.STATES g.row.LABELS g.C.TrellisCode.REACH
-          samples sequence end (has-laws g.C.TrellisCode.table g.C.TrellisCode.points g.row.STATES g.row.LABELS g.C.TrellisCode.REACH code
-          starts are) q;
-      some = λ starts are samples. some-survives
-          (trellis_of g.C.TrellisCode.table g.C.TrellisCode.points starts) g.row.STATES g.row.LABELS g.C.TrellisCode.REACH samples
-          (has-laws g.C.TrellisCode.table g.C.TrellisCode.points g.row.STATES g.row.LABELS g.C.TrellisCode.REACH code starts are);
+          reached-survives (trellis_of g.C.TrellisCode.table g.C.TrellisCode.points starts) _ _ _ samples _ _
+          (has-laws _ _ _ _ _ code _ are) q;
+      some = λ starts are samples. some-survives (trellis_of g.C.TrellisCode.table g.C.TrellisCode.points starts) _ _ _ samples
+          (has-laws _ _ _ _ _ code _ are);
       once = λ starts are samples a b state h k.
-          survivor-one (trellis_of g.C.TrellisCode.table g.C.TrellisCode.points starts) samples a b state h k;
+          survivor-one (trellis_of g.C.TrellisCode.table g.C.TrellisCode.points starts) samples _ _ _ h k;
     }

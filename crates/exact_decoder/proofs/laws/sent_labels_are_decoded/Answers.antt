@@ -3,8 +3,6 @@ use Rattle.exact_decoder.proofs.laws.sent_labels_are_decoded.Goals as goal
 
 pub returns : goal.returns
 returns g c = record {
-  least = only-sent g.C.TrellisCode.table g.C.TrellisCode.points g.row.STATES g.row.LABELS g.met.C.TrellisCode.bounded
-      g.met.C.TrellisCode.points_differ;
-  released = releases-sent g.C.TrellisCode.table g.C.TrellisCode.points g.row.STATES g.row.LABELS g.met.C.TrellisCode.bounded
-      g.met.C.TrellisCode.points_differ;
+  least = only-sent _ _ _ _ g.met.C.TrellisCode.bounded g.met.C.TrellisCode.points_differ;
+  released = releases-sent _ _ _ _ g.met.C.TrellisCode.bounded g.met.C.TrellisCode.points_differ;
 }

@@ -1,4 +1,5 @@
-use Rattle.exact_decoder.proofs.Names.{ℕ, ◌+◌, ◌-◌, ◌%◌, min, List, [], ◌∷◌, refl, ◌∙◌, arith, zip2}
+use Rattle.std.proofs.Common.{ℕ, ◌+◌, ◌-◌, ◌%◌, min, List, [], ◌∷◌, refl, ◌∙◌, arith}
+use Rattle.std.specs.Simd.Lanes.{zip2}
 use Rattle.exact_decoder.proofs.Lanes.{lane-010, lane-011, lane-100, lane-101}
 use Rattle.exact_decoder.proofs.Vectors.{both, turned, four}
 use Rattle.exact_decoder.proofs.lines.nearest_squares.Goals as goal
@@ -16,8 +17,7 @@ returns c x y is lx ly =
     (turned (3 ∷ 3 ∷ 2 ∷ 3 ∷ []) _ _ is) refl refl (omega arith) (omega arith) (omega arith) (omega arith) in
     let yb = c.line-below.ensures y y (65535 - y) y 256 768 512 512 25427976 10747904 17826320 17825808
     (turned (2 ∷ 2 ∷ 3 ∷ 2 ∷ []) _ _ is) refl refl (omega arith) (omega arith) (omega arith) (omega arith) in
-    let l = both (zip2 min) c.line-left.result _ c.line-right.result _ xa xb in
-    let m = both (zip2 min) c.line-above.result _ c.line-below.result _ ya yb in
-    both plus c.lesser.result _ c.lesser-2.result _ (c.lesser.ensures ∙ l) (c.lesser-2.ensures ∙ m)
-    ∙ four _ _ _ _ _ _ _ _ (lane-010 x y lx ly) (lane-011 x y lx ly) (lane-100 x y lx ly)
-    (lane-101 x y lx ly)
+    let l = both (zip2 min) _ _ _ _ xa xb in
+    let m = both (zip2 min) _ _ _ _ ya yb in
+    both plus _ _ _ _ (c.lesser.ensures ∙ l) (c.lesser-2.ensures ∙ m) ∙ four _ _ _ _ _ _ _ _ (lane-010 _ _ lx ly) (lane-011 _ _ lx ly)
+    (lane-100 _ _ lx ly) (lane-101 _ _ lx ly)

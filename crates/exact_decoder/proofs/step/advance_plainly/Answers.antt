@@ -1,4 +1,5 @@
-use Rattle.exact_decoder.proofs.Names.{◌≡◌, ◌∙◌, ℕ, ◌*◌, ◌≤◌, sym, subst, arith, length-replicate}
+use Rattle.std.proofs.Common.{◌≡◌, ◌∙◌, ℕ, ◌*◌, ◌≤◌, sym, subst, arith}
+use Rattle.std.proofs.lemmas.List.{length-replicate}
 use Rattle.exact_decoder.proofs.step.advance_plainly.Goals as goal
 
 -- subsets that fill the labels are no more than these
@@ -21,16 +22,14 @@ returns g c = record {
 pub find_nearest-requires : goal.find_nearest-requires
 find_nearest-requires g c =
     let t = g.met.C.TrellisCode in
-    subst (λ (n : ℕ). g.C.TrellisCode.SUBSETS ≤ n) (sym (length-replicate g.row.LABELS 0))
-    (no-more g.C.TrellisCode.SUBSETS g.C.TrellisCode.PARALLEL g.row.LABELS t.subsets_fill t.parallel_some)
+    subst (λ (n : ℕ). g.C.TrellisCode.SUBSETS ≤ n) (sym (length-replicate g.row.LABELS 0)) (no-more _ _ _ t.subsets_fill t.parallel_some)
 
 pub enter-requires : goal.enter-requires
 enter-requires g c = record {
   states = c.requires.sums;
   entered = length-replicate g.row.STATES 0;
   subsets = subst (λ (n : ℕ). g.C.TrellisCode.SUBSETS ≤ n) (sym (c.find_nearest.ensures.long ∙ length-replicate g.row.LABELS 0))
-      (no-more g.C.TrellisCode.SUBSETS g.C.TrellisCode.PARALLEL g.row.LABELS g.met.C.TrellisCode.subsets_fill
-      g.met.C.TrellisCode.parallel_some);
+      (no-more _ _ _ g.met.C.TrellisCode.subsets_fill g.met.C.TrellisCode.parallel_some);
   small = c.requires.small;
   near = c.find_nearest.ensures.bound;
 }

@@ -1,7 +1,17 @@
-use Rattle.exact_decoder.proofs.Names.{◌≡◌, ℕ, ◌+◌, ◌*◌, ◌/◌, ◌^◌, ◌<◌, List, [], ◌∷◌, ◌++◌, length, arith, lit<, refl, sym, ◌∙◌, ap, subst}
-use Rattle.exact_decoder.proofs.Names.{ints, put_chunk_whole, w16, cast_signed, cast_unsigned, ℤ, zip2, pick_l, Advances, words, coordinate}
-use Rattle.exact_decoder.proofs.Names.{sample_at, nearest_000, nearest_001, nearest_010, nearest_011, nearest_100, nearest_101, nearest_110}
-use Rattle.exact_decoder.proofs.Names.{nearest_111, choice_by, Choice, point_of, Sample, way_before, way_subset}
+use Rattle.std.proofs.Common.{◌≡◌, ℕ, ◌+◌, ◌*◌, ◌/◌, ◌^◌, ◌<◌, List, [], ◌∷◌, ◌++◌, length, arith, lit<, refl, sym, ◌∙◌, ap, subst}
+use Rattle.std.specs.Prelude.{ℤ}
+use Rattle.std.specs.Int.{w16, cast_signed, cast_unsigned}
+use Rattle.std.proofs.lemmas.Int.{ints}
+use Rattle.std.specs.Simd.Lanes.{zip2, pick_l}
+use Rattle.std.proofs.lemmas.Simd.{put_chunk_whole}
+use Rattle.symbol_map.specs.declared.sample.Sample.{Sample}
+use Rattle.symbol_map.specs.Points.{point_of}
+use Rattle.trellis_tables.specs.Ways.{way_before, way_subset}
+use Rattle.exact_decoder.specs.declared.choice.Choice.{Choice}
+use Rattle.exact_decoder.specs.Advances.{Advances}
+use Rattle.exact_decoder.specs.Lines.{words, coordinate, sample_at, nearest_000, nearest_001, nearest_010, nearest_011, nearest_100}
+use Rattle.exact_decoder.specs.Lines.{nearest_101, nearest_110, nearest_111}
+use Rattle.exact_decoder.specs.Traced.{choice_by}
 use Rattle.exact_decoder.proofs.Vectors.{both, turned, words-are, each_of_eight}
 use Rattle.exact_decoder.proofs.Small.{small-000, small-001, small-010, small-011, small-100, small-101, small-110, small-111}
 use Rattle.exact_decoder.proofs.Eight.{key_into, key-small, least_of_eight, advances}
@@ -45,32 +55,26 @@ returns v =
     let (f, mf, isf) = v.requires.narrow 5 (lit< tt) in
     let (g, mg, isg) = v.requires.narrow 6 (lit< tt) in
     let (h, mh, ish) = v.requires.narrow 7 (lit< tt) in
-    let was : sums ≡ words a b c d e f g h = words-are sums a b c d e f g h v.requires.long isa isb isc isd ise isf isg ish in
+    let was : sums ≡ words a b c d e f g h = words-are _ _ _ _ _ _ _ _ _ v.requires.long isa isb isc isd ise isf isg ish in
     let k : ℕ → ℕ = key_into x y a b c d e f g h in
-    let few = each_of_eight (λ i. k i < 2 ^ 32)
-    (key-small a 0 (nearest_000 x y) _ _ _ ma (lit< tt) (small-000 x y lx ly))
-    (key-small c 2 (nearest_000 x y) _ _ _ mc (lit< tt) (small-000 x y lx ly))
-    (key-small e 4 (nearest_000 x y) _ _ _ me (lit< tt) (small-000 x y lx ly))
-    (key-small g 6 (nearest_000 x y) _ _ _ mg (lit< tt) (small-000 x y lx ly))
-    (key-small b 1 (nearest_100 x y) _ _ _ mb (lit< tt) (small-100 x y lx ly))
-    (key-small h 7 (nearest_100 x y) _ _ _ mh (lit< tt) (small-100 x y lx ly))
-    (key-small f 5 (nearest_100 x y) _ _ _ mf (lit< tt) (small-100 x y lx ly))
-    (key-small d 3 (nearest_100 x y) _ _ _ md (lit< tt) (small-100 x y lx ly)) in
+    let few = each_of_eight (λ i. k i < 2 ^ 32) (key-small _ 0 _ _ _ _ ma (lit< tt) (small-000 _ _ lx ly))
+    (key-small _ 2 _ _ _ _ mc (lit< tt) (small-000 _ _ lx ly)) (key-small _ 4 _ _ _ _ me (lit< tt) (small-000 _ _ lx ly))
+    (key-small _ 6 _ _ _ _ mg (lit< tt) (small-000 _ _ lx ly)) (key-small _ 1 _ _ _ _ mb (lit< tt) (small-100 _ _ lx ly))
+    (key-small _ 7 _ _ _ _ mh (lit< tt) (small-100 _ _ lx ly)) (key-small _ 5 _ _ _ _ mf (lit< tt) (small-100 _ _ lx ly))
+    (key-small _ 3 _ _ _ _ md (lit< tt) (small-100 _ _ lx ly)) in
     let before = v.keys_of-before.ensures a b c d e f g h was ma mb mc md me mf mg mh in
-    let first = v.enter_first-first.ensures (256 * a + 0) (256 * c + 2) (256 * e + 4) (256 * g + 6)
-    (nearest_010 x y) (nearest_011 x y) (nearest_100 x y) (nearest_101 x y) (nearest_000 x y) (nearest_001 x y) (nearest_110 x y)
-    (nearest_111 x y)
-    (turned (0 ∷ 2 ∷ 4 ∷ 6 ∷ []) _ _ before) squares others
-    (half-key a 0 ma (lit< tt)) (half-key c 2 mc (lit< tt)) (half-key e 4 me (lit< tt)) (half-key g 6 mg (lit< tt))
-    (small-010 x y lx ly) (small-011 x y lx ly) (small-000 x y lx ly) (small-001 x y lx ly) in
-    let second = v.enter_second-second.ensures (256 * b + 1) (256 * d + 3) (256 * f + 5) (256 * h + 7)
-    (nearest_010 x y) (nearest_011 x y) (nearest_100 x y) (nearest_101 x y) (nearest_000 x y) (nearest_001 x y) (nearest_110 x y)
-    (nearest_111 x y)
-    (turned (1 ∷ 3 ∷ 5 ∷ 7 ∷ []) _ _ before) squares others
-    (half-key b 1 mb (lit< tt)) (half-key d 3 md (lit< tt)) (half-key f 5 mf (lit< tt)) (half-key h 7 mh (lit< tt))
-    (small-100 x y lx ly) (small-101 x y lx ly) (small-110 x y lx ly) (small-111 x y lx ly) in
+    let first = v.enter_first-first.ensures (256 * a + 0) (256 * c + 2) (256 * e + 4) (256 * g + 6) (nearest_010 x y) (nearest_011 x y)
+    (nearest_100 x y) (nearest_101 x y) (nearest_000 x y) (nearest_001 x y) (nearest_110 x y) (nearest_111 x y)
+    (turned (0 ∷ 2 ∷ 4 ∷ 6 ∷ []) _ _ before) squares others (half-key _ 0 ma (lit< tt)) (half-key _ 2 mc (lit< tt))
+    (half-key _ 4 me (lit< tt)) (half-key _ 6 mg (lit< tt)) (small-010 _ _ lx ly) (small-011 _ _ lx ly) (small-000 _ _ lx ly)
+    (small-001 _ _ lx ly) in
+    let second = v.enter_second-second.ensures (256 * b + 1) (256 * d + 3) (256 * f + 5) (256 * h + 7) (nearest_010 x y) (nearest_011 x y)
+    (nearest_100 x y) (nearest_101 x y) (nearest_000 x y) (nearest_001 x y) (nearest_110 x y) (nearest_111 x y)
+    (turned (1 ∷ 3 ∷ 5 ∷ 7 ∷ []) _ _ before) squares others (half-key _ 1 mb (lit< tt)) (half-key _ 3 md (lit< tt))
+    (half-key _ 5 mf (lit< tt)) (half-key _ 7 mh (lit< tt)) (small-100 _ _ lx ly) (small-101 _ _ lx ly) (small-110 _ _ lx ly)
+    (small-111 _ _ lx ly) in
     let (z, z_is, least) = v.least_in-least.ensures (k 0) (k 1) (k 2) (k 3) (k 4) (k 5) (k 6) (k 7) first second in
-    let p = least_of_eight k z z_is in
+    let p = least_of_eight _ _ z_is in
     let keys = both (λ v w. pick_l 0 (v ++ w) (0 ∷ 1 ∷ 2 ∷ 3 ∷ 4 ∷ 5 ∷ 6 ∷ 7 ∷ [])) _ _ _ _ first second in
     let lowered = v.lowered.ensures (k 0) (k 1) (k 2) (k 3) (k 4) (k 5) (k 6) (k 7) z keys
     (turned (0 ∷ 0 ∷ 0 ∷ 0 ∷ 0 ∷ 0 ∷ 0 ∷ 0 ∷ []) _ _ least)
@@ -87,7 +91,5 @@ returns v =
     let re_is : coordinate x ≡ sample.re = v.counted.ensures.value ∙ re_read in
     let im_is : coordinate y ≡ sample.im = v.counted-2.ensures.value ∙ im_read in
     let sample_is : sample_at x y ≡ sample = ap (λ n. sample_of n (coordinate y)) re_is ∙ ap (sample_of sample.re) im_is in
-    let made = advances x y a b c d e f g h z lx ly few p in
-    same_step (sample_at x y) sample _ sums _ _ _ _ sample_is (sym was) (sym new_sums)
-    (sym (both (zip2 choice_by) _ _ _ _ new_states new_labels))
-    made
+    let made = advances _ _ _ _ _ _ _ _ _ _ _ lx ly few p in
+    same_step _ _ _ _ _ _ _ _ sample_is (sym was) (sym new_sums) (sym (both (zip2 choice_by) _ _ _ _ new_states new_labels)) made

@@ -1,4 +1,6 @@
-use Rattle.noise_script.proofs.Names.{◌≡◌, true, false, arith, rules, Offset, same_role}
+use Rattle.std.proofs.Common.{◌≡◌, true, false, arith, rules}
+use Rattle.shared_terms.specs.Role.{same_role}
+use Rattle.noise_script.specs.declared.offset.Offset.{Offset}
 use Rattle.noise_script.proofs.Sums.{same-offset}
 use Rattle.noise_script.proofs.Batched.{apart, begins, goes-on, ends, within-at, hit-small}
 use Rattle.noise_script.proofs.batch.add_hit.Goals as goal
@@ -28,8 +30,7 @@ loop-place-preserved c =
 
 pub plus-requires-clause-a : goal.plus-requires-clause-a
 plus-requires-clause-a c =
-    within-at 1073741823 _ c.loop-place.place c.args.sums.now c.loop-place.sums c.requires c.loop-place.invariant
-    (omega (arith, c.loop-place-test.true, c.end_of-end.ensures))
+    within-at 1073741823 _ _ _ _ c.requires c.loop-place.invariant (omega (arith, c.loop-place-test.true, c.end_of-end.ensures))
 
 pub returns-clause-grow : goal.returns-clause-grow
 returns-clause-grow c =
@@ -39,5 +40,4 @@ returns-clause-grow c =
 
 pub returns-clause-small : goal.returns-clause-small
 returns-clause-small c =
-    hit-small c.args.hit.now c.offset_of_hit-offset.result c.args.sender c.offset_of_hit-offset.ensures.small
-    c.offset_of_hit-offset.ensures.re c.offset_of_hit-offset.ensures.im
+    hit-small _ _ _ c.offset_of_hit-offset.ensures.small c.offset_of_hit-offset.ensures.re c.offset_of_hit-offset.ensures.im

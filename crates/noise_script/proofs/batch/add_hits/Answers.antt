@@ -1,4 +1,7 @@
-use Rattle.noise_script.proofs.Names.{◌+◌, ◌*◌, ℕ, arith, hit_offset, Hit, Offset}
+use Rattle.std.proofs.Common.{◌+◌, ℕ, arith}
+use Rattle.noise_script.specs.declared.entry.Hit.{Hit}
+use Rattle.noise_script.specs.declared.offset.Offset.{Offset}
+use Rattle.noise_script.specs.Offsets.{hit_offset}
 use Rattle.noise_script.proofs.Sums.{no_hit}
 use Rattle.noise_script.proofs.Batched.{no-line, line-more, far-more, farther}
 use Rattle.noise_script.proofs.batch.add_hits.Goals as goal
@@ -13,13 +16,10 @@ loop-hit-preserved c =
     let by : ℕ → Hit → Offset = λ place. hit_offset c.args.sender (c.args.start + place) in
     let i : ℕ = c.loop-hit.hit-index in
     record {
-      grow = line-more by c.args.hits.now i no_hit c.args.sums.now c.loop-hit.sums c.add_hit.new.sums c.loop-hit-test.true
-          c.loop-hit.invariant.grow c.add_hit.ensures.grow;
-      small = far-more (32768 * i) 32768 (32768 * (i + 1)) _ c.loop-hit.sums c.add_hit.new.sums c.loop-hit.invariant.small
+      grow = line-more by c.args.hits.now _ no_hit _ _ _ c.loop-hit-test.true c.loop-hit.invariant.grow c.add_hit.ensures.grow;
+      small = far-more _ 32768 _ _ _ _ c.loop-hit.invariant.small
           c.add_hit.ensures.grow (λ place. c.add_hit.ensures.small (c.args.start + place)) (omega arith);
     }
 
 pub add_hit-requires : goal.add_hit-requires
-add_hit-requires c =
-    farther (32768 * c.loop-hit.hit-index) 1073741823 c.loop-hit.sums (omega (arith, c.loop-hit-test.true, c.requires.few))
-    c.loop-hit.invariant.small
+add_hit-requires c = farther _ 1073741823 _ (omega (arith, c.loop-hit-test.true, c.requires.few)) c.loop-hit.invariant.small

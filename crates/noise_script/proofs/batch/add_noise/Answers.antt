@@ -1,4 +1,8 @@
-use Rattle.noise_script.proofs.Names.{◌≡◌, ◌∙◌, ◌+◌, ◌-◌, ℕ, true, arith, rules, drawn_offset, word_at, stream_of, Noise, Offset, same_role}
+use Rattle.std.proofs.Common.{◌≡◌, ◌∙◌, ◌+◌, ◌-◌, ℕ, true, arith, rules}
+use Rattle.shared_terms.specs.Role.{same_role}
+use Rattle.noise_script.specs.declared.entry.Noise.{Noise}
+use Rattle.noise_script.specs.declared.offset.Offset.{Offset}
+use Rattle.noise_script.specs.Offsets.{drawn_offset, word_at, stream_of}
 use Rattle.noise_script.proofs.Batched.{begins, goes-on, ends, within-at, noise-small, same-drawn}
 use Rattle.noise_script.proofs.batch.add_noise.Goals as goal
 
@@ -25,9 +29,7 @@ loop-place-preserved c =
       grow = goes-on (same_role noise.role c.args.sender) noise.from noise.count c.args.start (drawn_at noise c.args.start) c.args.sums.now
           c.begin_of-begin.result c.end_of-end.result c.loop-place.place c.loop-place.sums c.plus.result c.drawn_offset.result
           c.begin_of-begin.ensures c.end_of-end.ensures own c.loop-place.auto.place c.loop-place-test.true i.grow
-          (same-drawn noise c.args.sender c.loop-place.own.sender c.loop-place.own.seed c.loop-place.own.place
-          (c.args.start + c.loop-place.place) c.next_word-word.result c.drawn_offset.result own i.seed i.sender i.place
-          c.next_word-word.ensures.word c.drawn_offset.ensures.value)
+          (same-drawn noise _ _ _ _ _ _ _ own i.seed i.sender i.place c.next_word-word.ensures.word c.drawn_offset.ensures.value)
           c.plus.ensures;
       seed = c.next_word-word.ensures.seed ∙ i.seed;
       sender = c.next_word-word.ensures.sender ∙ i.sender;
@@ -36,8 +38,7 @@ loop-place-preserved c =
 
 pub plus-requires-clause-a : goal.plus-requires-clause-a
 plus-requires-clause-a c =
-    within-at 1073741823 _ c.loop-place.place c.args.sums.now c.loop-place.sums c.requires.far c.loop-place.invariant.grow
-    (omega (arith, c.loop-place-test.true, c.end_of-end.ensures))
+    within-at 1073741823 _ _ _ _ c.requires.far c.loop-place.invariant.grow (omega (arith, c.loop-place-test.true, c.end_of-end.ensures))
 
 pub next_word-word-requires : goal.next_word-word-requires
 next_word-word-requires c = omega (arith, c.loop-place.invariant.place, c.loop-place-test.true, c.end_of-end.ensures)

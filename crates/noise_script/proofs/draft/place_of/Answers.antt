@@ -1,5 +1,7 @@
-use Rattle.noise_script.proofs.Names.{◌≡◌, ◌∙◌, ◌++◌, ◌∷◌, [], ℕ, zero, suc, ◌<◌, nat_lt, true, List, length, take, drop, get_or, refl, ap}
-use Rattle.noise_script.proofs.Names.{arith, nat_tests, placed, Break}
+use Rattle.std.proofs.Common.{◌≡◌, ◌∙◌, ◌++◌, ◌∷◌, [], ℕ, zero, suc, ◌<◌, nat_lt, true, List, length, take, drop, get_or, refl, ap, arith}
+use Rattle.std.proofs.lemmas.Bool.Decides.{nat_tests}
+use Rattle.noise_script.specs.declared.entry.Break.{Break}
+use Rattle.noise_script.specs.Breaks.{placed}
 use Rattle.noise_script.proofs.draft.place_of.Goals as goal
 
 -- a line before the first one that is later
@@ -13,6 +15,4 @@ before line (suc at) (next ∷ lines) d h l = before line at lines d (omega (ari
 
 pub returns-then-line-next-clause-place : goal.returns-then-line-next-clause-place
 returns-then-line-next-clause-place c =
-    c.loop-at.invariant
-    ∙ ap (λ rest. take c.loop-at.at c.args.breaks.now ++ rest)
-    (before c.args.line c.loop-at.at c.args.breaks.now _ c.loop-at-test.true c.if-line-next.true)
+    c.loop-at.invariant ∙ ap (λ rest. take c.loop-at.at c.args.breaks.now ++ rest) (before _ _ _ _ c.loop-at-test.true c.if-line-next.true)

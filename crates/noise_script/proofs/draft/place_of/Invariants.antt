@@ -1,4 +1,5 @@
-use Rattle.noise_script.proofs.Names.{◌≡◌, ◌++◌, take, drop, placed}
+use Rattle.std.proofs.Common.{◌≡◌, ◌++◌, take, drop}
+use Rattle.noise_script.specs.Breaks.{placed}
 use Rattle.noise_script.proofs.draft.place_of.Given as goal
 
 abbrev pub invariant-loop-at : goal.invariant-loop-at

@@ -1,4 +1,5 @@
-use Rattle.noise_script.proofs.Names.{◌∙◌, [], ◌∷◌, refl, sym, ap, append-nil, words_of}
+use Rattle.std.proofs.Common.{◌∙◌, [], ◌∷◌, refl, sym, ap, append-nil}
+use Rattle.noise_script.specs.Lines.{words_of}
 use Rattle.noise_script.proofs.Cuts.{line-cut, line-last, blank-first, word-cut, blank-ends}
 use Rattle.noise_script.proofs.laws.cuts.Goals as goal
 
@@ -9,7 +10,6 @@ pub returns-clause-words : goal.returns-clause-words
 returns-clause-words c = record {
   none = refl;
   blank = blank-first;
-  ended = λ word octet line n w b. word-cut word (octet ∷ line) n w (blank-ends octet line b)
-      ∙ ap (λ ws. word ∷ ws) (blank-first octet line b);
-  last = λ word n w. ap words_of (sym (append-nil word)) ∙ word-cut word [] n w refl;
+  ended = λ word octet line n w b. word-cut _ _ n w (blank-ends octet line b) ∙ ap (λ ws. word ∷ ws) (blank-first octet line b);
+  last = λ word n w. ap words_of (sym (append-nil word)) ∙ word-cut _ [] n w refl;
 }

@@ -1,4 +1,5 @@
-use Rattle.noise_script.proofs.Names.{◌++◌, ◌∷◌, [], sym, ap, ◌∙◌, without_return}
+use Rattle.std.proofs.Common.{◌++◌, ◌∷◌, [], sym, ap, ◌∙◌}
+use Rattle.noise_script.specs.Lines.{without_return}
 use Rattle.noise_script.proofs.Cuts.{return-gone, return-kept}
 use Rattle.noise_script.proofs.lines.without_return.Goals as goal
 
@@ -9,5 +10,4 @@ returns-then-last-eq13 c =
 
 pub returns-else-last-eq13 : goal.returns-else-last-eq13
 returns-else-last-eq13 c =
-    sym (ap without_return c.in-Some.ensures.cases.0 ∙ return-kept c.in-Some.front.now c.in-Some.last.now c.if-last-eq13.false
-    ∙ sym c.in-Some.ensures.cases.0)
+    sym (ap without_return c.in-Some.ensures.cases.0 ∙ return-kept _ _ c.if-last-eq13.false ∙ sym c.in-Some.ensures.cases.0)

@@ -17,14 +17,12 @@ overflow_add-value c =
 
 pub loop-octet-preserved : goal.loop-octet-preserved
 loop-octet-preserved c = record {
-  value = digit-more c.args.word.now c.loop-octet.octet-index c.loop-octet.value c.from.result c.loop-octet-test.true
-      c.loop-octet.invariant.value c.from.ensures;
-  digits = digits-more c.args.word.now c.loop-octet.octet-index c.loop-octet-test.true c.loop-octet.invariant.digits
+  value = digit-more _ _ _ _ c.loop-octet-test.true c.loop-octet.invariant.value c.from.ensures;
+  digits = digits-more _ _ c.loop-octet-test.true c.loop-octet.invariant.digits
       (sym c.is_ascii_digit.ensures.value ∙ c.if-not-is_ascii_digit.false);
 }
 
 pub returns-clause-small : goal.returns-clause-small
 returns-clause-small c =
-    let small = front-small c.args.word.now c.loop-octet.octet-index 20 c.loop-octet.invariant.digits c.loop-octet.auto.octet-index-end
-    (omega arith) in
+    let small = front-small _ _ 20 c.loop-octet.invariant.digits c.loop-octet.auto.octet-index-end (omega arith) in
     omega (arith, small, c.loop-octet.invariant.value)

@@ -1,4 +1,5 @@
-use Rattle.noise_script.proofs.Names.{arith, ints}
+use Rattle.std.proofs.Common.{arith}
+use Rattle.std.proofs.lemmas.Int.{ints}
 use Rattle.noise_script.proofs.Sums.{same-offset}
 use Rattle.noise_script.proofs.offset.plus.Goals as goal
 

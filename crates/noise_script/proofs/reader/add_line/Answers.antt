@@ -1,4 +1,6 @@
-use Rattle.noise_script.proofs.Names.{inr, refl, SpellsLine, words_of}
+use Rattle.std.proofs.Common.{inr, refl}
+use Rattle.noise_script.specs.Forms.{SpellsLine}
+use Rattle.noise_script.specs.Lines.{words_of}
 use Rattle.noise_script.proofs.Entries.{holds-more}
 use Rattle.noise_script.proofs.Progress.{too-many, not-full}
 use Rattle.noise_script.proofs.reader.add_line.Goals as goal
@@ -7,8 +9,7 @@ pub returns-then-is_full-clause-fault : goal.returns-then-is_full-clause-fault
 returns-then-is_full-clause-fault c said h a =
     let spelled : SpellsLine (words_of c.args.line.now) c.in-Ok-Some.entry = rw c.in-Ok-Some.field-0-is at c.in-Ok-Some.ensures in (
       refl,
-      inr (too-many said _ c.in-Ok-Some.entry c.form.result c.bound.result c.too_many.result c.is_full.result spelled c.form.ensures
-          c.if-is_full.true (c.is_full.ensures said h a) c.bound.ensures c.too_many.ensures),
+      inr (too-many _ _ _ _ _ _ _ spelled c.form.ensures c.if-is_full.true (c.is_full.ensures said h a) c.bound.ensures c.too_many.ensures),
     )
 
 pub returns-clause-ok : goal.returns-clause-ok

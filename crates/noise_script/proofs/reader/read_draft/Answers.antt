@@ -1,4 +1,8 @@
-use Rattle.noise_script.proofs.Names.{◌≡◌, ◌+◌, length, refl, subst, arith, nat_tests, nil_from_length, err_from_is_err_and, HoldsUpTo}
+use Rattle.std.proofs.Common.{◌≡◌, length, refl, subst, arith}
+use Rattle.std.proofs.lemmas.Bool.Decides.{nat_tests}
+use Rattle.std.proofs.lemmas.List.{nil_from_length}
+use Rattle.std.proofs.lemmas.Result.{err_from_is_err_and}
+use Rattle.noise_script.specs.Draft.{HoldsUpTo}
 use Rattle.noise_script.proofs.Progress.{holds-none, holds-more, fault-of}
 use Rattle.noise_script.proofs.reader.read_draft.Goals as goal
 
@@ -10,9 +14,7 @@ loop-rest-preserved c =
     let h = c.loop-rest.invariant.holds in
     let text = c.args.text.now in
     record {
-      holds = holds-more text c.loop-rest.rest.now c.next_line.result.0.now c.next_line.result.1.now c.loop-rest.number
-          (c.loop-rest.number + 1) c.loop-rest.draft c.add_line.new.draft h c.next_line.ensures.lines refl
-          (c.in_ok-add_line.ensures.ok h.said h.holds h.allowed);
+      holds = holds-more _ _ _ _ _ _ _ _ h c.next_line.ensures.lines refl (c.in_ok-add_line.ensures.ok h.said h.holds h.allowed);
       room = omega (arith, c.loop-rest.invariant.room, c.next_line.ensures.shorter);
     }
 
@@ -23,8 +25,7 @@ pub returns-in_err-add_line-clause-fault : goal.returns-in_err-add_line-clause-f
 returns-in_err-add_line-clause-fault c =
     let h = c.loop-rest.invariant.holds in
     let q = err_from_is_err_and c.from_residual.result c.from_residual.ensures.1 in
-    rw (q.1, q.2) (fault-of c.args.text.now c.loop-rest.rest.now c.next_line.result.0.now c.next_line.result.1.now c.loop-rest.number
-    (c.loop-rest.number + 1) c.loop-rest.draft c.in_err-add_line.field-0.0 h c.next_line.ensures.lines refl
+    rw (q.1, q.2) (fault-of _ _ _ c.next_line.result.1.now _ _ _ _ h c.next_line.ensures.lines refl
     (c.in_err-add_line.ensures.fault h.said h.holds h.allowed))
 
 pub returns-clause-ok : goal.returns-clause-ok

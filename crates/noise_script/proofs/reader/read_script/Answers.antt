@@ -1,6 +1,10 @@
-use Rattle.noise_script.proofs.Names.{◌≡◌, ◌⊎◌, inl, inr, ℕ, List, refl, err_from_is_err_and, ScriptSpelling, FirstFault, IsFaultOf}
-use Rattle.noise_script.proofs.Names.{ScriptValue, ScriptFault, Cause}
+use Rattle.std.proofs.Common.{◌≡◌, ◌⊎◌, inl, inr, ℕ, List, refl}
+use Rattle.std.proofs.lemmas.Result.{err_from_is_err_and}
+use Rattle.shared_terms.specs.declared.cause.Cause.{Cause}
+use Rattle.noise_script.specs.declared.fault.ScriptFault.{ScriptFault}
 use Rattle.noise_script.specs.declared.fault.ScriptFault.TheVariants as faults
+use Rattle.noise_script.specs.Script.{ScriptValue}
+use Rattle.noise_script.specs.Grammar.{ScriptSpelling, FirstFault, IsFaultOf}
 use Rattle.noise_script.proofs.Ranges.{draft-in-limits, read-spelling}
 use Rattle.noise_script.proofs.Unique.{spelling-fault, spelling-once, fault-once}
 use Rattle.noise_script.proofs.reader.read_script.Goals as goal
@@ -30,17 +34,10 @@ pub finish-requires : goal.finish-requires
 finish-requires c = draft-in-limits c.args.text.now c.in_ok-draft.ensures.ok.0 c.in_ok-draft.draft c.in_ok-draft.ensures.ok.1
 
 pub returns-clause-ok : goal.returns-clause-ok
-returns-clause-ok c =
-    read-spelling c.args.text.now c.in_ok-draft.ensures.ok.0 c.in_ok-draft.draft c.finish.result c.in_ok-draft.ensures.ok.1 c.finish.ensures
+returns-clause-ok c = read-spelling _ _ _ _ c.in_ok-draft.ensures.ok.1 c.finish.ensures
 
 pub returns-clause-all : goal.returns-clause-all
-returns-clause-all c script s =
-    spelling-once c.args.text.now c.finish.result script
-    (read-spelling c.args.text.now c.in_ok-draft.ensures.ok.0 c.in_ok-draft.draft c.finish.result c.in_ok-draft.ensures.ok.1
-    c.finish.ensures) s
+returns-clause-all c script s = spelling-once _ _ _ (read-spelling _ _ _ _ c.in_ok-draft.ensures.ok.1 c.finish.ensures) s
 
 pub returns-clause-first : goal.returns-clause-first
-returns-clause-first c line cause s =
-    spelling-fault c.args.text.now c.finish.result line cause
-    (read-spelling c.args.text.now c.in_ok-draft.ensures.ok.0 c.in_ok-draft.draft c.finish.result c.in_ok-draft.ensures.ok.1
-    c.finish.ensures) s
+returns-clause-first c line cause s = spelling-fault _ _ _ _ (read-spelling _ _ _ _ c.in_ok-draft.ensures.ok.1 c.finish.ensures) s

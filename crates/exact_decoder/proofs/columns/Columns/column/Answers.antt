@@ -1,4 +1,5 @@
-use Rattle.exact_decoder.proofs.Names.{◌≡◌, ◌+◌, ◌∷◌, ◌++◌, [], take, arith, sym, subst, choices_of, from_newest, AreColumns}
+use Rattle.std.proofs.Common.{◌≡◌, ◌+◌, ◌∷◌, ◌++◌, [], take, arith, sym, subst}
+use Rattle.exact_decoder.specs.Traced.{choices_of, from_newest, AreColumns}
 use Rattle.exact_decoder.proofs.Walking.{column-here, column-fits}
 use Rattle.exact_decoder.proofs.Rings.{newest-at, columns-long}
 use Rattle.exact_decoder.proofs.columns.Columns.column.Goals as goal
@@ -8,19 +9,17 @@ returns-clause-next g c =
     let items = c.self.inside.items.items in
     let newest = c.self.inside.newest in
     let count = c.self.inside.count in
-    let long = columns-long items newest count c.args.self.now c.self.invariant.1 c.self.view_is in
-    let here = newest-at items newest count c.args.back c.index.result.now c.self.invariant.1 (omega (arith, long, c.requires.within))
-    c.index.ensures in
+    let long = columns-long items _ _ _ c.self.invariant.1 c.self.view_is in
+    let here = newest-at items _ _ _ c.index.result.now c.self.invariant.1 (omega (arith, long, c.requires.within)) c.index.ensures in
     subst (λ l. take (c.args.back + 1) l ≡ take c.args.back l ++ choices_of c.index.result.now ∷ []) c.self.view_is
-    (column-here (from_newest newest count items) c.args.back c.index.result.now here)
+    (column-here (from_newest newest count items) _ c.index.result.now here)
 
 pub returns-clause-column : goal.returns-clause-column
 returns-clause-column g c =
     let items = c.self.inside.items.items in
     let newest = c.self.inside.newest in
     let count = c.self.inside.count in
-    let long = columns-long items newest count c.args.self.now c.self.invariant.1 c.self.view_is in
-    let here = newest-at items newest count c.args.back c.index.result.now c.self.invariant.1 (omega (arith, long, c.requires.within))
-    c.index.ensures in
-    column-fits g.row.STATES g.row.LABELS (from_newest newest count items) c.args.back c.index.result.now here
+    let long = columns-long items _ _ _ c.self.invariant.1 c.self.view_is in
+    let here = newest-at items _ _ _ c.index.result.now c.self.invariant.1 (omega (arith, long, c.requires.within)) c.index.ensures in
+    column-fits _ _ (from_newest newest count items) _ c.index.result.now here
     (subst (AreColumns g.row.STATES g.row.LABELS) (sym c.self.view_is) c.requires.columns)

@@ -1,4 +1,5 @@
-use Rattle.exact_decoder.proofs.Names.{◌≡◌, ℕ, ◌≤◌, length, columns_in, AreColumns}
+use Rattle.std.proofs.Common.{◌≡◌, ℕ, ◌≤◌, length}
+use Rattle.exact_decoder.specs.Traced.{columns_in, AreColumns}
 use Rattle.exact_decoder.proofs.columns.Columns.new.Given as goal
 
 abbrev pub invariant-loop : goal.invariant-loop

@@ -1,6 +1,7 @@
 use Rattle.std.proofs.lemmas.Bool.{eq-eqb}
-use Rattle.exact_decoder.proofs.Names.{◌≡◌, ◌<◌, nat_eq, set, replicate, Some, None, [], length, reverse, refl, ◌∙◌, ap, subst, arith}
-use Rattle.exact_decoder.proofs.Names.{All-same, All-nil, sums_at, decoding_of}
+use Rattle.std.proofs.Common.{◌≡◌, ◌<◌, nat_eq, Some, [], length, reverse, refl, ◌∙◌, ap, subst, arith}
+use Rattle.std.proofs.lemmas.List.Elements.{All-same, All-nil}
+use Rattle.exact_decoder.specs.Columns.{sums_at}
 use Rattle.exact_decoder.specs.Memory.{opened}
 use Rattle.exact_decoder.proofs.Spreading.{spread-start}
 use Rattle.exact_decoder.proofs.Started.{one_start, start-small, start-reached, start-stands}
@@ -16,9 +17,8 @@ invariant_of-result g c =
       low = c.requires.low;
       high = c.requires.high;
       few = omega arith;
-      spread = spread-start t.table g.row.STATES t.REACH c.args.start (sums_at c.in_ok-new.field-0.sums) c.requires.start
-          (ap (λ l. sums_at l c.args.start) sums ∙ start-reached g.row.STATES c.args.start c.requires.start)
-          (λ s m e. start-small g.row.STATES c.args.start c.requires.start s m (subst (λ l. sums_at l s ≡ Some m) sums e));
+      spread = spread-start _ _ _ _ _ c.requires.start (ap (λ l. sums_at l c.args.start) sums ∙ start-reached _ _ c.requires.start)
+          (λ s m e. start-small _ _ c.requires.start _ _ (subst (λ l. sums_at l s ≡ Some m) sums e));
       room = λ e. omega (arith, ap (λ v. v.unreleased) c.in_ok-new.ensures);
       few_unreleased = omega (arith, ap (λ v. v.unreleased) c.in_ok-new.ensures);
       few_pending = omega (arith, ap length none);
@@ -29,7 +29,5 @@ pub returns-clause-stands : goal.returns-clause-stands
 unfolding opened
 returns-clause-stands g c =
     let t = g.C.TrellisCode in
-    start-stands t.table t.points (λ state. nat_eq state c.args.start) g.row.STATES g.row.DEPTH c.args.start
-    (set (replicate g.row.STATES None) c.args.start (Some 0)) (decoding_of c.in_ok-new.field-0 0 c.new-2.result None)
-    (eq-eqb c.args.start c.args.start refl) (one_start g.row.STATES c.args.start c.requires.start) c.in_ok-new.ensures refl
-    (ap reverse c.new-2.ensures) refl
+    start-stands _ _ (λ state. nat_eq state c.args.start) _ _ _ _ _ (eq-eqb c.args.start c.args.start refl)
+    (one_start _ _ c.requires.start) c.in_ok-new.ensures refl (ap reverse c.new-2.ensures) refl

@@ -1,7 +1,9 @@
-use Rattle.exact_decoder.proofs.Names.{◌≡◌, ℕ, ◌+◌, ◌-◌, ◌<◌, ◌≤◌, ◌^◌, ◌++◌, [], ◌∷◌, List, length, take, drop, lit<, Option, None, Some}
-use Rattle.exact_decoder.proofs.Names.{reverse, append_assoc, refl, sym, ◌∙◌, ap, subst, arith, length-take-le, length-reverse}
-use Rattle.exact_decoder.proofs.Names.{take-append-drop, Decoding, decoding_of, IsSound, DecoderStands, Sample}
+use Rattle.std.proofs.Common.{◌≡◌, ℕ, ◌+◌, ◌-◌, ◌<◌, ◌≤◌, ◌^◌, ◌++◌, [], ◌∷◌, List, length, take, drop, lit<, Option, None, Some, reverse}
+use Rattle.std.proofs.Common.{append_assoc, refl, sym, ◌∙◌, ap, subst, arith}
+use Rattle.std.proofs.lemmas.List.{length-take-le, length-reverse, take-append-drop}
+use Rattle.symbol_map.specs.declared.sample.Sample.{Sample}
 use Rattle.exact_decoder.specs.Memory.{opened}
+use Rattle.exact_decoder.specs.Decoder.{Decoding, decoding_of, IsSound, DecoderStands}
 use Rattle.exact_decoder.proofs.Keeping.{All-turned}
 use Rattle.exact_decoder.proofs.Pushed.{Pushed, stands-goes_on, stands-lost, stands-stays}
 use Rattle.exact_decoder.proofs.Batches.{heard-within, heard-fit, some-heard}
@@ -20,8 +22,7 @@ empty-turned (x ∷ l) e = absurd (omega (arith, ap length e, length-reverse (x 
 
 pub returns-in-Some-clause-stands : goal.returns-in-Some-clause-stands
 returns-in-Some-clause-stands g c = λ starts past taken h.
-    stands-stays g.C.TrellisCode.table g.C.TrellisCode.points g.row.DEPTH starts c.args.samples.now c.args.self.now past taken
-    c.in-Some.symbol (ap (λ v. v.lost) (sym c.self.view_is) ∙ c.in-Some.is) h
+    stands-stays _ _ _ _ _ _ _ _ _ (ap (λ v. v.lost) (sym c.self.view_is) ∙ c.in-Some.is) h
 
 pub overflow_sub-unreleased : goal.overflow_sub-unreleased
 unfolding opened
@@ -31,8 +32,7 @@ pub returns-then-heard-eq0-clause-some : goal.returns-then-heard-eq0-clause-some
 unfolding opened
 returns-then-heard-eq0-clause-some g c = λ some.
     let room : 1 ≤ g.row.DEPTH + 1 - c.unreleased.result = omega (arith, c.unreleased.ensures, c.self.invariant.room c.in_default.is) in
-    let one = some-heard (length c.args.samples.now) (g.row.DEPTH + 1 - c.unreleased.result) c.min-heard.result c.min-heard.ensures room
-    some in
+    let one = some-heard _ _ _ c.min-heard.ensures room some in
     absurd (omega (arith, one, c.if-heard-eq0.true))
 
 pub push_each-requires : goal.push_each-requires
@@ -87,9 +87,7 @@ module _ (g : Over) (c : After-release g) where
   room = g.row.DEPTH + 1 - c.unreleased.result
 
   long : length hears ≡ c.min-heard.result
-  long =
-      length-take-le c.min-heard.result c.args.samples.now (heard-within (length c.args.samples.now) room c.min-heard.result
-      c.min-heard.ensures)
+  long = length-take-le c.min-heard.result c.args.samples.now (heard-within _ _ _ c.min-heard.ensures)
 
   few : c.self.inside.count + length hears ≤ 2 ^ 56
   few =
@@ -106,10 +104,8 @@ module _ (g : Over) (c : After-release g) where
   next : (lost : Option ℕ) → (lost ≡ None → c.release.new.self.unreleased ≤ g.row.DEPTH)
       → IsSound g.C.TrellisCode.table g.row.STATES g.row.LABELS g.C.TrellisCode.REACH g.row.DEPTH (behind lost)
   unfolding opened
-  next lost = sound-next g.C.TrellisCode.table g.C.TrellisCode.points g.row.STATES g.row.LABELS g.C.TrellisCode.REACH g.row.DEPTH hears
-      before (behind lost) c.push_each.new.self (reverse c.release.new.labels) c.self.invariant few fits
-      (ap (λ n. c.self.inside.count + n) (sym long)) c.push_each.ensures.stepped c.release.ensures.released refl
-      (All-turned (λ x. x < g.row.LABELS) c.release.new.labels c.release.ensures.below)
+  next lost = sound-next _ _ _ _ _ _ _ _ _ _ _ c.self.invariant few fits (ap (λ n. c.self.inside.count + n) (sym long))
+      c.push_each.ensures.stepped c.release.ensures.released refl (All-turned (λ x. x < g.row.LABELS) _ c.release.ensures.below)
 
   pushed : (lost : Option ℕ) → Pushed g.C.TrellisCode.table g.C.TrellisCode.points g.row.STATES g.C.TrellisCode.REACH hears before
       (behind lost)
@@ -140,9 +136,7 @@ returns-then-unreleased-clause-stands g c = λ starts past taken h.
     taken c.in_default.is (fits g m) (pushed g m (Some last)) was last (omega (arith, c.if-heard-eq0.false)) refl
     (omega (arith, c.if-unreleased.true, c.unreleased-2.ensures)) in
     subst (λ l. DecoderStands t.table t.points starts g.row.DEPTH (behind g m (Some last)) l taken)
-    (whole past c.args.samples.now c.min-heard.result)
-    (stands-stays t.table t.points g.row.DEPTH starts (drop c.min-heard.result c.args.samples.now) (behind g m (Some last))
-    (past ++ hears g m) taken last refl lost)
+    (whole past c.args.samples.now c.min-heard.result) (stands-stays _ _ _ _ (drop c.min-heard.result c.args.samples.now) _ _ _ _ refl lost)
 
 pub invariant_of-self-else-unreleased : goal.invariant_of-self-else-unreleased
 unfolding opened

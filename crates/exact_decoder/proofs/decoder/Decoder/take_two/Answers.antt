@@ -1,5 +1,6 @@
-use Rattle.exact_decoder.proofs.Names.{sym, ap, subst, Decoding, decoding_of, DecoderStands}
+use Rattle.std.proofs.Common.{sym, ap, subst}
 use Rattle.exact_decoder.specs.Memory.{opened}
+use Rattle.exact_decoder.specs.Decoder.{Decoding, decoding_of, DecoderStands}
 use Rattle.exact_decoder.proofs.Taken.{sound-popped-two, popped-two-first, stands-popped-two}
 use Rattle.exact_decoder.proofs.decoder.Decoder.take_two.Goals as goal
 
@@ -7,8 +8,7 @@ pub invariant_of-self : goal.invariant_of-self
 unfolding opened
 invariant_of-self g c =
     let t = g.C.TrellisCode in
-    (sound-popped-two t.table g.row.STATES g.row.LABELS t.REACH g.row.DEPTH c.self.inside.survivors c.self.inside.count
-    c.self.inside.pending c.pop_two.new.self c.self.inside.lost c.pop_two.result c.pop_two.ensures c.self.invariant).0
+    (sound-popped-two _ _ _ _ _ _ _ _ _ _ _ c.pop_two.ensures c.self.invariant).0
 
 pub returns : goal.returns
 unfolding opened
@@ -19,11 +19,8 @@ returns g c =
     record {
       stands = λ starts samples taken h.
           let was = subst (λ v. DecoderStands t.table t.points starts g.row.DEPTH v samples taken) (sym c.self.view_is) h in
-          stands-popped-two t.table t.points g.row.DEPTH starts c.self.inside.survivors c.self.inside.count c.self.inside.pending
-          c.pop_two.new.self c.self.inside.lost samples taken c.pop_two.result c.pop_two.ensures was;
-      first = popped-two-first c.self.inside.survivors c.self.inside.count c.self.inside.pending c.pop_two.new.self c.self.inside.lost
-          c.pop_two.result c.args.self.now c.self.view_is c.pop_two.ensures;
+          stands-popped-two _ _ _ _ _ _ _ _ _ _ _ _ c.pop_two.ensures was;
+      first = popped-two-first _ _ _ _ _ _ _ c.self.view_is c.pop_two.ensures;
       rest = ap (λ (v : Decoding). record v { pending = new.pending }) c.self.view_is;
-      bound = (sound-popped-two t.table g.row.STATES g.row.LABELS t.REACH g.row.DEPTH c.self.inside.survivors c.self.inside.count
-          c.self.inside.pending c.pop_two.new.self c.self.inside.lost c.pop_two.result c.pop_two.ensures c.self.invariant).1;
+      bound = (sound-popped-two _ _ _ _ _ _ _ _ _ _ _ c.pop_two.ensures c.self.invariant).1;
     }

@@ -1,5 +1,6 @@
-use Rattle.exact_decoder.proofs.Names.{◌≡◌, ◌∙◌, ℕ, List, Option, IfOk, map, lit<, replicate, set, None, Some, sym, ap, subst, sum_in, Kept}
-use Rattle.exact_decoder.proofs.Names.{AreSums}
+use Rattle.std.proofs.Common.{◌≡◌, ◌∙◌, ℕ, List, Option, IfOk, map, lit<, replicate, set, None, Some, sym, ap, subst}
+use Rattle.exact_decoder.specs.Columns.{sum_in}
+use Rattle.exact_decoder.specs.Kept.{Kept, AreSums}
 use Rattle.exact_decoder.proofs.Started.{start_kept}
 use Rattle.exact_decoder.proofs.Keeping.{start-sums, start-are}
 use Rattle.exact_decoder.proofs.kept.Survivors.new.Goals as goal
@@ -9,8 +10,7 @@ with_sums-requires g c = (
   lit< tt,
   (
     subst (λ n. AreSums g.row.STATES (set c.in_ok-sums.sums.items c.args.start n)) (sym c.from.ensures)
-        (start-are g.row.STATES c.args.start c.in_ok-sums.sums.items c.requires.few c.requires.start c.in_ok-sums.ensures.0
-        c.in_ok-sums.ensures.1),
+        (start-are _ _ _ c.requires.few c.requires.start c.in_ok-sums.ensures.0 c.in_ok-sums.ensures.1),
     (c.requires.labels, c.requires.depth),
   ),
 )
@@ -18,9 +18,7 @@ with_sums-requires g c = (
 pub returns : goal.returns
 returns g c =
     let sums : map sum_in (set c.in_ok-sums.sums.items c.args.start c.from.result) ≡ set (replicate g.row.STATES None) c.args.start
-    (Some 0) =
-    ap (λ n. map sum_in (set c.in_ok-sums.sums.items c.args.start n)) c.from.ensures
-    ∙ start-sums g.row.STATES c.args.start c.in_ok-sums.sums.items c.requires.few c.requires.start c.in_ok-sums.ensures.0
-    c.in_ok-sums.ensures.1 in
+    (Some 0) = ap (λ n. map sum_in (set c.in_ok-sums.sums.items c.args.start n)) c.from.ensures ∙ start-sums _ _ _ c.requires.few
+    c.requires.start c.in_ok-sums.ensures.0 c.in_ok-sums.ensures.1 in
     subst (λ (l : List (Option ℕ)). IfOk c.with_sums.result (λ s. let k : Kept = start_kept g.row.STATES l in s ≡ k)) sums
     c.with_sums.ensures

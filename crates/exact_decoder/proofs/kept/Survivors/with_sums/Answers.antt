@@ -1,4 +1,5 @@
-use Rattle.exact_decoder.proofs.Names.{map, ap, arith, sum_in}
+use Rattle.std.proofs.Common.{map, ap, arith}
+use Rattle.exact_decoder.specs.Columns.{sum_in}
 use Rattle.exact_decoder.proofs.Keeping.{start-tails}
 use Rattle.exact_decoder.proofs.kept.Survivors.with_sums.Goals as goal
 
@@ -14,5 +15,4 @@ invariant_of-result g c = record {
 }
 
 pub returns : goal.returns
-returns g c = ap (λ l. record { sums = map sum_in c.args.sums.items; tails = l; unreleased = 0 })
-    (start-tails g.row.STATES c.in_ok-ring.ring)
+returns g c = ap (λ l. record { sums = map sum_in c.args.sums.items; tails = l; unreleased = 0 }) (start-tails _ c.in_ok-ring.ring)

@@ -18,17 +18,15 @@ front xs = get_or (xs ++ xs) 0 0 ∷ get_or (xs ++ xs) 1 0 ∷ get_or (xs ++ xs)
 fronts : (live xs : List ℕ) → length live ≡ 8 → length xs ≡ 16 → (s : ℕ) → s < 8 → slice_index (put_chunk 0 live (front xs)) s ≡
     slice_index xs s
 fronts live xs long xs_long s l =
-    ap (λ ys. slice_index ys s) (put_chunk_whole live (front xs) long)
-    ∙ each_of_eight (λ s. slice_index (front xs) s ≡ get_or (xs ++ xs) s 0) refl refl refl refl refl refl refl refl s l
-    ∙ lane xs s xs_long (omega arith)
+    ap (λ ys. slice_index ys s) (put_chunk_whole live (front xs) long) ∙ each_of_eight
+    (λ s. slice_index (front xs) s ≡ get_or (xs ++ xs) s 0) refl refl refl refl refl refl refl refl _ l ∙ lane _ _ xs_long (omega arith)
 
 -- the label of each state of the list
 abbrev label : List ℕ → ℕ → ℕ
 label xs i = get_or (xs ++ xs) (i + 8) 0
 
 pub returns-then-is_one-clause-before : goal.returns-then-is_one-clause-before
-returns-then-is_one-clause-before c s l =
-    fronts c.args.live.now c.taken_at-taken.result (omega arith) c.taken_at-taken.ensures.long s l ∙ c.taken_at-taken.ensures.before s l
+returns-then-is_one-clause-before c s l = fronts _ _ (omega arith) c.taken_at-taken.ensures.long _ l ∙ c.taken_at-taken.ensures.before s l
 
 pub returns-then-is_one-clause-label : goal.returns-then-is_one-clause-label
 returns-then-is_one-clause-label c s l =
@@ -38,8 +36,7 @@ returns-then-is_one-clause-label c s l =
     sym (c.taken_at-taken.ensures.labels s l) ∙ sym (lane taken (s + 8) c.taken_at-taken.ensures.long (omega arith)) ∙ all-one n told s l
 
 pub returns-else-is_one-clause-before : goal.returns-else-is_one-clause-before
-returns-else-is_one-clause-before c s l =
-    fronts c.args.live.now c.taken_at-taken.result (omega arith) c.taken_at-taken.ensures.long s l ∙ c.taken_at-taken.ensures.before s l
+returns-else-is_one-clause-before c s l = fronts _ _ (omega arith) c.taken_at-taken.ensures.long _ l ∙ c.taken_at-taken.ensures.before s l
 
 pub returns-else-is_one-clause-label : goal.returns-else-is_one-clause-label
 returns-else-is_one-clause-label c =

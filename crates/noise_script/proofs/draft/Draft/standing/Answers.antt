@@ -1,5 +1,9 @@
-use Rattle.noise_script.proofs.Names.{◌∙◌, refl, sym, ap, length, kind_of, standing, whole, each, delays_said, tries_said, window_said}
-use Rattle.noise_script.proofs.Names.{length_said, loss_said, hit_said, noise_said, break_said, pause_said, breaks_in, Entry, Offered}
+use Rattle.std.proofs.Common.{◌∙◌, refl, sym, ap, length}
+use Rattle.noise_script.specs.declared.offered.Offered.{Offered}
+use Rattle.noise_script.specs.Grammar.{standing, whole, each, delays_said, tries_said, window_said, length_said, loss_said, hit_said}
+use Rattle.noise_script.specs.Grammar.{noise_said, break_said, pause_said}
+use Rattle.noise_script.specs.Forms.{kind_of}
+use Rattle.noise_script.specs.declared.entry.Entry.{Entry}
 use Rattle.noise_script.specs.declared.forms.Form.TheVariants as forms
 use Rattle.noise_script.proofs.Order.{in_order-length}
 use Rattle.noise_script.proofs.Entries.{counted-once, counted-flag, offered-held, counts-delay, counts-tries, counts-window, counts-length}
@@ -18,9 +22,8 @@ returns-in-Hit c said h a =
 
 pub returns-in-Noise : goal.returns-in-Noise
 returns-in-Noise c said h a =
-    c.len-in-Noise.ensures ∙ c.args.self.now.noises.ok.0 ∙ ap length h.noises
-    ∙ sym (standing-said (whole forms.Noise) noise_said counts-noise said)
-    ∙ ap (λ (e : Entry). standing (kind_of e) said) (sym c.in-Noise.is)
+    c.len-in-Noise.ensures ∙ c.args.self.now.noises.ok.0 ∙ ap length h.noises ∙ sym
+    (standing-said (whole forms.Noise) noise_said counts-noise _) ∙ ap (λ (e : Entry). standing (kind_of e) said) (sym c.in-Noise.is)
 
 pub returns-in-Busy : goal.returns-in-Busy
 returns-in-Busy c said h a =
@@ -29,9 +32,8 @@ returns-in-Busy c said h a =
 
 pub returns-in-Break : goal.returns-in-Break
 returns-in-Break c said h a =
-    c.len-in-Break.ensures ∙ c.args.self.now.breaks.ok.0 ∙ ap length h.breaks ∙ in_order-length (breaks_in said)
-    ∙ sym (standing-said (whole forms.Break) break_said counts-break said)
-    ∙ ap (λ (e : Entry). standing (kind_of e) said) (sym c.in-Break.is)
+    c.len-in-Break.ensures ∙ c.args.self.now.breaks.ok.0 ∙ ap length h.breaks ∙ in_order-length _ ∙ sym
+    (standing-said (whole forms.Break) break_said counts-break _) ∙ ap (λ (e : Entry). standing (kind_of e) said) (sym c.in-Break.is)
 
 pub returns-in-Delay : goal.returns-in-Delay
 returns-in-Delay c said h a =
@@ -60,13 +62,11 @@ returns-in-Length c said h a =
 pub returns-in-Srej : goal.returns-in-Srej
 returns-in-Srej c said h a =
     let role = c.in-Srej.role in
-    let held = ap (λ (o : Offered). o.srej) (c.offered-in-Srej.ensures ∙ offered-held c.args.self.now said h role) in
-    counted-flag (each forms.Srej role) refl said a c.args.entry
-    (ap kind_of c.in-Srej.is) c.offered-in-Srej.result.srej held _ c.from-in-Srej.ensures
+    let held = ap (λ (o : Offered). o.srej) (c.offered-in-Srej.ensures ∙ offered-held _ _ h _) in
+    counted-flag _ refl _ a _ (ap kind_of c.in-Srej.is) _ held _ c.from-in-Srej.ensures
 
 pub returns-in-Check32 : goal.returns-in-Check32
 returns-in-Check32 c said h a =
     let role = c.in-Check32.role in
-    let held = ap (λ (o : Offered). o.check32) (c.offered-in-Check32.ensures ∙ offered-held c.args.self.now said h role) in
-    counted-flag (each forms.Check32 role) refl said a c.args.entry
-    (ap kind_of c.in-Check32.is) c.offered-in-Check32.result.check32 held _ c.from-in-Check32.ensures
+    let held = ap (λ (o : Offered). o.check32) (c.offered-in-Check32.ensures ∙ offered-held _ _ h _) in
+    counted-flag _ refl _ a _ (ap kind_of c.in-Check32.is) _ held _ c.from-in-Check32.ensures

@@ -1,10 +1,13 @@
-use Rattle.noise_script.proofs.Names.{arith, ◌≡◌, ◌∙◌, Bool, true, false, not, List, refl, sym, ap, ◌&&◌, false≢true, list_any, meets}
-use Rattle.noise_script.proofs.Names.{ScriptValue, Hit, Noise, same_role}
+use Rattle.std.proofs.Common.{◌∙◌, Bool, List, sym, ap, ◌&&◌}
+use Rattle.std.specs.List.{list_any}
+use Rattle.std.proofs.lemmas.Bool.{not-true}
+use Rattle.shared_terms.specs.Role.{same_role}
+use Rattle.noise_script.specs.declared.entry.Hit.{Hit}
+use Rattle.noise_script.specs.declared.entry.Noise.{Noise}
+use Rattle.noise_script.specs.Offsets.{meets}
+use Rattle.noise_script.specs.Script.{ScriptValue}
 use Rattle.noise_script.proofs.Still.{still}
 use Rattle.noise_script.proofs.script.Script.is_still.Goals as goal
-
-none-of : (b : Bool) → not b ≡ true → b ≡ false
-none-of q0 e = grind (arith)
 
 pub returns : goal.returns
 returns c = λ e.
@@ -15,4 +18,4 @@ returns c = λ e.
     let hits = ap any_hit (sym (c.deref.ensures.value ∙ ap (λ (v : ScriptValue). v.hits) c.self.view_is)) in
     let noises = ap any_noise (sym (c.deref-2.ensures.value ∙ ap (λ (v : ScriptValue). v.noises) c.self.view_is)) in
     still c.args.self.now c.args.sender c.args.from c.args.count (hits ∙ sym c.some_hit.ensures ∙ c.if-some_hit.false)
-    (noises ∙ sym c.some_noise.ensures ∙ none-of c.some_noise.result e)
+    (noises ∙ sym c.some_noise.ensures ∙ not-true c.some_noise.result e)
