@@ -1,5 +1,6 @@
 -- What is computed is a run by the definitions.
-use Rattle.std.proofs.Common.{arith, ◌≡◌, ℕ, zero, suc, ◌-◌, Bool, cond, true, false, List, [], ◌∷◌, length, refl, ap, Option, Some, None, Result}
+use Rattle.std.proofs.Common.{arith, ◌≡◌, ℕ, zero, suc, ◌-◌, Bool, cond, true, false, List, [], ◌∷◌, length, refl, ap, Option, Some, None}
+use Rattle.std.proofs.Common.{Result}
 use Rattle.std.proofs.Common.{Ok, Err}
 use Rattle.std.specs.Prelude.{is_ok}
 use Rattle.shared_terms.specs.declared.role.Role.{Role}

@@ -155,9 +155,15 @@ same-lasts script dlci b d delays link rounds (Ended ts ends end left) s h =
     let few : length h.ran.turns ≤ rounds = omega (arith, ap length h.turns_are, h.before) in
     let near : SameBelow (length h.ran.turns) b d = fewer (length h.ran.turns) rounds b d few s in
     let e = same-end script dlci b d delays link h.ran.turns h.ran.ends end left near h.by_link h.ran.ended in
-    assumption (same-run script dlci b d delays link h.ran.turns h.ran.ends near h.ran.run, e.mid_is ∙ h.ends_are,
-        same-idles script dlci b d delays ends (rounds - suc (length ts)) ts (fewer (rounds - suc (length ts) + length ts) rounds b d (omega (arith,
-        h.before)) s) h.idles)
+    assumption (
+      same-run script dlci b d delays link h.ran.turns h.ran.ends near h.ran.run,
+      e.mid_is ∙ h.ends_are,
+      same-idles script dlci b d delays ends (rounds - suc (length ts)) ts (fewer (rounds - suc (length ts) + length ts) rounds b d
+          (omega (
+            arith,
+            h.before,
+          )) s) h.idles,
+    )
 
 -- slots of earlier rounds stay as they are
 pub slot-stays : (dlci : ℕ) (role : Role) (t : Turn) (ts : List Turn) (round : ℕ) → round < length ts

@@ -63,8 +63,10 @@ pub record Phases (l : Limits) (old mid now next : FolderState) (n : RunNames) (
 takes : (old mid now next : FolderState) (n : RunNames) (script : ScriptValue) (files : Both (List ℕ))
     → Phases LIMITS old mid now next n script → KnowsFiles next n.names files → Takes LIMITS old n script files
 takes old mid now next n script files p k =
-    assumption (file-is old next n.names.orig files.orig LIMITS.file on kept.0 p.begun.opens.files.0 (omega arith) k.orig,
-        file-is old next n.names.answ files.answ LIMITS.file on kept.1.0 p.begun.opens.files.1.0 (omega arith) k.answ)
+    assumption (
+      file-is old next n.names.orig files.orig LIMITS.file on kept.0 p.begun.opens.files.0 (omega arith) k.orig,
+      file-is old next n.names.answ files.answ LIMITS.file on kept.1.0 p.begun.opens.files.1.0 (omega arith) k.answ,
+    )
   where
     on : GoesOn old next
     on = GoesOn-trans p.begun.reads.goes_on (GoesOn-trans p.creates.goes_on p.turns.goes_on)

@@ -24,7 +24,8 @@ content_octet-left-requires-clause-fits c =
     let i = c.loop-octet.octet-index in
     let octets = c.args.octets.now in
     let split = octets-split octets i (omega arith) in
-    next-fits start now (bits_of (take i octets)) c.args.room c.loop-octet.left c.requires.some c.loop-octet.invariant.left c.loop-octet.invariant.bits
+    next-fits start now (bits_of (take i octets)) c.args.room c.loop-octet.left c.requires.some c.loop-octet.invariant.left
+    c.loop-octet.invariant.bits
     (octet_bits (get_or octets i 0)) (bits_of (drop (i + 1) octets)) (4 * SLOT)
     (subst (λ t. length start + length (stuffed c.args.room t) ≤ 4 * SLOT) (sym split) c.requires.fits)
 
@@ -48,8 +49,18 @@ loop-octet-preserved c =
 
 pub returns-clause-some : goal.returns-clause-some
 returns-clause-some c =
-    omega (arith, c.loop-octet.invariant.left, (room_behind-in c.args.room (bits_of (take c.loop-octet.octet-index c.args.octets.now)) c.requires.few).0)
+    omega (
+      arith,
+      c.loop-octet.invariant.left,
+      (room_behind-in c.args.room (bits_of
+          (take c.loop-octet.octet-index c.args.octets.now)) c.requires.few).0,
+    )
 
 pub returns-clause-few : goal.returns-clause-few
 returns-clause-few c =
-    omega (arith, c.loop-octet.invariant.left, (room_behind-in c.args.room (bits_of (take c.loop-octet.octet-index c.args.octets.now)) c.requires.few).1)
+    omega (
+      arith,
+      c.loop-octet.invariant.left,
+      (room_behind-in c.args.room (bits_of
+          (take c.loop-octet.octet-index c.args.octets.now)) c.requires.few).1,
+    )

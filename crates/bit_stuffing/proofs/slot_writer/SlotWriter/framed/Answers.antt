@@ -18,6 +18,7 @@ returns-clause-stands c = λ slots h.
     let before = subst (λ (w : Writer). WriterStands w slots) (sym c.self.view_is) h in
     record {
       phase_is = writer-behind c.self.inside.symbols c.self.inside.phase _ frame _ slots
-          (c.frame.ensures ∙ ap (λ (t : List Bool). t ++ framed frame) c.opened-pen.ensures) c.fill-self-inside.ensures.phase before.phase_is;
+          (c.frame.ensures ∙ ap (λ (t : List Bool). t ++ framed frame) c.opened-pen.ensures) c.fill-self-inside.ensures.phase
+          before.phase_is;
       low = omega (arith, c.fill-self-inside.ensures.phase);
     }

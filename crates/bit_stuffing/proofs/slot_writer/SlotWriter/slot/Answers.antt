@@ -15,7 +15,8 @@ returns-in-None-clause-bits c =
     let frame : Option (List ℕ) = option_copied c.args.frame in
     let room = subst (λ (w : Writer). length (opening w.phase frame) ≤ 4 * (w.symbols - TAIL)) (sym c.self.view_is) c.requires.room in
     let bits = slot-written c.self.inside.symbols c.self.inside.phase frame _ c.fill-self-inside.new.self c.fill-self-inside.new.out
-    (omega arith) (opening-none c.self.inside.phase frame _ (rw c.in-None.is refl) c.opened-flags.ensures) c.fill-self-inside.ensures.written in
+    (omega arith) (opening-none c.self.inside.phase frame _ (rw c.in-None.is refl) c.opened-flags.ensures)
+    c.fill-self-inside.ensures.written in
     subst (λ (w : Writer). line_bits c.fill-self-inside.new.out ≡ slot_bits (4 * w.symbols) w.phase (Flags frame)) c.self.view_is bits
 
 pub returns-in-None-clause-stands : goal.returns-in-None-clause-stands
@@ -24,6 +25,7 @@ returns-in-None-clause-stands c = λ slots h.
     let before = subst (λ (w : Writer). WriterStands w slots) (sym c.self.view_is) h in
     record {
       phase_is = writer-behind c.self.inside.symbols c.self.inside.phase _ frame _ slots
-          (opening-none c.self.inside.phase frame _ (rw c.in-None.is refl) c.opened-flags.ensures) c.fill-self-inside.ensures.phase before.phase_is;
+          (opening-none c.self.inside.phase frame _ (rw c.in-None.is refl) c.opened-flags.ensures) c.fill-self-inside.ensures.phase
+          before.phase_is;
       low = omega (arith, c.fill-self-inside.ensures.phase);
     }
