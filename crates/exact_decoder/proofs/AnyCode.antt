@@ -1,21 +1,17 @@
 -- What the laws of any code's table make of its survivors, whatever the states that sequences start in.
-use Rattle.std.proofs.Common.{◌≡◌, ℕ, zero, suc, ◌+◌, ◌<◌, ◌≤◌, ◌⊎◌, inl, inr, nat_lt, Bool, true, false, ◌&&◌, List, [], ◌∷◌, ◌++◌, length}
-use Rattle.std.proofs.Common.{map, take, drop, arith, length-append, append_assoc, refl, sym, ◌∙◌, ap, subst, Option, Some, None}
-use Rattle.std.proofs.lemmas.Bool.{cases_lt, cases_eq, lt-ltb, ltb-true, and_parts, and_from, false≢true}
-use Rattle.std.proofs.lemmas.List.{take-take, take-append-drop, take-append-le, take_all, length-take-le}
-use Rattle.symbol_map.specs.declared.sample.Sample.{Sample}
-use Rattle.symbol_map.specs.Distance.{distance_of}
+use Rattle.exact_decoder.proofs.Names.{◌≡◌, ℕ, zero, suc, ◌+◌, ◌<◌, ◌≤◌, ◌⊎◌, inl, inr, nat_lt, Bool, true, false, ◌&&◌, List, [], ◌∷◌}
+use Rattle.exact_decoder.proofs.Names.{◌++◌, length, map, take, drop, arith, length-append, append_assoc, refl, sym, ◌∙◌, ap, subst, Option}
+use Rattle.exact_decoder.proofs.Names.{Some, None, cases_lt, cases_eq, lt-ltb, ltb-true, and_parts, false≢true, take-take, take-append-drop}
+use Rattle.exact_decoder.proofs.Names.{take-append-le, take_all, length-take-le, heard, Beats, IsSurvivor, IsReleased, IsLost, LostIs}
+use Rattle.exact_decoder.proofs.Names.{Trellis, trellis_of, IsSequence, HasLaws, IsPrefixOf, distance_of, Sample, IsBounded, StaysWithin}
+use Rattle.exact_decoder.proofs.Names.{EntersOnce, Reaches, Leads, cost}
+use Rattle.std.proofs.lemmas.Bool.{and_from}
 use Rattle.symbol_map.proofs.Distances.{equal_from_no_distance, no_distance_from_equal}
-use Rattle.trellis_tables.specs.Sequences.{Leads, IsCodeSequence, cost}
-use Rattle.trellis_tables.specs.Codes.{IsBounded, StaysWithin, EntersOnce, Reaches, PointsDiffer}
+use Rattle.trellis_tables.specs.Sequences.{IsCodeSequence}
+use Rattle.trellis_tables.specs.Codes.{PointsDiffer}
 use Rattle.trellis_tables.proofs.Sequences.{Leads-take}
-use Rattle.shared_terms.specs.Prefix.{IsPrefixOf}
-use Rattle.exact_decoder.specs.Surviving.Orders.{Beats}
-use Rattle.exact_decoder.specs.Surviving.Trellises.{Trellis, trellis_of, IsSequence, HasLaws}
-use Rattle.exact_decoder.specs.Surviving.Survivors.{IsSurvivor, IsReleased, IsLost, LostIs}
 use Rattle.exact_decoder.proofs.Surviving.Fronts.{stays-prefix, released-once, lost-once, lost-stays, over-before}
 use Rattle.exact_decoder.proofs.Surviving.Least.{some-released, released-is_least}
-use Rattle.exact_decoder.specs.Decoder.{heard}
 use Rattle.exact_decoder.specs.Laws.{AreStarts, IsOnlyLeast, OnlySentIsLeast, ReleasesSent, DecoderReleasesLeast, DecoderReleasesStay}
 use Rattle.exact_decoder.specs.Laws.{DecodersAgree, FewUnreleased}
 

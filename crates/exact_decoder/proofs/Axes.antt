@@ -1,11 +1,9 @@
 -- Lines of the map: squared distances along an axis, less what all points have in common.
-use Rattle.std.proofs.Common.{◌≡◌, ℕ, ◌+◌, ◌-◌, ◌*◌, ◌<◌, ◌≤◌, ◌^◌, inl, inr, refl, arith}
-use Rattle.std.specs.Prelude.{ℤ, pos, neg_ℤ, ◌-ℤ◌, ◌*ℤ◌, unsigned_abs}
-use Rattle.std.proofs.lemmas.Int.{ints}
-use Rattle.std.proofs.lemmas.Bool.{cases_lt}
+use Rattle.exact_decoder.proofs.Names.{◌≡◌, ℕ, ◌+◌, ◌-◌, ◌*◌, ◌<◌, ◌≤◌, ◌^◌, inl, inr, refl, arith, cases_lt, ints, ℤ, pos, ◌-ℤ◌, ◌*ℤ◌}
+use Rattle.exact_decoder.proofs.Names.{unsigned_abs, coordinate, squared_gap}
+use Rattle.std.specs.Prelude.{neg_ℤ}
 use Rattle.std.proofs.lemmas.Nat.{mul-le}
-use Rattle.symbol_map.specs.Distance.{squared_gap}
-use Rattle.exact_decoder.specs.Lines.{below, above, coordinate}
+use Rattle.exact_decoder.specs.Lines.{below, above}
 
 -- the square of a difference
 ahead : (x d : ℕ) → d * d + 2 * ((x + d) * x) ≡ (x + d) * (x + d) + x * x

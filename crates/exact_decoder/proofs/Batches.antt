@@ -1,14 +1,9 @@
 -- Several samples more.
-use Rattle.std.proofs.Common.{◌≡◌, ℕ, ◌+◌, ◌≤◌, min, inl, inr, List, [], ◌∷◌, ◌++◌, length, Option, arith, append_assoc}
-use Rattle.std.proofs.Common.{length-append, sym, subst}
-use Rattle.std.proofs.lemmas.Bool.{cases_lt}
-use Rattle.std.proofs.lemmas.List.{append-nil}
-use Rattle.std.proofs.Math.Nat.{min-le_left, min-le_right, min-eq_left, min-eq_right}
-use Rattle.symbol_map.specs.declared.sample.Sample.{Sample}
-use Rattle.trellis_tables.specs.Codes.{IsBounded, StaysWithin, Reaches, EntersOnce}
-use Rattle.exact_decoder.specs.Surviving.Trellises.{trellis_of}
-use Rattle.exact_decoder.specs.Kept.{Kept, KeepsSurvivors, Stepped}
-use Rattle.exact_decoder.specs.Batches.{IsSmallAfter, SteppedEach}
+use Rattle.exact_decoder.proofs.Names.{◌≡◌, ℕ, ◌+◌, ◌≤◌, min, inl, inr, List, [], ◌∷◌, ◌++◌, length, Option, arith, append_assoc}
+use Rattle.exact_decoder.proofs.Names.{length-append, sym, subst, min-le_left, min-le_right, min-eq_left, min-eq_right, cases_lt}
+use Rattle.exact_decoder.proofs.Names.{append-nil, SteppedEach, Kept, KeepsSurvivors, Stepped, trellis_of, Sample, IsBounded, StaysWithin}
+use Rattle.exact_decoder.proofs.Names.{Reaches, EntersOnce}
+use Rattle.exact_decoder.specs.Batches.{IsSmallAfter}
 use Rattle.exact_decoder.proofs.Pushed.{keeps-stepped}
 use Rattle.exact_decoder.proofs.Spreading.{spread-next}
 

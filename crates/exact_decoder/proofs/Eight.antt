@@ -1,16 +1,9 @@
 -- The least keys of eight states, each of 32 bits, stand for those of the definition.
-use Rattle.std.proofs.Common.{◌≡◌, ℕ, zero, suc, ◌+◌, ◌-◌, ◌*◌, ◌/◌, ◌%◌, ◌<◌, ◌≤◌, ◌^◌, min, inl, inr, List, [], ◌∷◌, slice_index, refl}
-use Rattle.std.proofs.Common.{arith, sym, ◌∙◌, ap, subst}
-use Rattle.std.specs.Simd.Lanes.{zip2}
-use Rattle.std.proofs.Math.Nat.{min-le_left, min-le_right}
-use Rattle.symbol_map.specs.Points.{point_of}
-use Rattle.trellis_tables.specs.Ways.{way_before, way_subset}
-use Rattle.exact_decoder.specs.Keys.{IsNearest, AreClose, IsLeastWay}
-use Rattle.exact_decoder.specs.Settled.{far_key, leveled, choice_in, chosen}
-use Rattle.exact_decoder.specs.Advances.{Advances}
-use Rattle.exact_decoder.specs.Lines.{least_four, words, sample_at, nearest_000, nearest_001, nearest_010, nearest_011, nearest_100}
-use Rattle.exact_decoder.specs.Lines.{nearest_101, nearest_110, nearest_111}
-use Rattle.exact_decoder.specs.Traced.{choice_by}
+use Rattle.exact_decoder.proofs.Names.{◌≡◌, ℕ, zero, suc, ◌+◌, ◌-◌, ◌*◌, ◌/◌, ◌%◌, ◌<◌, ◌≤◌, ◌^◌, min, inl, inr, List, [], ◌∷◌, slice_index}
+use Rattle.exact_decoder.proofs.Names.{refl, arith, sym, ◌∙◌, ap, subst, min-le_left, min-le_right, zip2, Advances, IsNearest, AreClose}
+use Rattle.exact_decoder.proofs.Names.{IsLeastWay, least_four, words, sample_at, nearest_000, nearest_001, nearest_010, nearest_011}
+use Rattle.exact_decoder.proofs.Names.{nearest_100, nearest_101, nearest_110, nearest_111, far_key, leveled, choice_in, chosen, choice_by}
+use Rattle.exact_decoder.proofs.Names.{point_of, way_before, way_subset}
 use Rattle.exact_decoder.proofs.Keeping.{leveled-near, settled-near}
 use Rattle.exact_decoder.proofs.Vectors.{each_of_four, each_of_eight}
 use Rattle.exact_decoder.proofs.Subsets.{min-one}

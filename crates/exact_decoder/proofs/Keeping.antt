@@ -1,27 +1,20 @@
 -- What is kept of the survivors, over sums and columns.
-use Rattle.std.proofs.Common.{◌≡◌, ◌≢◌, ℕ, zero, suc, ◌+◌, ◌-◌, ◌*◌, ◌/◌, ◌%◌, ◌^◌, ◌<◌, ◌≤◌, ◌⊎◌, inl, inr, Bool, true}
-use Rattle.std.proofs.Common.{List, [], ◌∷◌, ◌++◌, length, map, take, reverse, All, get_or, slice_index, set, replicate, Option, Some, None}
-use Rattle.std.proofs.Common.{option_map, arith, add-one, refl, sym, ◌∙◌, ap, subst}
+use Rattle.exact_decoder.proofs.Names.{◌≡◌, ◌≢◌, ℕ, zero, suc, ◌+◌, ◌-◌, ◌*◌, ◌/◌, ◌%◌, ◌^◌, ◌<◌, ◌≤◌, ◌⊎◌, inl, inr, Bool, true, List, []}
+use Rattle.exact_decoder.proofs.Names.{◌∷◌, ◌++◌, length, map, take, reverse, All, get_or, slice_index, set, replicate, Option, Some, None}
+use Rattle.exact_decoder.proofs.Names.{option_map, arith, refl, sym, ◌∙◌, ap, subst, cases_lt, cases_eq, lt-ltb, le-ltb, common_steps}
+use Rattle.exact_decoder.proofs.Names.{take_at, length-reverse, reverse-append, length-replicate, length-take-le, All-take, All-same}
+use Rattle.exact_decoder.proofs.Names.{All-push, All-head, All-tail, same_Some, Advances, Entry, branch_of, sum_of, sum_in, entry_in}
+use Rattle.exact_decoder.proofs.Names.{sums_at, tail_at, entry_at, new_sums_at, kept_of, HoldsColumns, AreSums, AllChosen, Stepped, Covered}
+use Rattle.exact_decoder.proofs.Names.{IsParted, Released, IsLeastSum, IsLeastKeyOf, far_key, leveled, chosen, choice_in, choice_at}
+use Rattle.exact_decoder.proofs.Names.{Chooses, trellis_of, traced, IsColumn, AreColumns, Splits, Choice, distance_of, Sample, Reaches}
+use Rattle.exact_decoder.proofs.Names.{Leads}
+use Rattle.std.proofs.Common.{add-one}
 use Rattle.std.specs.List.{range_with_len}
-use Rattle.std.proofs.lemmas.Grind.{common_steps}
-use Rattle.std.proofs.lemmas.Bool.{cases_lt, cases_eq, lt-ltb, le-ltb}
-use Rattle.std.proofs.lemmas.List.{take_at, append_cancel_left, length-reverse, reverse-reverse, reverse-append, length-set}
-use Rattle.std.proofs.lemmas.List.{length-replicate, length-take-le}
+use Rattle.std.proofs.lemmas.List.{append_cancel_left, reverse-reverse, length-set}
 use Rattle.std.proofs.lemmas.List.FromFn.{get_or-map-range_with_len}
-use Rattle.std.proofs.lemmas.List.Elements.{All-cons, All-take, All-same, All-push, All-head, All-tail}
-use Rattle.std.proofs.lemmas.Option.{same_Some}
-use Rattle.symbol_map.specs.declared.sample.Sample.{Sample}
-use Rattle.symbol_map.specs.Distance.{distance_of}
-use Rattle.trellis_tables.specs.Sequences.{Leads}
-use Rattle.trellis_tables.specs.Codes.{Reaches}
-use Rattle.exact_decoder.specs.Surviving.Trellises.{trellis_of}
-use Rattle.exact_decoder.specs.Surviving.Steps.{Chooses}
-use Rattle.exact_decoder.specs.declared.choice.Choice.{Choice}
-use Rattle.exact_decoder.specs.Settled.{IsLeastKeyOf, far_key, leveled, settled, chosen, choice_in, choice_at}
-use Rattle.exact_decoder.specs.Advances.{Advances}
-use Rattle.exact_decoder.specs.Columns.{Entry, branch_of, sum_of, sum_in, entry_in, sums_at, tail_at, entry_at, new_sums_at}
-use Rattle.exact_decoder.specs.Traced.{traced, IsColumn, AreColumns, Part, Splits}
-use Rattle.exact_decoder.specs.Kept.{kept_of, HoldsColumns, AreSums, AllChosen, Stepped, Covered, IsParted, Released, IsLeastSum}
+use Rattle.std.proofs.lemmas.List.Elements.{All-cons}
+use Rattle.exact_decoder.specs.Settled.{settled}
+use Rattle.exact_decoder.specs.Traced.{Part}
 use Rattle.exact_decoder.proofs.Subsets.{label-within, set-index, set-index_here}
 use Rattle.exact_decoder.proofs.Stepping.{IsCode, AreKeys, map-at, map-past, sum-near, entry-near, entry-far, known-at, key-parts}
 use Rattle.exact_decoder.proofs.Stepping.{chosen-all}

@@ -1,6 +1,5 @@
 -- Lanes of the nearest labels of squares.
-use Rattle.std.proofs.Common.{◌≡◌, ℕ, min, ◌+◌, ◌-◌, ◌*◌, ◌%◌, ◌<◌, arith}
-use Rattle.exact_decoder.specs.Lines.{nearest_010, nearest_011, nearest_100, nearest_101}
+use Rattle.exact_decoder.proofs.Names.{◌≡◌, ℕ, min, ◌+◌, ◌-◌, ◌*◌, ◌%◌, ◌<◌, arith, nearest_010, nearest_011, nearest_100, nearest_101}
 
 pub lane-010 : (x y : ℕ) → x < 65536 → y < 65536
     → (min (x * 512 + 17825856) ((65535 - x) * 512 + 17826384) + min ((65535 - y) * 768 + 10748672) (y * 256 + 25427976)) % 4294967296

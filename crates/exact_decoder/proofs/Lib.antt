@@ -1,3 +1,4 @@
+mod Names
 pub mod Surviving
 pub mod Rings
 pub mod Subsets

@@ -1,12 +1,8 @@
 -- Keys of 32 bits stand for those of the definition.
-use Rattle.std.proofs.Common.{◌≡◌, ℕ, ℤ, zero, suc, ◌+◌, ◌*◌, ◌<◌, ◌≤◌, ◌^◌, inl, inr, refl, arith, ◌∙◌}
-use Rattle.std.specs.Prelude.{pos}
-use Rattle.std.proofs.lemmas.Bool.{cases_lt}
-use Rattle.symbol_map.specs.Distance.{distance_of, squared_gap}
-use Rattle.symbol_map.specs.Points.{point_of}
-use Rattle.exact_decoder.specs.Keys.{IsNearest, AreClose}
-use Rattle.exact_decoder.specs.Lines.{least_four, coordinate, sample_at, nearest_000, nearest_001, nearest_010, nearest_011}
-use Rattle.exact_decoder.specs.Lines.{nearest_100, nearest_101, nearest_110, nearest_111}
+use Rattle.exact_decoder.proofs.Names.{◌≡◌, ℕ, zero, suc, ◌+◌, ◌*◌, ◌<◌, ◌≤◌, ◌^◌, inl, inr, refl, arith, ◌∙◌, cases_lt, pos, IsNearest}
+use Rattle.exact_decoder.proofs.Names.{AreClose, least_four, coordinate, sample_at, nearest_000, nearest_001, nearest_010, nearest_011}
+use Rattle.exact_decoder.proofs.Names.{nearest_100, nearest_101, nearest_110, nearest_111, distance_of, squared_gap, point_of}
+use Rattle.std.proofs.Common.{ℤ}
 use Rattle.exact_decoder.proofs.Vectors.{each_of_four}
 use Rattle.exact_decoder.proofs.Axes.{IsLine, below-1, below-2, below-3, below-4, above-0, above-1, above-2, above-3, above-4}
 

@@ -1,11 +1,7 @@
 -- Sums that keys of 32 bits have.
-use Rattle.std.proofs.Common.{◌≡◌, ℕ, ◌+◌, ◌-◌, ◌*◌, ◌/◌, ◌%◌, ◌^◌, ◌<◌, ◌≤◌, Bool, true, nat_eq, List, [], ◌∷◌, arith, ◌∙◌}
-use Rattle.std.proofs.Common.{ap, bit_and, slice_index}
-use Rattle.std.specs.Simd.Lanes.{mask_l}
-use Rattle.std.proofs.Math.Bool.{cond}
-use Rattle.std.proofs.lemmas.Bool.{eqb-true}
-use Rattle.std.proofs.lemmas.Nat.{and_mask, and_block}
-use Rattle.exact_decoder.specs.Lines.{IsNarrow}
+use Rattle.exact_decoder.proofs.Names.{◌≡◌, ℕ, ◌+◌, ◌-◌, ◌*◌, ◌/◌, ◌%◌, ◌^◌, ◌<◌, ◌≤◌, Bool, true, nat_eq, List, [], ◌∷◌, arith, ◌∙◌, ap}
+use Rattle.exact_decoder.proofs.Names.{bit_and, slice_index, cond, eqb-true, and_mask, mask_l, IsNarrow}
+use Rattle.std.proofs.lemmas.Nat.{and_block}
 
 -- a word of which no bit is in the mask
 pub narrow-word : (word state : ℕ) → word < 2 ^ 62 → word % 65536 ≡ state → bit_and word 18444492274164236288 ≡ 0 → IsNarrow word state

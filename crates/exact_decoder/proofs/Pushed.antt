@@ -1,24 +1,15 @@
 -- The decoder after more samples.
-use Rattle.std.proofs.Common.{◌≡◌, ℕ, ◌+◌, ◌-◌, ◌<◌, ◌≤◌, inl, inr, Bool, List, [], ◌∷◌, ◌++◌, length, take, Option, Some, None, option_map}
-use Rattle.std.proofs.Common.{arith, append_assoc, length-append, refl, sym, ◌∙◌, ap, subst}
-use Rattle.std.proofs.lemmas.Bool.{cases_lt}
+use Rattle.exact_decoder.proofs.Names.{◌≡◌, ℕ, ◌+◌, ◌-◌, ◌<◌, ◌≤◌, inl, inr, Bool, List, [], ◌∷◌, ◌++◌, length, take, Option, Some, None}
+use Rattle.exact_decoder.proofs.Names.{option_map, arith, append_assoc, length-append, refl, sym, ◌∙◌, ap, subst, cases_lt, append-nil}
+use Rattle.exact_decoder.proofs.Names.{take-append-le, take_all, SteppedEach, Entry, entry_at, branch_of, sums_at, branches_at, new_sums_at}
+use Rattle.exact_decoder.proofs.Names.{tail_at, Decoding, DecoderStands, heard, Kept, IsParted, KeepsSurvivors, Stepped, Released}
+use Rattle.exact_decoder.proofs.Names.{KnowsState, Keeps, GoesOn, IsSurvivor, IsCommon, IsReleased, IsOver, IsLost, LostIs, Trellis}
+use Rattle.exact_decoder.proofs.Names.{trellis_of, IsPrefixOf, Sample, IsBounded, EntersOnce, cost}
 use Rattle.std.proofs.Math.Seq.{take-append-add}
-use Rattle.std.proofs.lemmas.List.{append-nil, take-append-le, take_all}
-use Rattle.symbol_map.specs.declared.sample.Sample.{Sample}
-use Rattle.trellis_tables.specs.Sequences.{cost}
-use Rattle.trellis_tables.specs.Codes.{IsBounded, EntersOnce}
-use Rattle.shared_terms.specs.Prefix.{IsPrefixOf}
-use Rattle.exact_decoder.specs.Surviving.Trellises.{Trellis, trellis_of}
-use Rattle.exact_decoder.specs.Surviving.Survivors.{IsSurvivor, IsCommon, IsReleased, IsOver, IsLost, LostIs}
-use Rattle.exact_decoder.specs.Surviving.Steps.{KnowsState, Keeps, GoesOn}
 use Rattle.exact_decoder.proofs.Surviving.Columns.{Keeps-more, kept, known}
 use Rattle.exact_decoder.proofs.Surviving.Release.{survivor-one, prefix-parted}
 use Rattle.exact_decoder.proofs.Surviving.Fronts.{released-once, stays-prefix, over-before, lost-stays}
-use Rattle.exact_decoder.specs.Columns.{Entry, entry_at, branch_of, sums_at, branches_at, new_sums_at, tail_at}
-use Rattle.exact_decoder.specs.Kept.{Kept, IsParted, KeepsSurvivors, Stepped, Released}
 use Rattle.exact_decoder.specs.Memory.{opened}
-use Rattle.exact_decoder.specs.Batches.{SteppedEach}
-use Rattle.exact_decoder.specs.Decoder.{Decoding, DecoderStands, heard}
 
 pub none-some : {P : Type 0} (symbol : ℕ) → ◌≡◌ {A = Option ℕ} None (Some symbol) → P
 none-some symbol e = cc

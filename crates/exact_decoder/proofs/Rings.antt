@@ -1,11 +1,8 @@
 -- Items from the newest one on.
-use Rattle.std.proofs.Common.{◌≡◌, ℕ, zero, suc, ◌+◌, ◌-◌, ◌<◌, ◌≤◌, List, [], ◌∷◌, length, take, drop, set, get_or, slice_get, Some, arith}
-use Rattle.std.proofs.Common.{refl, sym, ◌∙◌, ap}
-use Rattle.std.proofs.lemmas.Grind.{common_steps}
-use Rattle.std.proofs.lemmas.List.{drop-set, take-map, length-map}
-use Rattle.exact_decoder.specs.declared.choice.Choice.{Choice}
-use Rattle.exact_decoder.specs.declared.column.Column.{Column}
-use Rattle.exact_decoder.specs.Traced.{choices_of, columns_in, from_newest}
+use Rattle.exact_decoder.proofs.Names.{◌≡◌, ℕ, zero, suc, ◌+◌, ◌-◌, ◌<◌, ◌≤◌, List, [], ◌∷◌, length, take, drop, set, get_or, slice_get}
+use Rattle.exact_decoder.proofs.Names.{Some, arith, refl, sym, ◌∙◌, ap, common_steps, take-map, choices_of, columns_in, from_newest, Choice}
+use Rattle.exact_decoder.proofs.Names.{Column}
+use Rattle.std.proofs.lemmas.List.{drop-set, length-map}
 
 get-drop : {A : Type 0} (n : ℕ) (xs : List A) (i j : ℕ) → j ≡ n + i → slice_get (drop n xs) i ≡ slice_get xs j
 get-drop zero xs i j e = ap (slice_get xs) (omega arith)

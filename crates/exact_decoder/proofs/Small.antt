@@ -1,7 +1,6 @@
 -- bounds of keys
-use Rattle.std.proofs.Common.{ℕ, ◌<◌, arith}
-use Rattle.exact_decoder.specs.Lines.{least_four, nearest_000, nearest_001, nearest_010, nearest_011, nearest_100}
-use Rattle.exact_decoder.specs.Lines.{nearest_101, nearest_110, nearest_111}
+use Rattle.exact_decoder.proofs.Names.{ℕ, ◌<◌, arith, least_four, nearest_000, nearest_001, nearest_010, nearest_011, nearest_100}
+use Rattle.exact_decoder.proofs.Names.{nearest_101, nearest_110, nearest_111}
 
 first-small : (a b c d n : ℕ) → a < n → least_four a b c d < n
 first-small a b c d n h = omega arith

@@ -1,22 +1,12 @@
 -- How far sums are apart.
-use Rattle.std.proofs.Common.{◌≡◌, ℕ, zero, suc, ◌+◌, ◌-◌, ◌*◌, ◌^◌, ◌<◌, ◌≤◌, min, inl, inr, true, List, [], ◌∷◌, length, All, Option}
-use Rattle.std.proofs.Common.{Some, None, option_map, arith, length-append, refl, sym, ◌∙◌, ap, subst}
-use Rattle.std.proofs.lemmas.Bool.{cases_lt}
-use Rattle.std.proofs.Math.Nat.{min-le_left, min-eq_left, min-eq_right}
-use Rattle.std.proofs.lemmas.Option.{same_Some}
-use Rattle.symbol_map.specs.declared.sample.Sample.{Sample}
-use Rattle.symbol_map.specs.Distance.{distance_of}
-use Rattle.trellis_tables.specs.Sequences.{Leads}
-use Rattle.trellis_tables.specs.Codes.{IsBounded, StaysWithin, Reaches}
-use Rattle.trellis_tables.proofs.Sequences.{Leads-front}
-use Rattle.exact_decoder.specs.Surviving.Trellises.{Trellis, trellis_of}
-use Rattle.exact_decoder.specs.Surviving.Steps.{Enters, Chooses}
+use Rattle.exact_decoder.proofs.Names.{◌≡◌, ℕ, zero, suc, ◌+◌, ◌-◌, ◌*◌, ◌^◌, ◌<◌, ◌≤◌, min, inl, inr, true, List, [], ◌∷◌, length, All}
+use Rattle.exact_decoder.proofs.Names.{Option, Some, None, option_map, arith, length-append, refl, sym, ◌∙◌, ap, subst, min-le_left}
+use Rattle.exact_decoder.proofs.Names.{min-eq_left, min-eq_right, cases_lt, same_Some, SteppedEach, Entry, branch_of, sum_of, sums_at}
+use Rattle.exact_decoder.proofs.Names.{entry_at, new_sums_at, Decoding, IsSound, Kept, AllChosen, Stepped, Released, Enters, Chooses}
+use Rattle.exact_decoder.proofs.Names.{Trellis, trellis_of, distance_of, Sample, Leads-front, IsBounded, StaysWithin, Reaches, Leads}
 use Rattle.exact_decoder.proofs.Surviving.Snoc.{snoc_of}
-use Rattle.exact_decoder.specs.Columns.{Entry, branch_of, sum_of, sums_at, entry_at, new_sums_at}
-use Rattle.exact_decoder.specs.Kept.{Kept, AllChosen, Stepped, Released}
 use Rattle.exact_decoder.specs.Memory.{opened}
-use Rattle.exact_decoder.specs.Decoder.{Decoding, IsNearAfter, IsSpread, IsSound}
-use Rattle.exact_decoder.specs.Batches.{SteppedEach}
+use Rattle.exact_decoder.specs.Decoder.{IsNearAfter, IsSpread}
 
 -- an entry with the sum that stands
 entered-some : {X : Type 0} (c : Trellis X) (d : X) (sums : ℕ → Option ℕ) (s m : ℕ) (entry : Option Entry)

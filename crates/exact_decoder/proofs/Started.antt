@@ -1,19 +1,11 @@
 -- A decoder before its first sample.
-use Rattle.std.proofs.Common.{◌≡◌, ◌≢◌, ℕ, ◌<◌, ◌≤◌, nat_eq, nat_lt, inl, inr, Bool, true, false, if◌then◌else◌}
-use Rattle.std.proofs.Common.{List, [], ◌++◌, length, get_or, replicate, set, Option, Some, None, arith, refl, sym, ◌∙◌, ap, subst}
-use Rattle.std.proofs.lemmas.Grind.{common_steps}
-use Rattle.std.proofs.lemmas.Bool.{cases_lt, lt-ltb, le-ltb, eqb-true, eqb-false}
+use Rattle.exact_decoder.proofs.Names.{◌≡◌, ◌≢◌, ℕ, ◌<◌, ◌≤◌, nat_eq, nat_lt, inl, inr, Bool, true, false, if◌then◌else◌, List, [], ◌++◌}
+use Rattle.exact_decoder.proofs.Names.{length, get_or, replicate, set, Option, Some, None, arith, refl, sym, ◌∙◌, ap, subst, cases_lt}
+use Rattle.exact_decoder.proofs.Names.{lt-ltb, le-ltb, eqb-true, eqb-false, common_steps, length-replicate, sums_at, tail_at, Decoding}
+use Rattle.exact_decoder.proofs.Names.{DecoderStands, heard, Kept, KeepsSurvivors, Keeps, IsReleased, LostIs, Trellis, trellis_of, Sample}
 use Rattle.std.proofs.lemmas.Bool.Decides.{nat_tests}
-use Rattle.std.proofs.lemmas.List.{length-replicate}
-use Rattle.symbol_map.specs.declared.sample.Sample.{Sample}
-use Rattle.exact_decoder.specs.Surviving.Trellises.{Trellis, trellis_of}
-use Rattle.exact_decoder.specs.Surviving.Survivors.{IsReleased, LostIs}
-use Rattle.exact_decoder.specs.Surviving.Steps.{Keeps}
 use Rattle.exact_decoder.proofs.Surviving.Columns.{Keeps-start}
-use Rattle.exact_decoder.specs.Columns.{sums_at, tail_at}
-use Rattle.exact_decoder.specs.Kept.{Kept, KeepsSurvivors}
 use Rattle.exact_decoder.specs.Memory.{opened}
-use Rattle.exact_decoder.specs.Decoder.{Decoding, DecoderStands, heard}
 use Rattle.exact_decoder.proofs.Pushed.{released-of}
 
 pub get_or-replicate : {X : Type 0} (n i : ℕ) (x d : X) → i < n → get_or (replicate n x) i d ≡ x

@@ -1,15 +1,12 @@
 -- The decoder after a label is taken, and at its end.
-use Rattle.std.proofs.Common.{◌≡◌, ℕ, ◌<◌, Bool, List, [], ◌∷◌, ◌++◌, length, drop, reverse, All, Option, Some, None, IfSome, MatchOption}
-use Rattle.std.proofs.Common.{option_to_list, append_assoc, refl, sym, ◌∙◌, ap, subst, arith}
-use Rattle.std.proofs.lemmas.List.{append-nil, reverse-append, length-reverse}
-use Rattle.std.proofs.lemmas.List.Elements.{All-head, All-tail, All-same}
-use Rattle.symbol_map.specs.declared.sample.Sample.{Sample}
-use Rattle.exact_decoder.specs.Surviving.Trellises.{trellis_of}
-use Rattle.exact_decoder.specs.Surviving.Survivors.{IsReleased, IsFirstLeast}
-use Rattle.exact_decoder.specs.Columns.{tail_at}
-use Rattle.exact_decoder.specs.Kept.{Kept, KeepsSurvivors, IsLeastSum}
+use Rattle.exact_decoder.proofs.Names.{◌≡◌, ℕ, ◌<◌, Bool, List, [], ◌∷◌, ◌++◌, length, drop, reverse, All, Option, Some, None, append_assoc}
+use Rattle.exact_decoder.proofs.Names.{refl, sym, ◌∙◌, ap, subst, arith, append-nil, reverse-append, length-reverse, All-head, All-tail}
+use Rattle.exact_decoder.proofs.Names.{All-same, tail_at, Decoding, decoding_of, IsSound, DecoderStands, heard, Kept, KeepsSurvivors}
+use Rattle.exact_decoder.proofs.Names.{IsLeastSum, IsReleased, IsFirstLeast, trellis_of, Sample}
+use Rattle.std.proofs.Common.{IfSome, MatchOption}
+use Rattle.std.proofs.Common.{option_to_list}
 use Rattle.exact_decoder.specs.Memory.{opened}
-use Rattle.exact_decoder.specs.Decoder.{Decoding, decoding_of, IsSound, DecoderStands, heard, two_in}
+use Rattle.exact_decoder.specs.Decoder.{two_in}
 use Rattle.exact_decoder.proofs.Least.{final-of}
 
 pub stands-taken : (table : ℕ → ℕ → Option ℕ) (points : ℕ → Sample) (depth : ℕ) (starts : ℕ → Bool) (d new : Decoding)

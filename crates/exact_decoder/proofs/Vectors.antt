@@ -1,7 +1,6 @@
 -- Lanes of vectors.
-use Rattle.std.proofs.Common.{◌≡◌, ℕ, zero, suc, ◌+◌, ◌*◌, ◌<◌, List, [], ◌∷◌, ◌++◌, length, slice_index, arith, refl, ap, ◌∙◌}
-use Rattle.std.specs.Simd.Lanes.{pick_l}
-use Rattle.exact_decoder.specs.Lines.{words}
+use Rattle.exact_decoder.proofs.Names.{◌≡◌, ℕ, zero, suc, ◌+◌, ◌*◌, ◌<◌, List, [], ◌∷◌, ◌++◌, length, slice_index, arith, refl, ap, ◌∙◌}
+use Rattle.exact_decoder.proofs.Names.{pick_l, words}
 
 -- a function of two vectors
 pub both : {A : Type 0} (f : List ℕ → List ℕ → A) (a p b q : List ℕ) → a ≡ p → b ≡ q → f a b ≡ f p q

@@ -1,18 +1,11 @@
 -- Sums of a batch to which lines add their parts, one by one.
-use Rattle.std.proofs.Common.{◌≡◌, ◌∙◌, ℕ, ◌+◌, ◌-◌, ◌<◌, ◌≤◌, ◌&&◌, inl, inr, min, Bool, true, false, if◌then◌else◌, List, length, take}
-use Rattle.std.proofs.Common.{map, get_or, set, refl, sym, ap, subst, arith, length-set}
-use Rattle.std.proofs.lemmas.Int.{ints}
-use Rattle.std.proofs.lemmas.Bool.{cases_lt}
-use Rattle.std.proofs.lemmas.Bool.Decides.{nat_tests}
+use Rattle.noise_script.proofs.Names.{◌≡◌, ◌∙◌, ℕ, ◌+◌, ◌-◌, ◌<◌, ◌≤◌, ◌&&◌, inl, inr, Bool, true, false, if◌then◌else◌, List, length, take}
+use Rattle.noise_script.proofs.Names.{map, get_or, refl, sym, ap, subst, arith, length-set, cases_lt, nat_tests, ints, at_place, Grow}
+use Rattle.noise_script.proofs.Names.{AreWithin, plus, sum_of, nothing, IsWithin, IsQuiet, covers, hit_offset, noise_offset, drawn_offset}
+use Rattle.noise_script.proofs.Names.{word_at, stream_of, Hit, Noise, Offset, same_role, Role}
+use Rattle.std.proofs.Common.{min}
+use Rattle.std.proofs.Common.{set}
 use Rattle.std.proofs.lemmas.Grind.{common_steps}
-use Rattle.shared_terms.specs.declared.role.Role.{Role}
-use Rattle.shared_terms.specs.Role.{same_role}
-use Rattle.noise_script.specs.declared.entry.Hit.{Hit}
-use Rattle.noise_script.specs.declared.entry.Noise.{Noise}
-use Rattle.noise_script.specs.declared.offset.Offset.{Offset}
-use Rattle.noise_script.specs.Offsets.{plus, sum_of, nothing, IsWithin, IsQuiet, covers, hit_offset, noise_offset, drawn_offset, word_at}
-use Rattle.noise_script.specs.Offsets.{stream_of}
-use Rattle.noise_script.specs.Batches.{at_place, Grow, AreWithin}
 use Rattle.noise_script.proofs.Sums.{same-offset, sum_of-next, plus-assoc, within-far}
 
 nothing-more : (a : Offset) → plus a nothing ≡ a

@@ -1,12 +1,9 @@
 -- The decimal digits of a number are a word that is read as a number, whose value it is.
-use Rattle.std.proofs.Common.{◌≡◌, ℕ, ◌^◌, ◌<◌, ◌≤◌, Bool, true, ◌&&◌, nat_le, List, [], ◌∷◌, refl, arith}
+use Rattle.noise_script.proofs.Names.{◌≡◌, ℕ, ◌^◌, ◌<◌, ◌≤◌, Bool, true, ◌&&◌, nat_le, List, [], ◌∷◌, refl, arith, and_parts, nat_tests}
+use Rattle.noise_script.proofs.Names.{list_all, is_digit, is_number, value_of}
 use Rattle.std.specs.Prelude.{decimal}
-use Rattle.std.specs.List.{list_all}
-use Rattle.std.proofs.lemmas.Bool.{and_parts}
-use Rattle.std.proofs.lemmas.Bool.Decides.{nat_tests}
 use Rattle.std.proofs.lemmas.Fmt.{decimal_nonempty, digits_decimal, length-decimal-le}
 use Rattle.std.proofs.lemmas.Str.Parse.{IsDigitsTest, IsNumeralModel, numerals_by_weight}
-use Rattle.noise_script.specs.Numbers.{is_digit, is_number, value_of}
 
 abbrev pub AllDigits : List ℕ → Type 0
 AllDigits word = list_all is_digit word ≡ true

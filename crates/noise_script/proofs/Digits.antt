@@ -1,13 +1,11 @@
 -- Numbers by their digits.
-use Rattle.std.proofs.Common.{◌≡◌, ℕ, suc, ◌+◌, ◌-◌, ◌*◌, ◌^◌, ◌<◌, ◌≤◌, true, leb, List, [], ◌∷◌, ◌++◌, length, take, get_or, refl, ap}
-use Rattle.std.proofs.Common.{◌∙◌, arith, length-append, length-take}
-use Rattle.std.proofs.lemmas.Bool.{and_parts, leb-true}
-use Rattle.std.proofs.lemmas.List.{take_more}
+use Rattle.noise_script.proofs.Names.{◌≡◌, ℕ, suc, ◌+◌, ◌-◌, ◌*◌, ◌^◌, ◌<◌, ◌≤◌, true, List, [], ◌∷◌, ◌++◌, length, take, get_or, refl, ap}
+use Rattle.noise_script.proofs.Names.{◌∙◌, arith, length-append, and_parts, leb-true, take_more, list_all, is_digit, value_of}
+use Rattle.std.proofs.Common.{leb}
+use Rattle.std.proofs.Common.{length-take}
 use Rattle.std.proofs.lemmas.List.Folds.{list_all_more}
 use Rattle.std.proofs.Math.Nat.{pow-le-pow_right}
 use native.Mathlib.Nat.{pow-suc}
-use Rattle.std.specs.List.{list_all}
-use Rattle.noise_script.specs.Numbers.{is_digit, value_of}
 
 pub value-snoc : (digits : List ℕ) (digit : ℕ) → value_of (digits ++ digit ∷ []) ≡ 10 * value_of digits + (digit - 48)
 value-snoc [] digit = omega arith

@@ -1,25 +1,16 @@
 -- What lines say, one line more at a time.
-use Rattle.std.proofs.Common.{◌≡◌, ℕ, ◌+◌, ◌<◌, ◌≤◌, Bool, true, false, ◌||◌, cond, List, [], ◌∷◌, ◌++◌, length, filter_map, Option}
-use Rattle.std.proofs.Common.{Some, None, is_some, refl, sym, ap, subst, ◌∙◌, arith, append-nil}
-use Rattle.std.specs.List.{cons_option}
+use Rattle.noise_script.proofs.Names.{◌≡◌, ℕ, ◌+◌, ◌<◌, ◌≤◌, Bool, true, false, ◌||◌, cond, List, [], ◌∷◌, ◌++◌, length, filter_map, Option}
+use Rattle.noise_script.proofs.Names.{Some, None, refl, sym, ap, subst, ◌∙◌, arith, append-nil, and_parts, cons_option, placed, placed_each}
+use Rattle.noise_script.proofs.Names.{in_order, Holds, Kind, row, kind_of, most, same_kind, standing, AreAllowed, whole, each, first}
+use Rattle.noise_script.proofs.Names.{delays_said, tries_said, window_said, length_said, loss_said, hit_said, noise_said, break_said}
+use Rattle.noise_script.proofs.Names.{pause_said, breaks_in, offered_in, Draft, Break, Entry, Form, Offered, same_role, Role, Originator}
+use Rattle.noise_script.proofs.Names.{Answerer}
+use Rattle.std.proofs.Common.{is_some}
 use Rattle.std.proofs.lemmas.List.Elements.{filter_map-append}
-use Rattle.std.proofs.lemmas.Bool.{and_parts}
 use mir.Val.{bool_byte}
-use Rattle.shared_terms.specs.declared.role.Role.{Role}
-use Rattle.shared_terms.specs.declared.role.Role.TheVariants.{Originator, Answerer}
-use Rattle.shared_terms.specs.Role.{same_role}
-use Rattle.noise_script.specs.declared.entry.Break.{Break}
-use Rattle.noise_script.specs.declared.entry.Entry.{Entry}
-use Rattle.noise_script.specs.declared.forms.Form.{Form}
 use Rattle.noise_script.specs.declared.forms.Form.TheVariants as forms
-use Rattle.noise_script.specs.declared.offered.Offered.{Offered}
-use Rattle.noise_script.specs.declared.draft.Draft.{Draft}
-use Rattle.noise_script.specs.Forms.{Kind, row, kind_of, most}
-use Rattle.noise_script.specs.Breaks.{placed, placed_each, in_order}
-use Rattle.noise_script.specs.Grammar.{same_form, same_counted, same_kind, standing, AreAllowed, whole, each, stands, first, delays_said}
-use Rattle.noise_script.specs.Grammar.{tries_said, window_said, length_said, loss_said, hit_said, noise_said, break_said, pause_said}
-use Rattle.noise_script.specs.Grammar.{breaks_in, offered_in}
-use Rattle.noise_script.specs.Draft.{Holds, Adds, or_before, offered_of, offered_after, placed_said}
+use Rattle.noise_script.specs.Grammar.{same_form, same_counted, stands}
+use Rattle.noise_script.specs.Draft.{Adds, or_before, offered_of, offered_after, placed_said}
 
 -- kinds
 

@@ -1,22 +1,16 @@
 -- Each text spells a script or has a first fault.
-use Rattle.std.proofs.Common.{◌≡◌, ◌≢◌, ◌⊎◌, inl, inr, ℕ, ◌+◌, ◌<◌, ◌≤◌, true, false, ◌<ℤ◌, ◌≤ℤ◌, List, [], ◌∷◌, ◌++◌, length, refl, sym}
-use Rattle.std.proofs.Common.{ap, subst, ◌∙◌, arith, append-nil, append_assoc, length-append}
-use Rattle.std.proofs.lemmas.Bool.{cases_eq, cases_lt, cases_Bool}
+use Rattle.noise_script.proofs.Names.{◌≡◌, ◌≢◌, ◌⊎◌, inl, inr, ℕ, ◌+◌, ◌<◌, ◌≤◌, true, false, List, [], ◌∷◌, ◌++◌, length, refl, sym, ap}
+use Rattle.noise_script.proofs.Names.{subst, ◌∙◌, arith, append-nil, append_assoc, length-append, cases_lt, Argument, ARole, Number, Signed}
+use Rattle.noise_script.proofs.Names.{Value, RoleIs, NumberIs, SignedIs, row, word_of, arguments_of, form_of, kind_of, values_of, most}
+use Rattle.noise_script.proofs.Names.{too_many, Spells, Fails, SpellsEach, FirstFails, SpellsLine, Misspells, Says, standing, AreAllowed}
+use Rattle.noise_script.proofs.Names.{IsFaulty, script_of, begins_with, lines_of, words_of, is_passed_over, is_number, value_of, is_signed}
+use Rattle.noise_script.proofs.Names.{signed_value_of, Entry, Form, role_word, Cause, Role, Originator, Answerer}
+use Rattle.std.proofs.Common.{◌<ℤ◌, ◌≤ℤ◌}
+use Rattle.std.proofs.lemmas.Bool.{cases_eq, cases_Bool}
 use Rattle.std.proofs.lemmas.Int.{by_lt_z}
-use Rattle.shared_terms.specs.declared.role.Role.{Role}
-use Rattle.shared_terms.specs.declared.role.Role.TheVariants.{Originator, Answerer}
-use Rattle.shared_terms.specs.declared.cause.Cause.{Cause}
 use Rattle.shared_terms.specs.declared.cause.Cause.TheVariants as causes
-use Rattle.noise_script.specs.declared.entry.Entry.{Entry}
-use Rattle.noise_script.specs.declared.forms.Form.{Form}
 use Rattle.noise_script.specs.declared.forms.Form.TheVariants as forms
-use Rattle.noise_script.specs.Lines.{begins_with, lines_of, words_of, is_passed_over}
-use Rattle.noise_script.specs.Numbers.{is_number, value_of, is_signed, signed_value_of}
-use Rattle.noise_script.specs.Forms.{Argument, ARole, Number, Signed, Value, RoleIs, NumberIs, SignedIs, row, word_of, arguments_of}
-use Rattle.noise_script.specs.Forms.{form_of, kind_of, values_of, most, too_many, Spells, Fails, SpellsEach, FirstFails, SpellsLine}
-use Rattle.noise_script.specs.Forms.{Misspells}
-use Rattle.shared_terms.specs.Role.{role_word}
-use Rattle.noise_script.specs.Grammar.{Says, nothing, standing, AreAllowed, IsFaulty, script_of}
+use Rattle.noise_script.specs.Grammar.{nothing}
 use Rattle.noise_script.specs.Laws.{SomeAnswer}
 use Rattle.noise_script.proofs.Entries.{allowed-none, allowed-more}
 use Rattle.noise_script.proofs.Progress.{says-passed, says-more, regrouped}

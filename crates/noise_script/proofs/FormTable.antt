@@ -1,7 +1,5 @@
 -- Each form stands in the table.
-use Rattle.std.proofs.Common.{◌≡◌, ◌≢◌, ◌∙◌, ℕ, ◌<◌, List, get_or, ap, sym, refl, arith}
-use Rattle.noise_script.specs.Forms.{word_of}
-use Rattle.noise_script.specs.declared.forms.Form.{Form}
+use Rattle.noise_script.proofs.Names.{◌≡◌, ◌≢◌, ◌∙◌, ℕ, ◌<◌, List, get_or, ap, sym, refl, arith, word_of, Form}
 use Rattle.noise_script.specs.declared.forms.Form.TheVariants as forms
 use Rattle.noise_script.specs.declared.forms.TheConstants.{FORMS}
 

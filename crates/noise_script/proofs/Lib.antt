@@ -1,3 +1,4 @@
+mod Names
 pub mod Sums
 pub mod Cuts
 pub mod Digits

@@ -1,18 +1,12 @@
 -- Lines on delays, noise and losses spell their script.
-use Rattle.std.proofs.Common.{◌≡◌, ◌∙◌, ℕ, ◌+◌, ◌≤◌, ◌||◌, Bool, true, false, cond, List, [], ◌∷◌, ◌++◌, length, map, filter_map, refl, sym}
-use Rattle.std.proofs.Common.{ap, subst, arith, Option, Some, None}
-use Rattle.std.specs.List.{cons_option, list_any}
-use Rattle.shared_terms.specs.declared.role.Role.{Role}
+use Rattle.noise_script.proofs.Names.{◌≡◌, ◌∙◌, ℕ, ◌+◌, ◌≤◌, ◌||◌, Bool, true, false, cond, List, [], ◌∷◌, ◌++◌, length, map, filter_map}
+use Rattle.noise_script.proofs.Names.{refl, sym, ap, subst, arith, Option, Some, None, cons_option, list_any, Kind, row, most, SpellsLine}
+use Rattle.noise_script.proofs.Names.{Says, spelled, same_kind, standing, AreAllowed, loss_said, noise_said, script_of, lines_of, words_of}
+use Rattle.noise_script.proofs.Names.{Entry, Noise, Form, Role}
 use Rattle.noise_script.specs.declared.entry.Loss.{Loss}
-use Rattle.noise_script.specs.declared.entry.Noise.{Noise}
-use Rattle.noise_script.specs.declared.entry.Entry.{Entry}
 use Rattle.noise_script.specs.declared.entry.Entry.TheVariants as entries
-use Rattle.noise_script.specs.declared.forms.Form.{Form}
 use Rattle.noise_script.specs.declared.forms.Form.TheVariants as forms
-use Rattle.noise_script.specs.Lines.{lines_of, words_of}
-use Rattle.noise_script.specs.Forms.{Kind, row, most, SpellsLine}
-use Rattle.noise_script.specs.Grammar.{Says, nothing, spelled, same_kind, standing, AreAllowed}
-use Rattle.noise_script.specs.Grammar.{loss_said, noise_said, script_of}
+use Rattle.noise_script.specs.Grammar.{nothing}
 use Rattle.noise_script.specs.Noisy.{text_of, IsWhole, SaysDelays, SaysNoise, SaysLoss, EachSays, noisy_script, NoisyLinesSpell}
 use Rattle.noise_script.proofs.Cuts.{line-cut}
 

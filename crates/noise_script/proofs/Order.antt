@@ -1,9 +1,8 @@
 -- Break lines in rising order of turn.
-use Rattle.std.proofs.Common.{◌≡◌, ℕ, suc, ◌+◌, ◌<◌, ◌≤◌, Bool, true, false, cond, nat_lt, nat_eq, List, [], ◌∷◌, ◌++◌, length, refl, sym}
-use Rattle.std.proofs.Common.{ap, ◌∙◌, arith, append-nil, append_assoc}
+use Rattle.noise_script.proofs.Names.{◌≡◌, ℕ, suc, ◌+◌, ◌<◌, ◌≤◌, Bool, true, false, cond, nat_lt, nat_eq, List, [], ◌∷◌, ◌++◌, length}
+use Rattle.noise_script.proofs.Names.{refl, sym, ap, ◌∙◌, arith, append-nil, append_assoc, placed, placed_each, in_order, Break}
 use Rattle.std.proofs.lemmas.Bool.{ltb-true, ltb-false, eqb-true}
-use Rattle.noise_script.specs.declared.entry.Break.{Break}
-use Rattle.noise_script.specs.Breaks.{placed, placed_each, in_order, AreFrom, AreRising, of_turn}
+use Rattle.noise_script.specs.Breaks.{AreFrom, AreRising, of_turn}
 use Rattle.noise_script.specs.Laws.{BreaksInOrder}
 
 placed-length : (line : Break) (lines : List Break) → length (placed line lines) ≡ suc (length lines)

@@ -1,18 +1,13 @@
 -- Reading a text line by line.
-use Rattle.std.proofs.Common.{◌≡◌, inl, inr, ℕ, ◌+◌, ◌<◌, Bool, true, false, nat_le, List, [], ◌∷◌, ◌++◌, refl, sym, ap, ◌∙◌, arith}
-use Rattle.std.proofs.Common.{append_assoc, length-append}
-use Rattle.std.proofs.lemmas.Bool.{leb-true, leb-false}
-use Rattle.shared_terms.specs.declared.cause.Cause.{Cause}
-use Rattle.noise_script.specs.declared.entry.Entry.{Entry}
-use Rattle.noise_script.specs.declared.forms.Form.{Form}
+use Rattle.noise_script.proofs.Names.{◌≡◌, inl, inr, ℕ, ◌+◌, ◌<◌, Bool, true, false, nat_le, List, [], ◌∷◌, ◌++◌, refl, sym, ap, ◌∙◌, arith}
+use Rattle.noise_script.proofs.Names.{append_assoc, length-append, leb-true, Holds, HoldsUpTo, row, form_of, kind_of, most, too_many}
+use Rattle.noise_script.proofs.Names.{SpellsLine, Says, passed_over, spelled, standing, IsFaultOf, lines_of, words_of, is_passed_over}
+use Rattle.noise_script.proofs.Names.{Draft, Entry, ScriptFault, Form, Cause}
+use Rattle.std.proofs.lemmas.Bool.{leb-false}
 use Rattle.noise_script.specs.declared.forms.Bound.{Bound}
-use Rattle.noise_script.specs.declared.draft.Draft.{Draft}
-use Rattle.noise_script.specs.declared.fault.ScriptFault.{ScriptFault}
 use Rattle.noise_script.specs.declared.fault.ScriptFault.TheVariants as faults
-use Rattle.noise_script.specs.Lines.{lines_of, words_of, is_passed_over}
-use Rattle.noise_script.specs.Forms.{row, form_of, kind_of, most, too_many, SpellsLine}
-use Rattle.noise_script.specs.Grammar.{Says, nothing, passed_over, spelled, standing, IsTooMany, IsFaultOf}
-use Rattle.noise_script.specs.Draft.{Holds, HoldsLine, IsLineFault, HoldsUpTo}
+use Rattle.noise_script.specs.Grammar.{nothing, IsTooMany}
+use Rattle.noise_script.specs.Draft.{HoldsLine, IsLineFault}
 use Rattle.noise_script.proofs.Entries.{allowed-none, allowed-more}
 
 pub too-many : (said : List Entry) (words : List (List ℕ)) (entry : Entry) (form : Form) (bound : Bound) (cause : Cause) (full : Bool)

@@ -1,27 +1,21 @@
 -- What a script's lines say is in its range.
-use Rattle.std.proofs.Common.{◌≡◌, ℕ, ◌<◌, ◌≤◌, nat_lt, All, IfSome, Bool, true, false, cond, List, [], ◌∷◌, length, filter_map, Option}
-use Rattle.std.proofs.Common.{Some, None, refl, sym, subst, ◌∙◌, arith, append-nil}
-use Rattle.std.specs.List.{cons_option, AllByRecursion}
+use Rattle.noise_script.proofs.Names.{◌≡◌, ℕ, ◌<◌, ◌≤◌, nat_lt, IfSome, Bool, true, false, cond, List, [], ◌∷◌, length, filter_map, Option}
+use Rattle.noise_script.proofs.Names.{Some, None, refl, sym, subst, ◌∙◌, arith, append-nil, cons_option, INFO, placed, placed_each, Holds}
+use Rattle.noise_script.proofs.Names.{HoldsUpTo, Kind, row, most, SpellsEach, arguments_of, values_of, form_of, Says, passed_over, spelled}
+use Rattle.noise_script.proofs.Names.{AreAllowed, whole, first, window_said, length_said, loss_said, hit_said, noise_said, break_said}
+use Rattle.noise_script.proofs.Names.{pause_said, offered_in, breaks_in, script_of, ScriptSpelling, IsQuiet, AreQuiet, ScriptValue, Draft}
+use Rattle.noise_script.proofs.Names.{Break, Entry, same_role, Role, Originator, Answerer}
+use Rattle.std.proofs.Common.{All}
+use Rattle.std.specs.List.{AllByRecursion}
 use Rattle.std.proofs.lemmas.List.Elements.{All-nil, All-cons, All-head, All-tail}
-use Rattle.frame_check.specs.declared.sizes.TheConstants.{INFO}
-use Rattle.shared_terms.specs.declared.role.Role.{Role}
-use Rattle.shared_terms.specs.declared.role.Role.TheVariants.{Originator, Answerer}
-use Rattle.shared_terms.specs.Role.{same_role}
 use Rattle.xid_params.specs.Offers.{IsAllowed}
-use Rattle.noise_script.specs.declared.entry.Break.{Break}
-use Rattle.noise_script.specs.declared.entry.Entry.{Entry}
 use Rattle.noise_script.specs.declared.entry.Entry.TheVariants as entries
 use Rattle.noise_script.specs.declared.forms.Form.TheVariants as forms
-use Rattle.noise_script.specs.declared.draft.Draft.{Draft}
-use Rattle.noise_script.specs.Forms.{Kind, row, most, SpellsEach, arguments_of, values_of, form_of}
-use Rattle.noise_script.specs.Offsets.{IsQuiet, AreQuiet}
-use Rattle.noise_script.specs.Script.{ScriptValue, IsShort, IsInLimits}
-use Rattle.noise_script.specs.Grammar.{Says, nothing, passed_over, spelled, AreAllowed, whole, first, window_said, length_said, loss_said}
-use Rattle.noise_script.specs.Grammar.{hit_said, noise_said, break_said, pause_said, delays_in, tries_in, offered_in, noises_in, breaks_in}
-use Rattle.noise_script.specs.Grammar.{pauses_in, delays_or_one, tries_or_five, window_or_15, length_or_128, offer_by, script_of}
-use Rattle.noise_script.specs.Grammar.{ScriptSpelling}
-use Rattle.noise_script.specs.Draft.{Holds, HoldsUpTo, draft_script}
-use Rattle.noise_script.specs.Breaks.{placed, placed_each}
+use Rattle.noise_script.specs.Script.{IsShort, IsInLimits}
+use Rattle.noise_script.specs.Grammar.{nothing}
+use Rattle.noise_script.specs.Grammar.{delays_in, tries_in, noises_in}
+use Rattle.noise_script.specs.Grammar.{pauses_in, delays_or_one, tries_or_five, window_or_15, length_or_128, offer_by}
+use Rattle.noise_script.specs.Draft.{draft_script}
 use Rattle.noise_script.specs.Laws.{SpelledIsInLimits, BreaksAreOctets}
 use Rattle.noise_script.proofs.Entries.{Counts, standing-said, counts-lose, counts-hit, counts-noise, counts-break, counts-busy}
 use Rattle.noise_script.proofs.Order.{in_order-length}

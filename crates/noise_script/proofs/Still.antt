@@ -1,13 +1,8 @@
 -- Symbols to which no line adds anything.
-use Rattle.std.proofs.Common.{◌≡◌, ℕ, ◌+◌, ◌<◌, ◌≤◌, ◌&&◌, Bool, false, List, [], ◌∷◌, map, arith, refl}
-use Rattle.std.specs.List.{list_any}
+use Rattle.noise_script.proofs.Names.{◌≡◌, ℕ, ◌+◌, ◌<◌, ◌≤◌, ◌&&◌, Bool, false, List, [], ◌∷◌, map, arith, refl, list_any, covers, meets}
+use Rattle.noise_script.proofs.Names.{nothing, sum_of, hit_offset, noise_offset, ScriptValue, Hit, Noise, same_role, Role}
 use Rattle.std.proofs.lemmas.Bool.{or_parts}
-use Rattle.shared_terms.specs.declared.role.Role.{Role}
-use Rattle.shared_terms.specs.Role.{same_role}
-use Rattle.noise_script.specs.declared.entry.Hit.{Hit}
-use Rattle.noise_script.specs.declared.entry.Noise.{Noise}
-use Rattle.noise_script.specs.Offsets.{covers, meets, nothing, sum_of, hit_offset, noise_offset}
-use Rattle.noise_script.specs.Script.{ScriptValue, offset_of}
+use Rattle.noise_script.specs.Script.{offset_of}
 
 -- a line of other places covers none of these
 apart : (own : Bool) (line many from count symbol : ℕ) → from ≤ symbol → symbol < from + count

@@ -1,13 +1,7 @@
 -- Sums of offsets, line by line.
-use Rattle.std.proofs.Common.{◌≡◌, ℕ, zero, suc, ◌+◌, ◌≤◌, ◌<◌, pos, List, [], ◌∷◌, ◌++◌, length, take, map, get_or, refl, ap}
-use Rattle.std.proofs.Common.{◌∙◌, arith}
-use Rattle.std.proofs.lemmas.Int.{ints}
-use Rattle.std.proofs.lemmas.List.{take_more}
-use Rattle.noise_script.specs.declared.entry.Hit.{Hit}
-use Rattle.noise_script.specs.declared.entry.Noise.{Noise}
-use Rattle.shared_terms.specs.declared.role.Role.TheVariants.{Originator}
-use Rattle.noise_script.specs.declared.offset.Offset.{Offset}
-use Rattle.noise_script.specs.Offsets.{plus, sum_of, nothing, IsWithin, IsQuiet, AreQuiet}
+use Rattle.noise_script.proofs.Names.{◌≡◌, ℕ, zero, suc, ◌+◌, ◌≤◌, ◌<◌, pos, List, [], ◌∷◌, ◌++◌, length, take, map, get_or, refl, ap, ◌∙◌}
+use Rattle.noise_script.proofs.Names.{arith, ints, take_more, plus, sum_of, nothing, IsWithin, IsQuiet, AreQuiet, Hit, Noise, Offset}
+use Rattle.noise_script.proofs.Names.{Originator}
 
 pub same-offset : (a b : Offset) → a.re ≡ b.re → a.im ≡ b.im → a ≡ b
 same-offset a b r i = rw (r, i) refl

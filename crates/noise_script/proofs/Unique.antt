@@ -1,23 +1,17 @@
 -- A text spells one script at most, or has one first fault, and never both.
-use Rattle.std.proofs.Common.{◌≡◌, inl, inr, ℕ, suc, ◌+◌, true, false, nat_eq, if◌then◌else◌, ℤ, pos, List, [], ◌∷◌, ◌++◌}
-use Rattle.std.proofs.Common.{length, get_or, refl, sym, ap, subst, ◌∙◌, arith}
-use Rattle.std.proofs.lemmas.Bool.{false≢true}
-use Rattle.std.proofs.lemmas.Int.{ints}
-use Rattle.shared_terms.specs.declared.role.Role.{Role}
-use Rattle.shared_terms.specs.declared.role.Role.TheVariants.{Originator}
-use Rattle.shared_terms.specs.declared.cause.Cause.{Cause}
+use Rattle.noise_script.proofs.Names.{◌≡◌, inl, inr, ℕ, suc, ◌+◌, true, false, nat_eq, if◌then◌else◌, pos, List, [], ◌∷◌, ◌++◌, length}
+use Rattle.noise_script.proofs.Names.{get_or, refl, sym, ap, subst, ◌∙◌, arith, false≢true, ints, Argument, ARole, Number, Signed, Value}
+use Rattle.noise_script.proofs.Names.{RoleIs, NumberIs, SignedIs, row, word_of, arguments_of, form_of, values_of, too_many, Spells, Fails}
+use Rattle.noise_script.proofs.Names.{SpellsEach, FirstFails, SpellsLine, Misspells, Says, passed_over, spelled, AreAllowed, IsFaulty}
+use Rattle.noise_script.proofs.Names.{script_of, ScriptSpelling, FirstFault, begins_with, words_of, is_passed_over, ScriptValue, Entry}
+use Rattle.noise_script.proofs.Names.{Form, role_word, Cause, Role, Originator}
+use Rattle.std.proofs.Common.{ℤ}
 use Rattle.shared_terms.specs.declared.cause.Cause.TheVariants as causes
-use Rattle.noise_script.specs.declared.entry.Entry.{Entry}
 use Rattle.noise_script.specs.declared.entry.Entry.TheVariants as entries
-use Rattle.noise_script.specs.declared.forms.Form.{Form}
 use Rattle.noise_script.specs.declared.forms.Form.TheVariants as forms
-use Rattle.noise_script.specs.Lines.{begins_with, words_of, is_passed_over}
-use Rattle.noise_script.specs.Forms.{Argument, ARole, Number, Signed, Value, RoleIs, NumberIs, SignedIs, row, word_of, arguments_of}
-use Rattle.noise_script.specs.Forms.{form_of, values_of, too_many, Spells, Fails, SpellsEach, FirstFails, SpellsLine, IsUnknown}
-use Rattle.noise_script.specs.Forms.{IsMiscounted, IsMisread, Misspells}
-use Rattle.shared_terms.specs.Role.{role_word}
-use Rattle.noise_script.specs.Script.{ScriptValue}
-use Rattle.noise_script.specs.Grammar.{Says, nothing, passed_over, spelled, AreAllowed, IsFaulty, script_of, ScriptSpelling, FirstFault}
+use Rattle.noise_script.specs.Forms.{IsUnknown}
+use Rattle.noise_script.specs.Forms.{IsMiscounted, IsMisread}
+use Rattle.noise_script.specs.Grammar.{nothing}
 use Rattle.noise_script.proofs.Entries.{allowed-full}
 
 cons-head : {X : Type 0} (x y : X) (xs ys : List X) → x ∷ xs ≡ y ∷ ys → x ≡ y

@@ -1,13 +1,10 @@
 -- Reading words one behind another.
-use Rattle.std.proofs.Common.{◌≡◌, ◌≢◌, ◌∙◌, ◌+◌, inl, inr, ℕ, List, ◌∷◌, [], length, refl, sym, ap, subst, arith}
-use Rattle.std.proofs.lemmas.List.{nil_from_length}
-use Rattle.shared_terms.specs.declared.cause.Cause.{Cause}
+use Rattle.noise_script.proofs.Names.{◌≡◌, ◌≢◌, ◌∙◌, ◌+◌, inl, inr, ℕ, List, ◌∷◌, [], length, refl, sym, ap, subst, arith, nil_from_length}
+use Rattle.noise_script.proofs.Names.{Argument, ARole, Value, RoleIs, NumberIs, Reads, FirstFails, SpellsEach, SpellsLine, Misspells}
+use Rattle.noise_script.proofs.Names.{word_of, arguments_of, values_of, Entry, Form, Cause, Role}
 use Rattle.shared_terms.specs.declared.cause.Cause.TheVariants as causes
-use Rattle.shared_terms.specs.declared.role.Role.{Role}
-use Rattle.noise_script.specs.declared.entry.Entry.{Entry}
-use Rattle.noise_script.specs.declared.forms.Form.{Form}
-use Rattle.noise_script.specs.Forms.{Argument, ARole, Value, RoleIs, NumberIs, Reads, ReadsSpan, FailsToRead, FirstFails, SpellsEach}
-use Rattle.noise_script.specs.Forms.{SpellsForm, SpellsLine, Misspells, word_of, arguments_of, values_of}
+use Rattle.noise_script.specs.Forms.{ReadsSpan, FailsToRead}
+use Rattle.noise_script.specs.Forms.{SpellsForm}
 
 pub fails-here : (argument : Argument) (arguments : List Argument) (words : List (List ℕ)) (cause : Cause)
     → FailsToRead argument words cause → FirstFails (argument ∷ arguments) words cause

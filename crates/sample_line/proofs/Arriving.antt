@@ -1,24 +1,11 @@
 -- Labels more come to the hearer, or the line is lost with one of them.
-use Rattle.std.proofs.Common.{◌≡◌, ◌∙◌, ℕ, Bool, List, [], ◌++◌, map, take, drop, Result, Ok, Err, Some, refl, sym, ap, subst}
-use Rattle.std.proofs.lemmas.List.{append-nil, map-append, take-append-drop}
-use Rattle.frame_check.specs.declared.check.Check.{Check}
-use Rattle.symbol_map.specs.declared.sample.Sample.{Sample}
-use Rattle.symbol_map.specs.Points.{point_of}
-use Rattle.exact_decoder.specs.Surviving.Survivors.{LostIs}
-use Rattle.exact_decoder.specs.Surviving.V32.{line_depth, line_trellis}
-use Rattle.exact_decoder.specs.declared.decoder.Lost.{Lost}
-use Rattle.shared_terms.specs.declared.role.Role.{Role}
-use Rattle.lapm_frames.specs.declared.sent.Sent.{Sent}
-use Rattle.noise_script.specs.Script.{ScriptValue}
-use Rattle.sample_line.specs.declared.hearer.Hearer.{Hearer}
-use Rattle.sample_line.specs.declared.transmitter.Transmitter.{Transmitter}
-use Rattle.sample_line.specs.declared.path.Path.{Path}
-use Rattle.sample_line.specs.declared.tally.Tally.{Tally}
-use Rattle.sample_line.specs.declared.tally.Tally.TheVariants.{Silent}
-use Rattle.sample_line.specs.Mode.{mode_of}
-use Rattle.sample_line.specs.Transmits.{Transmits}
-use Rattle.sample_line.specs.Hears.{HearsSamples}
-use Rattle.sample_line.specs.Path.{Carries, CarriesBetween, LosesWith, LosesAmong, Arrives}
+use Rattle.sample_line.proofs.Names.{◌≡◌, ◌∙◌, ℕ, Bool, List, [], ◌++◌, map, take, drop, Result, Err, Some, refl, sym, ap, subst}
+use Rattle.sample_line.proofs.Names.{map-append, take-append-drop, LostIs, line_depth, line_trellis, Lost, Check, Sent, ScriptValue}
+use Rattle.sample_line.proofs.Names.{HearsSamples, mode_of, Carries, CarriesBetween, LosesAmong, Arrives, Transmits, Hearer, Path, Tally}
+use Rattle.sample_line.proofs.Names.{Silent, Transmitter, Role, point_of, Sample}
+use Rattle.std.proofs.Common.{Ok}
+use Rattle.std.proofs.lemmas.List.{append-nil}
+use Rattle.sample_line.specs.Path.{LosesWith}
 use Rattle.sample_line.proofs.Finding.{found-none}
 
 abbrev pub path_of : Transmitter → Hearer → Path

@@ -1,22 +1,15 @@
 -- What is found once one more bit was read.
-use Rattle.std.proofs.Common.{◌≡◌, inl, inr, ◌∙◌, ◌+◌, ℕ, zero, suc, ◌≤◌, Bool, List, take, [], ◌∷◌, ◌++◌, length, Option, Some, None, refl}
-use Rattle.std.proofs.Common.{sym, ap, subst, arith, map, append-nil, length-append}
-use Rattle.std.specs.Prelude.{option_to_list}
-use Rattle.std.proofs.lemmas.List.{append_assoc, map-append, take_all, take-append-le}
-use Rattle.frame_check.specs.declared.check.Check.{Check}
-use Rattle.lapm_frames.specs.declared.seen.Seen.{Seen}
-use Rattle.detection.specs.Patterns.{seen_at}
-use Rattle.detection.specs.Sights.{Sight, sights_at, sights_before, sights_of}
+use Rattle.sample_line.proofs.Names.{◌≡◌, inl, inr, ◌∙◌, ◌+◌, ℕ, zero, suc, ◌≤◌, Bool, List, take, [], ◌∷◌, ◌++◌, length, Option, Some}
+use Rattle.sample_line.proofs.Names.{None, refl, sym, ap, subst, arith, map, append-nil, length-append, append_assoc, map-append, take_all}
+use Rattle.sample_line.proofs.Names.{option_to_list, Found, listed, pieces_of, wholes, Whole, seen_at, Sight, sights_at, Check, Seen, Sent}
+use Rattle.sample_line.proofs.Names.{PassTheCheck, FoundBetween, Tallies, PatternsAreTallied, PiecesAreTallied, Tally, Role}
+use Rattle.std.proofs.lemmas.List.{take-append-le}
+use Rattle.detection.specs.Sights.{sights_before, sights_of}
 use Rattle.std.specs.Option.{option_map, option_map_or}
 use Rattle.bit_stuffing.specs.declared.piece.Piece.{Piece}
-use Rattle.bit_stuffing.specs.declared.piece.Piece.TheVariants.{Whole, Ragged, Aborted, TooLong, TooShort}
-use Rattle.bit_stuffing.specs.Found.{Found, listed, pieces_of}
-use Rattle.bit_stuffing.specs.Sent.{wholes, octets_if_whole}
-use Rattle.shared_terms.specs.declared.role.Role.{Role}
-use Rattle.lapm_frames.specs.declared.sent.Sent.{Sent}
-use Rattle.sample_line.specs.declared.tally.Tally.{Tally}
-use Rattle.sample_line.specs.Received.{PassTheCheck, FoundBetween}
-use Rattle.sample_line.specs.Tallies.{Tallies, TalliesBetween, PatternsAreTallied, PiecesAreTallied}
+use Rattle.bit_stuffing.specs.declared.piece.Piece.TheVariants.{Ragged, Aborted, TooLong, TooShort}
+use Rattle.bit_stuffing.specs.Sent.{octets_if_whole}
+use Rattle.sample_line.specs.Tallies.{TalliesBetween}
 
 pub wholes-append : (a b : List Found) → wholes (a ++ b) ≡ wholes a ++ wholes b
 wholes-append [] b = refl

@@ -1,19 +1,15 @@
 -- What can be sent fits a slot of the most symbols.
-use Rattle.std.proofs.Common.{ℕ, ◌<◌, ◌≤◌, length, lit≤, arith, length-append}
-use Rattle.frame_check.specs.declared.check.Check.{Check}
+use Rattle.sample_line.proofs.Names.{ℕ, ◌<◌, ◌≤◌, length, arith, length-append, Check, Frame, Sent, IsCodable, Role}
+use Rattle.std.proofs.Common.{lit≤}
 use Rattle.frame_check.specs.declared.check.Check.TheVariants.{Sixteen, ThirtyTwo}
 use Rattle.frame_check.specs.declared.sizes.TheConstants.{WHOLE, SLOT}
 use Rattle.frame_check.specs.Division.{check_of, count_of}
 use Rattle.frame_check.proofs.Checks.{length-check_of}
 use Rattle.bit_stuffing.proofs.Sizes.{length-opening}
-use Rattle.shared_terms.specs.declared.role.Role.{Role}
-use Rattle.lapm_frames.specs.declared.frame.Frame.{Frame}
 use Rattle.lapm_frames.specs.Frame.{spelled, IsFrame}
-use Rattle.lapm_frames.specs.declared.sent.Sent.{Sent}
 use Rattle.lapm_frames.specs.declared.sent.Sent.TheVariants as sent
 use Rattle.lapm_frames.specs.Checked.{check_for, checked}
 use Rattle.lapm_frames.proofs.Octets.{spelled-short}
-use Rattle.sample_line.specs.Signals.{IsCodable}
 use Rattle.lapm_frames.specs.Sendable.{IsSendable}
 
 count-small : (check : Check) → count_of check ≤ 4

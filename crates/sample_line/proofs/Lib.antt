@@ -1,3 +1,4 @@
+mod Names
 pub mod Tallying
 pub mod Finding
 pub mod Standing

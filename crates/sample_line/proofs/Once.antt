@@ -1,41 +1,28 @@
 -- What is recorded, given and received is one, and goes on.
-use Rattle.std.proofs.Common.{◌≡◌, inl, inr, ◌∙◌, ◌+◌, ◌*◌, ◌/◌, ◌%◌, ◌<◌, ◌≤◌, ℕ, zero, suc, Bool, true, false, nat_eq, List, [], ◌∷◌}
-use Rattle.std.proofs.Common.{◌++◌, length, take, drop, map, refl, sym, ap, subst, arith, All}
+use Rattle.sample_line.proofs.Names.{◌≡◌, inl, inr, ◌∙◌, ◌+◌, ◌*◌, ◌/◌, ◌%◌, ◌<◌, ◌≤◌, ℕ, zero, suc, Bool, true, false, nat_eq, List, []}
+use Rattle.sample_line.proofs.Names.{◌∷◌, ◌++◌, length, take, drop, map, refl, sym, ap, subst, arith, take-append_seam, false≢true}
+use Rattle.sample_line.proofs.Names.{cases_eq, eqb-true, length-map, take-append-drop, Found, pieces_of, wholes, Sight, line_trellis}
+use Rattle.sample_line.proofs.Names.{low_bits, Check, Heard, Seen, Sent, Modulates, ScriptValue, offset_of, mode_of, IsSilent}
+use Rattle.sample_line.proofs.Names.{IsWhatWasSent, IsOutcome, PassTheCheck, FoundBetween, Gives, displaced, displaced_from, Records}
+use Rattle.sample_line.proofs.Names.{tap_of, Role, point_of, Sample}
+use Rattle.std.proofs.Common.{All}
 use Rattle.std.specs.List.{flat_map}
-use Rattle.std.proofs.lemmas.Bool.{false≢true, cases_eq, eqb-true}
-use Rattle.std.proofs.Math.Seq.{take-nil, take-append_seam}
-use Rattle.std.proofs.lemmas.List.{length-map, take-append-drop, take-map}
+use Rattle.std.proofs.Math.Seq.{take-nil}
+use Rattle.std.proofs.lemmas.List.{take-map}
 use Rattle.std.proofs.lemmas.List.Elements.{All-nil, All-take}
-use Rattle.frame_check.specs.declared.check.Check.{Check}
 use Rattle.frame_check.proofs.Checks.{fronts-one}
-use Rattle.frame_check.specs.Bits.{low_bits}
-use Rattle.scramblers.specs.Mode.{tap_of}
 use Rattle.scramblers.proofs.Readings.{Scrambles_once, Scrambles-take, Descrambles_once}
-use Rattle.symbol_map.specs.declared.sample.Sample.{Sample}
-use Rattle.symbol_map.specs.Points.{point_of}
 use Rattle.trellis_tables.specs.Encoder.{Encodes}
 use Rattle.trellis_tables.proofs.Codings.{Encodes_once, Encodes-take}
 use Rattle.exact_decoder.proofs.Surviving.Fronts.{released-once, stays-prefix}
-use Rattle.exact_decoder.specs.Surviving.V32.{line_trellis}
-use Rattle.line_coding.specs.Modulates.{Modulates}
 use Rattle.line_coding.specs.Demodulates.{line_of, Demodulates}
 use Rattle.line_coding.proofs.Readings.{comes-back, first-stay, four-each}
-use Rattle.lapm_frames.specs.declared.seen.Seen.{Seen}
-use Rattle.detection.specs.Sights.{Sight, sights_of}
-use Rattle.bit_stuffing.specs.Found.{Found, pieces_of}
-use Rattle.bit_stuffing.specs.Sent.{wholes}
-use Rattle.shared_terms.specs.declared.role.Role.{Role}
+use Rattle.detection.specs.Sights.{sights_of}
 use Rattle.shared_terms.specs.declared.role.Role.TheVariants.{Originator, Answerer}
-use Rattle.lapm_frames.specs.declared.sent.Sent.{Sent}
 use Rattle.lapm_frames.specs.declared.sent.Sent.TheVariants as sent
-use Rattle.noise_script.specs.Script.{ScriptValue, offset_of}
-use Rattle.lapm_frames.specs.declared.heard.Heard.{Heard}
 use Rattle.lapm_frames.specs.declared.heard.Heard.TheVariants as heard
-use Rattle.sample_line.specs.Outcomes.{IsSilent, IsWhatWasSent, IsOutcome}
-use Rattle.sample_line.specs.Recorded.{displaced, displaced_from, Records}
-use Rattle.sample_line.specs.Mode.{mode_of}
 use Rattle.lapm_frames.specs.Checked.{check_heard}
-use Rattle.sample_line.specs.Received.{PassTheCheck, FoundBetween, Gives, Receives}
+use Rattle.sample_line.specs.Received.{Receives}
 
 pub tap-some : (sender : Role) → 1 ≤ tap_of (mode_of sender)
 tap-some Originator = omega arith

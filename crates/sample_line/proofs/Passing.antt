@@ -1,35 +1,13 @@
 -- What a line stands for once a slot has passed.
-use Rattle.std.proofs.Common.{◌≡◌, ◌∙◌, ◌+◌, ◌*◌, ℕ, suc, nat_eq, Bool, List, [], ◌∷◌, ◌++◌, length, map, take, drop, None, refl, sym, ap}
-use Rattle.std.proofs.Common.{subst, arith}
-use Rattle.std.proofs.Common.{length-append}
-use Rattle.std.proofs.Math.Seq.{take-append_seam}
-use Rattle.std.proofs.lemmas.List.{map-append, take-append-drop}
-use Rattle.frame_check.specs.declared.check.Check.{Check}
-use Rattle.scramblers.specs.Mode.{tap_of}
-use Rattle.symbol_map.specs.declared.sample.Sample.{Sample}
-use Rattle.symbol_map.specs.Points.{point_of}
-use Rattle.trellis_tables.specs.Table.{next_state}
-use Rattle.exact_decoder.specs.Decoder.{DecoderStands}
-use Rattle.line_coding.specs.Modulates.{Modulates}
+use Rattle.sample_line.proofs.Names.{◌≡◌, ◌∙◌, ◌+◌, ◌*◌, ℕ, suc, nat_eq, Bool, List, [], ◌∷◌, ◌++◌, length, map, take, drop, None, refl}
+use Rattle.sample_line.proofs.Names.{sym, ap, subst, arith, length-append, take-append_seam, map-append, take-append-drop, Signal}
+use Rattle.sample_line.proofs.Names.{signal_bits, slot_of, slots_of, DecoderStands, line_depth, Check, Heard, Seen, Sent, Modulates}
+use Rattle.sample_line.proofs.Names.{ScriptValue, IsCodedAs, Kept, LineStands, bits_behind, size_of, sender_of, decoder_of, mode_of}
+use Rattle.sample_line.proofs.Names.{IsOutcome, CarriesBetween, LosesAmong, LosesWithin, Gives, displaced_from, Records, Tallies, Path}
+use Rattle.sample_line.proofs.Names.{Tally, tap_of, Role, point_of, Sample, next_state}
 use Rattle.bit_stuffing.specs.Slots.{sent_bits}
-use Rattle.lapm_frames.specs.declared.seen.Seen.{Seen}
-use Rattle.detection.specs.Slots.{Signal, signal_bits, slot_of, slots_of}
 use Rattle.bit_stuffing.proofs.Fill.{bits-append}
-use Rattle.shared_terms.specs.declared.role.Role.{Role}
-use Rattle.sample_line.specs.Mode.{mode_of}
-use Rattle.lapm_frames.specs.declared.sent.Sent.{Sent}
-use Rattle.noise_script.specs.Script.{ScriptValue}
-use Rattle.lapm_frames.specs.declared.heard.Heard.{Heard}
-use Rattle.sample_line.specs.declared.tally.Tally.{Tally}
-use Rattle.sample_line.specs.declared.path.Path.{Path}
-use Rattle.sample_line.specs.Recorded.{displaced_from, Records}
-use Rattle.exact_decoder.specs.Surviving.V32.{line_depth}
-use Rattle.sample_line.specs.Received.{Gives}
-use Rattle.sample_line.specs.Outcomes.{IsOutcome}
-use Rattle.sample_line.specs.Tallies.{Tallies}
-use Rattle.sample_line.specs.Path.{CarriesBetween, LosesAmong, LosesWithin}
-use Rattle.sample_line.specs.Line.{Kept, LineStands, PassesSlot, bits_behind, size_of, sender_of, decoder_of}
-use Rattle.sample_line.specs.Coder.{IsCodedAs}
+use Rattle.sample_line.specs.Line.{PassesSlot}
 use Rattle.sample_line.proofs.Standing.{recorded, gives}
 use Rattle.sample_line.proofs.Once.{tap-some, modulates-once, modulates-take, length-modulated}
 

@@ -1,20 +1,15 @@
 -- Samples of labels of which a batch is sent at once.
-use Rattle.std.proofs.Common.{◌≡◌, ◌∙◌, ℕ, ◌+◌, ◌<◌, ◌≤◌, ◌&&◌, ℤ, pos, negsuc, nat_eq, Bool, true, false, List, [], ◌∷◌, ◌++◌, length}
-use Rattle.std.proofs.Common.{map, take, drop}
-use Rattle.std.proofs.Common.{get_or, arith, refl, sym, ap, subst, append_assoc, length-append, length-drop, suc}
-use Rattle.std.proofs.Math.Seq.{take-add}
-use Rattle.std.proofs.lemmas.Bool.{and_parts, eqb-true, false≢true}
-use Rattle.std.proofs.lemmas.List.{length-take-le, get_or-take, get_or-drop, get_or_default, same_lists, length-map, map-append}
-use Rattle.symbol_map.specs.declared.sample.Sample.{Sample}
+use Rattle.sample_line.proofs.Names.{◌≡◌, ◌∙◌, ℕ, ◌+◌, ◌<◌, ◌≤◌, ℤ, nat_eq, Bool, true, false, List, [], ◌∷◌, ◌++◌, length, map, take, drop}
+use Rattle.sample_line.proofs.Names.{get_or, arith, refl, sym, ap, subst, length-append, suc, take-add, eqb-true, false≢true}
+use Rattle.sample_line.proofs.Names.{length-take-le, length-map, map-append, ScriptValue, offset_of, displaced, displaced_from, Transmits}
+use Rattle.sample_line.proofs.Names.{Transmitter, Role, point_of, Sample}
+use Rattle.std.proofs.Common.{◌&&◌, pos, negsuc}
+use Rattle.std.proofs.Common.{append_assoc, length-drop}
+use Rattle.std.proofs.lemmas.Bool.{and_parts}
+use Rattle.std.proofs.lemmas.List.{get_or-take, get_or-drop, get_or_default, same_lists}
 use Rattle.symbol_map.specs.Finite.{each_below, at_each}
-use Rattle.symbol_map.specs.Points.{point_of}
-use Rattle.shared_terms.specs.declared.role.Role.{Role}
 use Rattle.noise_script.specs.declared.offset.Offset.{Offset}
 use Rattle.noise_script.specs.Offsets.{nothing}
-use Rattle.noise_script.specs.Script.{ScriptValue, offset_of}
-use Rattle.sample_line.specs.Recorded.{displaced, displaced_from}
-use Rattle.sample_line.specs.declared.transmitter.Transmitter.{Transmitter}
-use Rattle.sample_line.specs.Transmits.{Transmits}
 use Rattle.sample_line.proofs.Standing.{same-sample, displaced-snoc, points-part}
 
 -- the labels that were unpacked are those of the slot

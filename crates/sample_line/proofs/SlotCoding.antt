@@ -1,19 +1,11 @@
 -- What a coder stands for once a slot was coded.
-use Rattle.std.proofs.Common.{◌≡◌, ◌∙◌, ◌*◌, ℕ, Bool, List, [], ◌∷◌, ◌++◌, map, sym, ap, subst}
-use Rattle.std.proofs.lemmas.List.{map-append}
-use Rattle.scramblers.specs.declared.mode.Mode.{Mode}
-use Rattle.scramblers.specs.Mode.{tap_of}
-use Rattle.symbol_map.specs.declared.sample.Sample.{Sample}
-use Rattle.symbol_map.specs.Points.{point_of}
+use Rattle.sample_line.proofs.Names.{◌≡◌, ◌∙◌, ◌*◌, ℕ, Bool, List, [], ◌∷◌, ◌++◌, map, sym, ap, subst, map-append, WriterStands, slot_bits}
+use Rattle.sample_line.proofs.Names.{Signal, signal_bits, slot_of, slots_of, Modulates, ModulatorStands, Coding, CoderStands, IsCodedAs}
+use Rattle.sample_line.proofs.Names.{bits_in, bits_behind, mode_of, tap_of, Mode, point_of, Sample}
 use Rattle.line_coding.specs.declared.modulator.Modulator.{Modulator}
-use Rattle.line_coding.specs.Modulates.{Modulates, ModulatorStands}
 use Rattle.line_coding.proofs.Standing.{modulated}
-use Rattle.bit_stuffing.specs.Slots.{Slot, slot_bits}
-use Rattle.bit_stuffing.specs.SlotWriter.{Writer, WriterStands}
-use Rattle.detection.specs.Slots.{Signal, signal_bits, slot_of, slots_of}
-use Rattle.sample_line.specs.Mode.{mode_of}
-use Rattle.sample_line.specs.Line.{bits_behind}
-use Rattle.sample_line.specs.Coder.{Coding, CoderStands, IsCodedAs, bits_in}
+use Rattle.bit_stuffing.specs.Slots.{Slot}
+use Rattle.bit_stuffing.specs.SlotWriter.{Writer}
 use Rattle.sample_line.proofs.Passing.{slot-added}
 
 pub codes-bits : (coder : Coding) (signals : List Signal) (signal : Signal) (bits : List Bool) → CoderStands coder signals

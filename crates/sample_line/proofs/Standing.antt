@@ -1,27 +1,13 @@
 -- What the relations of the parts say of samples and bits.
-use Rattle.std.proofs.Common.{◌≡◌, ◌∙◌, ◌+◌, ◌<◌, ℕ, ℤ, Bool, List, [], ◌∷◌, ◌++◌, length, map, take, None, refl, sym, ap, subst, arith}
-use Rattle.std.proofs.Common.{get_or}
-use Rattle.std.proofs.lemmas.List.{append-nil, take_more, append_assoc, map-append}
+use Rattle.sample_line.proofs.Names.{◌≡◌, ◌∙◌, ◌+◌, ◌<◌, ℕ, ℤ, Bool, List, [], ◌∷◌, ◌++◌, length, map, take, None, refl, sym, ap, subst}
+use Rattle.sample_line.proofs.Names.{arith, get_or, append_assoc, map-append, line_bits, line_trellis, low_bits, Modulates, ScriptValue}
+use Rattle.sample_line.proofs.Names.{offset_of, Hears, mode_of, Gives, saturated, displaced, displaced_from, Records, Transmits, Hearer}
+use Rattle.sample_line.proofs.Names.{Transmitter, tap_of, Role, point_of, Sample}
+use Rattle.std.proofs.lemmas.List.{append-nil, take_more}
 use Rattle.std.proofs.lemmas.Grind.{flat_map-append}
-use Rattle.frame_check.specs.Bits.{low_bits}
-use Rattle.bit_stuffing.specs.BitSlot.{line_bits}
-use Rattle.scramblers.specs.Mode.{tap_of}
-use Rattle.symbol_map.specs.declared.sample.Sample.{Sample}
-use Rattle.symbol_map.specs.Points.{point_of}
-use Rattle.line_coding.specs.Modulates.{Modulates}
 use Rattle.exact_decoder.specs.Surviving.Survivors.{IsReleased}
-use Rattle.exact_decoder.specs.Surviving.V32.{line_trellis}
 use Rattle.exact_decoder.specs.Decoder.{heard}
-use Rattle.shared_terms.specs.declared.role.Role.{Role}
-use Rattle.noise_script.specs.Script.{ScriptValue, offset_of}
-use Rattle.sample_line.specs.declared.transmitter.Transmitter.{Transmitter}
-use Rattle.sample_line.specs.declared.hearer.Hearer.{Hearer}
 use Rattle.line_coding.proofs.Standing.{demodulated}
-use Rattle.sample_line.specs.Recorded.{saturated, displaced, displaced_from, Records}
-use Rattle.sample_line.specs.Mode.{mode_of}
-use Rattle.sample_line.specs.Received.{Gives}
-use Rattle.sample_line.specs.Transmits.{Transmits}
-use Rattle.sample_line.specs.Hears.{Hears}
 
 pub displaced-snoc : (script : ScriptValue) (sender : Role) (symbol : ℕ) (points : List Sample) (point : Sample)
     → displaced_from script sender symbol (points ++ point ∷ []) ≡ displaced_from script sender symbol points

@@ -1,26 +1,21 @@
 -- A tally once octets passed the check once more, or one more pattern was received.
-use Rattle.std.proofs.Common.{◌≡◌, ◌⊎◌, inl, inr, ◌∙◌, ℕ, Bool, true, false, List, [], ◌∷◌, ◌++◌, ◌-◌, length, refl, sym, ap, subst, arith}
-use Rattle.std.proofs.Common.{get_or, length-append}
+use Rattle.sample_line.proofs.Names.{◌≡◌, inl, inr, ◌∙◌, ℕ, Bool, true, false, List, [], ◌∷◌, ◌++◌, ◌-◌, length, refl, sym, ap, subst}
+use Rattle.sample_line.proofs.Names.{arith, get_or, length-append, false≢true, get_or-append_right, get_or_append_left, Frame, Seen, Sent}
+use Rattle.sample_line.proofs.Names.{IsSilent, IsWhatWasSent, Tallies, Tally, Silent, Role}
+use Rattle.std.proofs.Common.{◌⊎◌}
 use Rattle.std.specs.List.{All}
-use Rattle.std.proofs.lemmas.Bool.{false≢true}
-use Rattle.std.proofs.lemmas.List.{get_or-append_right, get_or_append_left}
 use Rattle.std.proofs.lemmas.List.Elements.{All-push}
-use Rattle.shared_terms.specs.declared.role.Role.{Role}
-use Rattle.lapm_frames.specs.declared.frame.Frame.{Frame}
 use Rattle.lapm_frames.specs.declared.fault.FrameFault.{FrameFault}
 use Rattle.lapm_frames.specs.Frame.{FrameSpelling}
 use Rattle.lapm_frames.specs.Fault.{FirstFault}
 use Rattle.lapm_frames.proofs.Spellings.{frames-one}
 use Rattle.lapm_frames.proofs.Exact.{never-both}
-use Rattle.lapm_frames.specs.declared.seen.Seen.{Seen}
 use Rattle.lapm_frames.specs.declared.seen.Seen.TheVariants as seen
-use Rattle.lapm_frames.specs.declared.sent.Sent.{Sent}
 use Rattle.lapm_frames.specs.declared.sent.Sent.TheVariants as sent
-use Rattle.sample_line.specs.declared.tally.Tally.{Tally}
-use Rattle.sample_line.specs.declared.tally.Tally.TheVariants.{Silent, AsSent, Other}
+use Rattle.sample_line.specs.declared.tally.Tally.TheVariants.{AsSent, Other}
 use Rattle.lapm_frames.specs.declared.heard.Heard.TheVariants as heard
-use Rattle.sample_line.specs.Outcomes.{IsSilent, IsPattern, IsWhatWasSent}
-use Rattle.sample_line.specs.Tallies.{Tallies, carries, after_octets}
+use Rattle.sample_line.specs.Outcomes.{IsPattern}
+use Rattle.sample_line.specs.Tallies.{carries, after_octets}
 
 snoc-some : {X : Type 0} (xs : List X) (x : X) → xs ++ x ∷ [] ≡ [] → ⊥
 snoc-some [] x e = absurd cc

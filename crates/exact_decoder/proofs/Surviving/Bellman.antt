@@ -1,13 +1,8 @@
 -- The front of a survivor survives, and the best branch from the survivors before makes the survivor.
-use Rattle.std.proofs.Common.{◌≡◌, ℕ, ◌+◌, ◌<◌, ◌≤◌, ◌⊎◌, inl, inr, List, [], ◌∷◌, ◌++◌, length, arith, refl, sym, ◌∙◌, ap}
-use Rattle.std.proofs.Common.{subst, Some}
-use Rattle.std.proofs.lemmas.List.{append_cancel_right, length_push}
-use Rattle.std.proofs.lemmas.Bool.{cases_lt}
-use Rattle.trellis_tables.specs.Sequences.{cost}
-use Rattle.exact_decoder.specs.Surviving.Orders.{Beats}
-use Rattle.exact_decoder.specs.Surviving.Trellises.{Trellis, IsSequence}
-use Rattle.exact_decoder.specs.Surviving.Survivors.{IsSurvivor}
-use Rattle.trellis_tables.proofs.Sequences.{Leads-snoc, Leads-front, cost-snoc}
+use Rattle.exact_decoder.proofs.Names.{◌≡◌, ℕ, ◌+◌, ◌<◌, ◌≤◌, ◌⊎◌, inl, inr, List, [], ◌∷◌, ◌++◌, length, arith, refl, sym, ◌∙◌, ap, subst}
+use Rattle.exact_decoder.proofs.Names.{Some, cases_lt, append_cancel_right, length_push, Beats, IsSurvivor, Trellis, IsSequence}
+use Rattle.exact_decoder.proofs.Names.{Leads-front, cost-snoc, cost}
+use Rattle.trellis_tables.proofs.Sequences.{Leads-snoc}
 use Rattle.exact_decoder.proofs.Surviving.Snoc.{Less-last, Less-front, Less-of_front, snoc_of}
 
 pub sequence-more : {X : Type 0} (c : Trellis X) (samples : List X) (sample : X) (labels : List ℕ) (mid label to : ℕ)

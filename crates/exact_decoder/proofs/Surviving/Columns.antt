@@ -1,13 +1,8 @@
 -- The sums and paths of all states, sample by sample.
-use Rattle.std.proofs.Common.{◌≡◌, ℕ, ◌+◌, ◌<◌, ◌≤◌, ◌⊎◌, inl, inr, Bool, true, false, if◌then◌else◌, List, [], ◌∷◌, ◌++◌, length}
-use Rattle.std.proofs.Common.{arith, refl, sym, ◌∙◌, ap, subst, Option, Some, None}
-use Rattle.std.proofs.lemmas.List.{nil_from_length, length_push}
-use Rattle.std.proofs.Math.Nat.{eq-or-lt_of_le}
-use Rattle.trellis_tables.specs.Sequences.{cost}
-use Rattle.exact_decoder.specs.Surviving.Trellises.{Trellis, IsSequence}
-use Rattle.exact_decoder.specs.Surviving.Survivors.{IsSurvivor}
-use Rattle.exact_decoder.specs.Surviving.Steps.{Branch, KnowsState, Keeps, GoesOn, Enters, Chooses}
-use Rattle.trellis_tables.proofs.Sequences.{Leads-front, cost-snoc}
+use Rattle.exact_decoder.proofs.Names.{◌≡◌, ℕ, ◌+◌, ◌<◌, ◌≤◌, ◌⊎◌, inl, inr, Bool, true, false, if◌then◌else◌, List, [], ◌∷◌, ◌++◌, length}
+use Rattle.exact_decoder.proofs.Names.{arith, refl, sym, ◌∙◌, ap, subst, Option, Some, None, eq-or-lt_of_le, nil_from_length, length_push}
+use Rattle.exact_decoder.proofs.Names.{Branch, KnowsState, Keeps, GoesOn, Enters, Chooses, IsSurvivor, Trellis, IsSequence, Leads-front}
+use Rattle.exact_decoder.proofs.Names.{cost-snoc, cost}
 use Rattle.exact_decoder.proofs.Surviving.Snoc.{snoc_of}
 use Rattle.exact_decoder.proofs.Surviving.Release.{survivor-one}
 use Rattle.exact_decoder.proofs.Surviving.Bellman.{Candidate, survivor-more}

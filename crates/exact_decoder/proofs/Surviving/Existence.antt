@@ -1,13 +1,8 @@
 -- Each state that a sequence leads to has a survivor.
-use Rattle.std.proofs.Common.{◌≡◌, ℕ, zero, suc, ◌+◌, ◌<◌, ◌≤◌, ◌⊎◌, inl, inr, Bool, true, false, List, [], ◌∷◌, ◌++◌, length, arith}
-use Rattle.std.proofs.Common.{append_assoc, refl, sym, ◌∙◌, ap, subst, Option, Some, None}
-use Rattle.std.proofs.lemmas.Bool.{cases_lt, cases_eq, false≢true}
-use Rattle.std.proofs.lemmas.List.{append-nil, nil_from_length, length_push}
-use Rattle.std.proofs.Math.Nat.{eq-or-lt_of_le}
-use Rattle.trellis_tables.specs.Sequences.{Leads, cost}
-use Rattle.exact_decoder.specs.Surviving.Trellises.{Trellis, IsSequence, HasLaws}
-use Rattle.exact_decoder.specs.Surviving.Survivors.{IsSurvivor}
-use Rattle.trellis_tables.proofs.Sequences.{Leads-front}
+use Rattle.exact_decoder.proofs.Names.{◌≡◌, ℕ, zero, suc, ◌+◌, ◌<◌, ◌≤◌, ◌⊎◌, inl, inr, Bool, true, false, List, [], ◌∷◌, ◌++◌, length}
+use Rattle.exact_decoder.proofs.Names.{arith, append_assoc, refl, sym, ◌∙◌, ap, subst, Option, Some, None, eq-or-lt_of_le, cases_lt}
+use Rattle.exact_decoder.proofs.Names.{cases_eq, false≢true, append-nil, nil_from_length, length_push, IsSurvivor, Trellis, IsSequence}
+use Rattle.exact_decoder.proofs.Names.{HasLaws, Leads-front, Leads, cost}
 use Rattle.exact_decoder.proofs.Surviving.Snoc.{snoc_of}
 use Rattle.exact_decoder.proofs.Surviving.Release.{survivor-one}
 use Rattle.exact_decoder.proofs.Surviving.Bellman.{Candidate, IsChosen, sequence-more, survivor-more}

@@ -1,11 +1,8 @@
 -- What survivors begin with, and what stays of it.
-use Rattle.std.proofs.Common.{◌≡◌, ℕ, ◌+◌, ◌<◌, ◌≤◌, inl, inr, List, [], ◌∷◌, ◌++◌, length, take, drop, arith, length-append, append_assoc}
-use Rattle.std.proofs.Common.{refl, sym, ◌∙◌, ap, subst, Option, Some, None}
-use Rattle.std.proofs.lemmas.List.{nil_from_length, append-nil, take-append-drop, take_all, take-take, take_at, take-append-le, length_push}
-use Rattle.std.proofs.lemmas.Bool.{cases_lt, cases_eq}
-use Rattle.exact_decoder.specs.Surviving.Trellises.{Trellis}
-use Rattle.shared_terms.specs.Prefix.{IsPrefixOf}
-use Rattle.exact_decoder.specs.Surviving.Survivors.{IsSurvivor, IsCommon, IsReleased, IsOver, IsLost, LostIs}
+use Rattle.exact_decoder.proofs.Names.{◌≡◌, ℕ, ◌+◌, ◌<◌, ◌≤◌, inl, inr, List, [], ◌∷◌, ◌++◌, length, take, drop, arith, length-append}
+use Rattle.exact_decoder.proofs.Names.{append_assoc, refl, sym, ◌∙◌, ap, subst, Option, Some, None, cases_lt, cases_eq, nil_from_length}
+use Rattle.exact_decoder.proofs.Names.{append-nil, take-append-drop, take_all, take-take, take_at, take-append-le, length_push, IsSurvivor}
+use Rattle.exact_decoder.proofs.Names.{IsCommon, IsReleased, IsOver, IsLost, LostIs, Trellis, IsPrefixOf}
 use Rattle.exact_decoder.proofs.Surviving.Bellman.{survivor-cut}
 
 front-is : (labels front rest : List ℕ) (n m : ℕ) → length front ≡ n → n ≤ m → take m labels ≡ front ++ rest → front ≡ take n labels

@@ -1,12 +1,8 @@
 -- The survivor of least cost, and the longest list that all survivors begin with.
-use Rattle.std.proofs.Common.{◌≡◌, ℕ, zero, suc, ◌<◌, ◌≤◌, ◌⊎◌, inl, inr, List, [], ◌∷◌, ◌++◌, length, take, drop, arith, length-append}
-use Rattle.std.proofs.Common.{refl, sym, ◌∙◌, ap, subst}
-use Rattle.std.proofs.lemmas.Bool.{cases_lt, cases_eq}
-use Rattle.std.proofs.lemmas.List.{take_at, take-take, take-append-drop}
-use Rattle.trellis_tables.specs.Sequences.{cost}
-use Rattle.exact_decoder.specs.Surviving.Trellises.{Trellis, IsSequence, HasLaws}
-use Rattle.shared_terms.specs.Prefix.{IsPrefixOf}
-use Rattle.exact_decoder.specs.Surviving.Survivors.{IsSurvivor, IsCommon, IsReleased, IsLeast}
+use Rattle.exact_decoder.proofs.Names.{◌≡◌, ℕ, zero, suc, ◌<◌, ◌≤◌, ◌⊎◌, inl, inr, List, [], ◌∷◌, ◌++◌, length, take, drop, arith}
+use Rattle.exact_decoder.proofs.Names.{length-append, refl, sym, ◌∙◌, ap, subst, cases_lt, cases_eq, take_at, take-take, take-append-drop}
+use Rattle.exact_decoder.proofs.Names.{IsSurvivor, IsCommon, IsReleased, Trellis, IsSequence, HasLaws, IsPrefixOf, cost}
+use Rattle.exact_decoder.specs.Surviving.Survivors.{IsLeast}
 use Rattle.exact_decoder.proofs.Surviving.Release.{survivor-one}
 use Rattle.exact_decoder.proofs.Surviving.Bellman.{least_cost}
 use Rattle.exact_decoder.proofs.Surviving.Existence.{Decided, decided, ends-within, some-survives}

@@ -1,9 +1,6 @@
 -- A state has one survivor; a prefix of two lists that part is a prefix of what they share.
-use Rattle.std.proofs.Common.{◌≡◌, ◌≢◌, ℕ, ◌≤◌, ◌⊎◌, inl, inr, List, [], ◌∷◌, ◌++◌, arith, refl, sym, ◌∙◌, ap, subst}
-use Rattle.shared_terms.specs.Prefix.{IsPrefixOf}
-use Rattle.exact_decoder.specs.Surviving.Orders.{LessFromLast, Beats}
-use Rattle.exact_decoder.specs.Surviving.Trellises.{Trellis}
-use Rattle.exact_decoder.specs.Surviving.Survivors.{IsSurvivor, IsFirstLeast}
+use Rattle.exact_decoder.proofs.Names.{◌≡◌, ◌≢◌, ℕ, ◌≤◌, ◌⊎◌, inl, inr, List, [], ◌∷◌, ◌++◌, arith, refl, sym, ◌∙◌, ap, subst, LessFromLast}
+use Rattle.exact_decoder.proofs.Names.{Beats, IsSurvivor, IsFirstLeast, Trellis, IsPrefixOf}
 
 not_less-self : (a : List ℕ) → LessFromLast a a → ⊥
 not_less-self [] h = h

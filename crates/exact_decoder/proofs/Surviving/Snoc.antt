@@ -1,7 +1,6 @@
 -- The order from the last label, where both lists go on by one label.
-use Rattle.std.proofs.Common.{◌≡◌, ℕ, ◌+◌, ◌<◌, inl, inr, List, [], ◌∷◌, ◌++◌, length, arith, refl, ap}
-use Rattle.std.proofs.lemmas.List.{append_cancel_right}
-use Rattle.exact_decoder.specs.Surviving.Orders.{LessFromLast}
+use Rattle.exact_decoder.proofs.Names.{◌≡◌, ℕ, ◌+◌, ◌<◌, inl, inr, List, [], ◌∷◌, ◌++◌, length, arith, refl, ap, append_cancel_right}
+use Rattle.exact_decoder.proofs.Names.{LessFromLast}
 
 pub Less-last : (a b : List ℕ) (x y : ℕ) → length a ≡ length b → x < y → LessFromLast (a ++ x ∷ []) (b ++ y ∷ [])
 Less-last [] [] x y h l = inr (refl, l)

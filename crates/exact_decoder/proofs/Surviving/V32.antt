@@ -1,8 +1,6 @@
 -- The laws of the eight-state code, whichever of its states its sequences start in.
-use Rattle.std.proofs.Common.{◌≡◌, ℕ, ◌<◌, Bool, true, refl, subst, sym, arith}
-use Rattle.std.proofs.lemmas.Bool.{eqb-true, ltb-true}
+use Rattle.exact_decoder.proofs.Names.{◌≡◌, ℕ, ◌<◌, Bool, true, refl, subst, sym, arith, eqb-true, ltb-true, HasLaws}
 use Rattle.trellis_tables.specs.V32Laws.{v32_bounded, v32_within, v32_enters_once, v32_reaches}
-use Rattle.exact_decoder.specs.Surviving.Trellises.{HasLaws}
 use Rattle.exact_decoder.specs.Surviving.V32.{v32_code, line_trellis, any_trellis}
 
 pub v32-has-laws : (starts : ℕ → Bool) (start : ℕ) → starts start ≡ true → ((state : ℕ) → starts state ≡ true → state < 8)

@@ -1,5 +1,4 @@
-use Rattle.std.proofs.Common.{◌≡◌, ◌-◌, arith, sym, subst, take}
-use Rattle.exact_decoder.specs.Traced.{Splits}
+use Rattle.exact_decoder.proofs.Names.{◌≡◌, ◌-◌, arith, sym, subst, take, Splits}
 use Rattle.exact_decoder.proofs.Walking.{back-none, back-within, back-met, first-long}
 use Rattle.exact_decoder.proofs.back.release.Goals as goal
 

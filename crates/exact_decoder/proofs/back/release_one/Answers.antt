@@ -1,5 +1,4 @@
-use Rattle.std.proofs.Common.{◌≡◌, ◌<◌, ◌-◌, ℕ, ◌∷◌, [], ap, sym, subst, arith, length, length-append, take}
-use Rattle.exact_decoder.specs.Traced.{Splits}
+use Rattle.exact_decoder.proofs.Names.{◌≡◌, ◌<◌, ◌-◌, ℕ, ◌∷◌, [], ap, sym, subst, arith, length, length-append, take, Splits}
 use Rattle.exact_decoder.proofs.Walking.{back-one, first-long, first-more}
 use Rattle.exact_decoder.proofs.back.release_one.Goals as goal
 

@@ -1,5 +1,4 @@
-use Rattle.std.proofs.Common.{◌≡◌, ℕ, ◌+◌, ◌<◌, ◌≤◌, length, take, replicate}
-use Rattle.exact_decoder.specs.Traced.{Back}
+use Rattle.exact_decoder.proofs.Names.{◌≡◌, ℕ, ◌+◌, ◌<◌, ◌≤◌, length, take, replicate, Back}
 use Rattle.exact_decoder.proofs.back.release_one.Given as goal
 
 abbrev pub invariant-loop-back : goal.invariant-loop-back

@@ -1,6 +1,4 @@
-use Rattle.std.proofs.Common.{◌+◌, set, arith, sym, subst, ◌∙◌}
-use Rattle.std.proofs.lemmas.Simd.{length-zip2}
-use Rattle.exact_decoder.specs.Traced.{choice_by}
+use Rattle.exact_decoder.proofs.Names.{◌+◌, set, arith, sym, subst, ◌∙◌, length-zip2, choice_by}
 use Rattle.exact_decoder.proofs.Settling.{SettledBelow, settled-more, choices-set}
 use Rattle.exact_decoder.proofs.choice.settle.Goals as goal
 

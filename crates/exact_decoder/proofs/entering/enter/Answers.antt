@@ -1,5 +1,4 @@
-use Rattle.std.proofs.Common.{◌≢◌, ◌<◌, length, arith, get_or-set_other, get_or-set_same, below_more}
-use Rattle.std.proofs.Math.ListN.{length-set}
+use Rattle.exact_decoder.proofs.Names.{◌≢◌, ◌<◌, length, arith, get_or-set_other, get_or-set_same, below_more, length-set}
 use Rattle.exact_decoder.proofs.entering.enter.Goals as goal
 
 pub loop-to-preserved : goal.loop-to-preserved

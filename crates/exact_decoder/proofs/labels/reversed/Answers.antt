@@ -1,5 +1,4 @@
-use Rattle.std.proofs.Common.{◌≡◌, ℕ, ◌+◌, ◌∷◌, [], length, length-append, reverse, arith, ap, ◌∙◌}
-use Rattle.std.proofs.lemmas.List.{length-reverse}
+use Rattle.exact_decoder.proofs.Names.{◌≡◌, ℕ, ◌+◌, ◌∷◌, [], length, length-append, reverse, arith, ap, ◌∙◌, length-reverse}
 use Rattle.exact_decoder.proofs.labels.reversed.Goals as goal
 
 pub push-requires : goal.push-requires

@@ -1,6 +1,4 @@
-use Rattle.std.proofs.Common.{nat_lt, ap, ◌∙◌, w32}
-use Rattle.std.specs.Simd.Lanes.{sel_l}
-use Rattle.std.proofs.lemmas.Simd.{tops_compared}
+use Rattle.exact_decoder.proofs.Names.{nat_lt, ap, ◌∙◌, w32, tops_compared, sel_l}
 use Rattle.exact_decoder.proofs.Lessers.{lessers}
 use Rattle.exact_decoder.proofs.lines.lesser.Goals as goal
 

@@ -1,6 +1,5 @@
-use Rattle.std.proofs.Common.{◌≡◌, ℕ, ◌<◌, ◌+◌, ◌-◌, ◌*◌, ◌%◌, min, List, [], ◌∷◌, refl, ap, ◌∙◌, arith}
-use Rattle.std.specs.Simd.Lanes.{zip2}
-use Rattle.exact_decoder.specs.Lines.{nearest_000, nearest_001, nearest_110, nearest_111}
+use Rattle.exact_decoder.proofs.Names.{◌≡◌, ℕ, ◌<◌, ◌+◌, ◌-◌, ◌*◌, ◌%◌, min, List, [], ◌∷◌, refl, ap, ◌∙◌, arith, zip2, nearest_000}
+use Rattle.exact_decoder.proofs.Names.{nearest_001, nearest_110, nearest_111}
 use Rattle.exact_decoder.proofs.Vectors.{both, turned, four}
 use Rattle.exact_decoder.proofs.lines.nearest_others.Goals as goal
 

@@ -1,5 +1,4 @@
-use Rattle.std.proofs.Common.{ℕ, ◌+◌, ◌-◌, ◌%◌, min, List, [], ◌∷◌, refl, ◌∙◌, arith}
-use Rattle.std.specs.Simd.Lanes.{zip2}
+use Rattle.exact_decoder.proofs.Names.{ℕ, ◌+◌, ◌-◌, ◌%◌, min, List, [], ◌∷◌, refl, ◌∙◌, arith, zip2}
 use Rattle.exact_decoder.proofs.Lanes.{lane-010, lane-011, lane-100, lane-101}
 use Rattle.exact_decoder.proofs.Vectors.{both, turned, four}
 use Rattle.exact_decoder.proofs.lines.nearest_squares.Goals as goal

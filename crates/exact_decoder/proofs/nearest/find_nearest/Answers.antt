@@ -1,5 +1,4 @@
-use Rattle.std.proofs.Common.{◌≢◌, ◌<◌, length, arith, get_or-set_other, get_or-set_same, below_more}
-use Rattle.std.proofs.Math.ListN.{length-set}
+use Rattle.exact_decoder.proofs.Names.{◌≢◌, ◌<◌, length, arith, get_or-set_other, get_or-set_same, below_more, length-set}
 use Rattle.exact_decoder.proofs.nearest.find_nearest.Goals as goal
 
 pub loop-subset-preserved : goal.loop-subset-preserved

@@ -1,5 +1,4 @@
-use Rattle.std.proofs.Common.{◌≢◌, ◌<◌, length, refl, arith, get_or-set_other, get_or-set_same, below_more}
-use Rattle.std.proofs.Math.ListN.{length-set}
+use Rattle.exact_decoder.proofs.Names.{◌≢◌, ◌<◌, length, refl, arith, get_or-set_other, get_or-set_same, below_more, length-set}
 use Rattle.exact_decoder.proofs.room.no_sums.Goals as goal
 
 pub loop-state-preserved : goal.loop-state-preserved

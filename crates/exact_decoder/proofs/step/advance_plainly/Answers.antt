@@ -1,5 +1,4 @@
-use Rattle.std.proofs.Common.{◌≡◌, ◌∙◌, ℕ, ◌*◌, ◌≤◌, sym, subst, arith}
-use Rattle.std.proofs.lemmas.List.{length-replicate}
+use Rattle.exact_decoder.proofs.Names.{◌≡◌, ◌∙◌, ℕ, ◌*◌, ◌≤◌, sym, subst, arith, length-replicate}
 use Rattle.exact_decoder.proofs.step.advance_plainly.Goals as goal
 
 -- subsets that fill the labels are no more than these

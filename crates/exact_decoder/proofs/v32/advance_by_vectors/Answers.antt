@@ -1,17 +1,7 @@
-use Rattle.std.proofs.Common.{◌≡◌, ℕ, ◌+◌, ◌*◌, ◌/◌, ◌^◌, ◌<◌, List, [], ◌∷◌, ◌++◌, length, arith, lit<, refl, sym, ◌∙◌, ap, subst}
-use Rattle.std.specs.Prelude.{ℤ}
-use Rattle.std.specs.Int.{w16, cast_signed, cast_unsigned}
-use Rattle.std.proofs.lemmas.Int.{ints}
-use Rattle.std.specs.Simd.Lanes.{zip2, pick_l}
-use Rattle.std.proofs.lemmas.Simd.{put_chunk_whole}
-use Rattle.symbol_map.specs.declared.sample.Sample.{Sample}
-use Rattle.symbol_map.specs.Points.{point_of}
-use Rattle.trellis_tables.specs.Ways.{way_before, way_subset}
-use Rattle.exact_decoder.specs.declared.choice.Choice.{Choice}
-use Rattle.exact_decoder.specs.Advances.{Advances}
-use Rattle.exact_decoder.specs.Lines.{words, coordinate, sample_at, nearest_000, nearest_001, nearest_010, nearest_011, nearest_100}
-use Rattle.exact_decoder.specs.Lines.{nearest_101, nearest_110, nearest_111}
-use Rattle.exact_decoder.specs.Traced.{choice_by}
+use Rattle.exact_decoder.proofs.Names.{◌≡◌, ℕ, ◌+◌, ◌*◌, ◌/◌, ◌^◌, ◌<◌, List, [], ◌∷◌, ◌++◌, length, arith, lit<, refl, sym, ◌∙◌, ap, subst}
+use Rattle.exact_decoder.proofs.Names.{ints, put_chunk_whole, w16, cast_signed, cast_unsigned, ℤ, zip2, pick_l, Advances, words, coordinate}
+use Rattle.exact_decoder.proofs.Names.{sample_at, nearest_000, nearest_001, nearest_010, nearest_011, nearest_100, nearest_101, nearest_110}
+use Rattle.exact_decoder.proofs.Names.{nearest_111, choice_by, Choice, point_of, Sample, way_before, way_subset}
 use Rattle.exact_decoder.proofs.Vectors.{both, turned, words-are, each_of_eight}
 use Rattle.exact_decoder.proofs.Small.{small-000, small-001, small-010, small-011, small-100, small-101, small-110, small-111}
 use Rattle.exact_decoder.proofs.Eight.{key_into, key-small, least_of_eight, advances}

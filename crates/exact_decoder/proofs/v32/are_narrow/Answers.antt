@@ -1,8 +1,6 @@
-use Rattle.std.proofs.Common.{◌≡◌, ◌%◌, nat_eq, true, List, ℕ, [], ◌∷◌, bit_and, slice_index, take, arith, ◌∙◌, ap, subst, w64}
-use Rattle.std.specs.Simd.Lanes.{zip2, mask_l}
-use Rattle.std.proofs.lemmas.List.{take_all}
-use Rattle.std.proofs.lemmas.Simd.{tops_compared}
-use Rattle.exact_decoder.specs.Lines.{IsNarrow}
+use Rattle.exact_decoder.proofs.Names.{◌≡◌, ◌%◌, nat_eq, true, List, ℕ, [], ◌∷◌, bit_and, slice_index, take, arith, ◌∙◌, ap, subst}
+use Rattle.exact_decoder.proofs.Names.{take_all, tops_compared, zip2, mask_l, IsNarrow}
+use Rattle.std.proofs.Common.{w64}
 use Rattle.exact_decoder.proofs.Vectors.{lanes-are, each_of_eight}
 use Rattle.exact_decoder.proofs.Narrow.{are-set, narrow-lane}
 use Rattle.exact_decoder.proofs.v32.are_narrow.Goals as goal

@@ -1,5 +1,4 @@
-use Rattle.std.proofs.Common.{min, [], ◌∷◌, ◌∙◌, arith}
-use Rattle.std.specs.Simd.Lanes.{zip2}
+use Rattle.exact_decoder.proofs.Names.{min, [], ◌∷◌, ◌∙◌, arith, zip2}
 use Rattle.exact_decoder.proofs.Vectors.{both, turned}
 use Rattle.exact_decoder.proofs.v32.enter_second.Goals as goal
 

@@ -1,6 +1,5 @@
-use Rattle.std.proofs.Common.{◌/◌, ◌^◌, ◌<◌, get_or, take, length, arith, ap, w32, Fits}
-use Rattle.std.proofs.lemmas.Simd.{Each1-zip2, Each2-splat, Each1-from_get_or}
-use Rattle.std.proofs.lemmas.List.{take_all}
+use Rattle.exact_decoder.proofs.Names.{◌/◌, ◌^◌, ◌<◌, get_or, take, length, arith, ap, w32, Fits, take_all, Each1-zip2, Each2-splat}
+use Rattle.std.proofs.lemmas.Simd.{Each1-from_get_or}
 use Rattle.exact_decoder.proofs.v32.keys_of.Goals as goal
 
 pub overflow_cast-result : goal.overflow_cast-result

@@ -1,5 +1,4 @@
-use Rattle.std.proofs.Common.{◌≡◌, ℕ, min, [], ◌∷◌, refl, ◌∙◌, arith}
-use Rattle.std.specs.Simd.Lanes.{zip2}
+use Rattle.exact_decoder.proofs.Names.{◌≡◌, ℕ, min, [], ◌∷◌, refl, ◌∙◌, arith, zip2}
 use Rattle.exact_decoder.proofs.Vectors.{both, turned, four}
 use Rattle.exact_decoder.proofs.v32.least_in.Goals as goal
 

@@ -1,5 +1,4 @@
-use Rattle.std.proofs.Common.{◌≡◌, ℕ, ◌+◌, ◌%◌, ◌<◌, List, [], ◌∷◌, ◌++◌, arith, ap, ◌∙◌}
-use Rattle.std.specs.Simd.Lanes.{zip2, pick_l}
+use Rattle.exact_decoder.proofs.Names.{◌≡◌, ℕ, ◌+◌, ◌%◌, ◌<◌, List, [], ◌∷◌, ◌++◌, arith, ap, ◌∙◌, zip2, pick_l}
 use Rattle.exact_decoder.proofs.Vectors.{eight}
 use Rattle.exact_decoder.proofs.v32.places_of.Goals as goal
 

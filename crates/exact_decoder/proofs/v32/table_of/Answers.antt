@@ -1,7 +1,5 @@
-use Rattle.std.proofs.Common.{◌≡◌, ℕ, ◌+◌, List, ◌++◌, [], ◌∷◌, take, slice_index, refl, sym, subst, arith}
-use Rattle.std.specs.Simd.Lanes.{zip2, pick_l}
-use Rattle.exact_decoder.specs.Settled.{choice_at}
-use Rattle.exact_decoder.specs.Traced.{choice_by}
+use Rattle.exact_decoder.proofs.Names.{◌≡◌, ℕ, ◌+◌, List, ◌++◌, [], ◌∷◌, take, slice_index, refl, sym, subst, arith, zip2, pick_l}
+use Rattle.exact_decoder.proofs.Names.{choice_at, choice_by}
 use Rattle.exact_decoder.proofs.Vectors.{lanes, lanes-are, each_of_eight}
 use Rattle.exact_decoder.proofs.v32.table_of.Goals as goal
 

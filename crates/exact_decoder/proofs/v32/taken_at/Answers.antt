@@ -1,6 +1,5 @@
-use Rattle.std.proofs.Common.{◌≡◌, ℕ, ◌+◌, ◌<◌, List, length, [], ◌∷◌, slice_index, refl, ◌∙◌, sym, ap, subst, arith}
+use Rattle.exact_decoder.proofs.Names.{◌≡◌, ℕ, ◌+◌, ◌<◌, List, length, [], ◌∷◌, slice_index, refl, ◌∙◌, sym, ap, subst, arith, take_all}
 use Rattle.std.specs.Simd.Lanes.{Each1}
-use Rattle.std.proofs.lemmas.List.{take_all}
 use Rattle.exact_decoder.proofs.Vectors.{lanes-are, each_of_eight}
 use Rattle.exact_decoder.proofs.v32.taken_at.Goals.{After-places_of}
 use Rattle.exact_decoder.proofs.v32.taken_at.Goals as goal

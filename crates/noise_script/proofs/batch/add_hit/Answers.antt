@@ -1,6 +1,4 @@
-use Rattle.std.proofs.Common.{◌≡◌, true, false, arith, rules}
-use Rattle.shared_terms.specs.Role.{same_role}
-use Rattle.noise_script.specs.declared.offset.Offset.{Offset}
+use Rattle.noise_script.proofs.Names.{◌≡◌, true, false, arith, rules, Offset, same_role}
 use Rattle.noise_script.proofs.Sums.{same-offset}
 use Rattle.noise_script.proofs.Batched.{apart, begins, goes-on, ends, within-at, hit-small}
 use Rattle.noise_script.proofs.batch.add_hit.Goals as goal

@@ -1,5 +1,4 @@
-use Rattle.std.proofs.Common.{◌+◌}
-use Rattle.noise_script.specs.Offsets.{hit_offset}
+use Rattle.noise_script.proofs.Names.{◌+◌, hit_offset}
 use Rattle.noise_script.proofs.Batched.{GrowUpTo}
 use Rattle.noise_script.proofs.batch.add_hit.Given as goal
 

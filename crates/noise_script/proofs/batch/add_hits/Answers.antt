@@ -1,7 +1,4 @@
-use Rattle.std.proofs.Common.{◌+◌, ℕ, arith}
-use Rattle.noise_script.specs.declared.entry.Hit.{Hit}
-use Rattle.noise_script.specs.declared.offset.Offset.{Offset}
-use Rattle.noise_script.specs.Offsets.{hit_offset}
+use Rattle.noise_script.proofs.Names.{◌+◌, ℕ, arith, hit_offset, Hit, Offset}
 use Rattle.noise_script.proofs.Sums.{no_hit}
 use Rattle.noise_script.proofs.Batched.{no-line, line-more, far-more, farther}
 use Rattle.noise_script.proofs.batch.add_hits.Goals as goal

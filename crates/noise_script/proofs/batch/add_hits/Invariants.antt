@@ -1,6 +1,4 @@
-use Rattle.std.proofs.Common.{◌+◌, ◌*◌, take, map}
-use Rattle.noise_script.specs.Offsets.{sum_of, hit_offset}
-use Rattle.noise_script.specs.Batches.{Grow, AreWithin}
+use Rattle.noise_script.proofs.Names.{◌+◌, ◌*◌, take, map, Grow, AreWithin, sum_of, hit_offset}
 use Rattle.noise_script.proofs.batch.add_hits.Given as goal
 
 abbrev pub invariant-loop-hit : goal.invariant-loop-hit

@@ -1,8 +1,4 @@
-use Rattle.std.proofs.Common.{◌≡◌, ◌∙◌, ◌+◌, ◌-◌, ℕ, true, arith, rules}
-use Rattle.shared_terms.specs.Role.{same_role}
-use Rattle.noise_script.specs.declared.entry.Noise.{Noise}
-use Rattle.noise_script.specs.declared.offset.Offset.{Offset}
-use Rattle.noise_script.specs.Offsets.{drawn_offset, word_at, stream_of}
+use Rattle.noise_script.proofs.Names.{◌≡◌, ◌∙◌, ◌+◌, ◌-◌, ℕ, true, arith, rules, drawn_offset, word_at, stream_of, Noise, Offset, same_role}
 use Rattle.noise_script.proofs.Batched.{begins, goes-on, ends, within-at, noise-small, same-drawn}
 use Rattle.noise_script.proofs.batch.add_noise.Goals as goal
 

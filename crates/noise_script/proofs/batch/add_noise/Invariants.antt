@@ -1,5 +1,4 @@
-use Rattle.std.proofs.Common.{◌≡◌, ◌+◌, ◌-◌}
-use Rattle.noise_script.specs.Offsets.{noise_offset}
+use Rattle.noise_script.proofs.Names.{◌≡◌, ◌+◌, ◌-◌, noise_offset}
 use Rattle.noise_script.proofs.Batched.{GrowUpTo}
 use Rattle.noise_script.proofs.batch.add_noise.Given as goal
 

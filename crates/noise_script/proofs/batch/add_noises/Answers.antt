@@ -1,7 +1,4 @@
-use Rattle.std.proofs.Common.{◌+◌, ℕ, arith}
-use Rattle.noise_script.specs.declared.entry.Noise.{Noise}
-use Rattle.noise_script.specs.declared.offset.Offset.{Offset}
-use Rattle.noise_script.specs.Offsets.{noise_offset}
+use Rattle.noise_script.proofs.Names.{◌+◌, ℕ, arith, noise_offset, Noise, Offset}
 use Rattle.noise_script.proofs.Sums.{no_noise, quiet-at}
 use Rattle.noise_script.proofs.Batched.{no-line, line-more, far-more, farther}
 use Rattle.noise_script.proofs.batch.add_noises.Goals as goal

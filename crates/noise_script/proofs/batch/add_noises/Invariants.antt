@@ -1,6 +1,4 @@
-use Rattle.std.proofs.Common.{◌+◌, ◌*◌, take, map}
-use Rattle.noise_script.specs.Offsets.{sum_of, noise_offset}
-use Rattle.noise_script.specs.Batches.{Grow, AreWithin}
+use Rattle.noise_script.proofs.Names.{◌+◌, ◌*◌, take, map, Grow, AreWithin, sum_of, noise_offset}
 use Rattle.noise_script.proofs.batch.add_noises.Given as goal
 
 abbrev pub invariant-loop-line : goal.invariant-loop-line

@@ -1,5 +1,4 @@
-use Rattle.std.proofs.Common.{◌∙◌, length-set, arith}
-use Rattle.noise_script.specs.Offsets.{nothing}
+use Rattle.noise_script.proofs.Names.{◌∙◌, length-set, arith, nothing}
 use Rattle.noise_script.proofs.Batched.{nothing-at}
 use Rattle.noise_script.proofs.batch.clear.Goals as goal
 

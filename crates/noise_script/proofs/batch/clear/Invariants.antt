@@ -1,6 +1,4 @@
-use Rattle.std.proofs.Common.{◌≡◌, ℕ, ◌<◌, length}
-use Rattle.noise_script.specs.Offsets.{nothing}
-use Rattle.noise_script.specs.Batches.{at_place}
+use Rattle.noise_script.proofs.Names.{◌≡◌, ℕ, ◌<◌, length, at_place, nothing}
 use Rattle.noise_script.proofs.batch.clear.Given as goal
 
 abbrev pub invariant-loop-place : goal.invariant-loop-place

@@ -1,7 +1,5 @@
-use Rattle.std.proofs.Common.{◌≡◌, ◌∙◌, ◌++◌, ◌∷◌, [], ℕ, zero, suc, ◌<◌, nat_lt, true, List, length, take, drop, get_or, refl, ap, arith}
-use Rattle.std.proofs.lemmas.Bool.Decides.{nat_tests}
-use Rattle.noise_script.specs.declared.entry.Break.{Break}
-use Rattle.noise_script.specs.Breaks.{placed}
+use Rattle.noise_script.proofs.Names.{◌≡◌, ◌∙◌, ◌++◌, ◌∷◌, [], ℕ, zero, suc, ◌<◌, nat_lt, true, List, length, take, drop, get_or, refl, ap}
+use Rattle.noise_script.proofs.Names.{arith, nat_tests, placed, Break}
 use Rattle.noise_script.proofs.draft.place_of.Goals as goal
 
 -- a line before the first one that is later

@@ -1,5 +1,4 @@
-use Rattle.std.proofs.Common.{◌≡◌, ◌++◌, take, drop}
-use Rattle.noise_script.specs.Breaks.{placed}
+use Rattle.noise_script.proofs.Names.{◌≡◌, ◌++◌, take, drop, placed}
 use Rattle.noise_script.proofs.draft.place_of.Given as goal
 
 abbrev pub invariant-loop-at : goal.invariant-loop-at

@@ -1,5 +1,4 @@
-use Rattle.std.proofs.Common.{◌∙◌, [], ◌∷◌, refl, sym, ap, append-nil}
-use Rattle.noise_script.specs.Lines.{words_of}
+use Rattle.noise_script.proofs.Names.{◌∙◌, [], ◌∷◌, refl, sym, ap, append-nil, words_of}
 use Rattle.noise_script.proofs.Cuts.{line-cut, line-last, blank-first, word-cut, blank-ends}
 use Rattle.noise_script.proofs.laws.cuts.Goals as goal
 

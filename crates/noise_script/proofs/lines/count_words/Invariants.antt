@@ -1,5 +1,4 @@
-use Rattle.std.proofs.Common.{◌≡◌, ◌+◌, ◌≤◌, length}
-use Rattle.noise_script.specs.Lines.{words_of}
+use Rattle.noise_script.proofs.Names.{◌≡◌, ◌+◌, ◌≤◌, length, words_of}
 use Rattle.noise_script.proofs.lines.count_words.Given as goal
 
 abbrev pub invariant-loop-behind : goal.invariant-loop-behind

@@ -1,5 +1,4 @@
-use Rattle.std.proofs.Common.{ap, sym, ◌∙◌}
-use Rattle.noise_script.specs.Lines.{words_of}
+use Rattle.noise_script.proofs.Names.{ap, sym, ◌∙◌, words_of}
 use Rattle.noise_script.proofs.lines.first_word.Goals as goal
 
 pub cut_word-requires : goal.cut_word-requires

@@ -1,5 +1,4 @@
-use Rattle.std.proofs.Common.{◌≡◌, true, take}
-use Rattle.std.specs.List.{list_all}
+use Rattle.noise_script.proofs.Names.{◌≡◌, true, take, list_all}
 use Rattle.noise_script.proofs.Cuts.{is_no_feed}
 use Rattle.noise_script.proofs.lines.next_line.Given as goal
 

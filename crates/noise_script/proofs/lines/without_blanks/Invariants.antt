@@ -1,5 +1,4 @@
-use Rattle.std.proofs.Common.{◌≡◌, drop}
-use Rattle.noise_script.specs.Lines.{words_of}
+use Rattle.noise_script.proofs.Names.{◌≡◌, drop, words_of}
 use Rattle.noise_script.proofs.lines.without_blanks.Given as goal
 
 abbrev pub invariant-loop-at : goal.invariant-loop-at

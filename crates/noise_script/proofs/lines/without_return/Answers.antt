@@ -1,5 +1,4 @@
-use Rattle.std.proofs.Common.{◌++◌, ◌∷◌, [], sym, ap, ◌∙◌}
-use Rattle.noise_script.specs.Lines.{without_return}
+use Rattle.noise_script.proofs.Names.{◌++◌, ◌∷◌, [], sym, ap, ◌∙◌, without_return}
 use Rattle.noise_script.proofs.Cuts.{return-gone, return-kept}
 use Rattle.noise_script.proofs.lines.without_return.Goals as goal
 

@@ -1,6 +1,4 @@
-use Rattle.std.proofs.Common.{◌≡◌, true, take}
-use Rattle.std.specs.List.{list_all}
-use Rattle.noise_script.specs.Numbers.{is_digit, value_of}
+use Rattle.noise_script.proofs.Names.{◌≡◌, true, take, list_all, is_digit, value_of}
 use Rattle.noise_script.proofs.numbers.read_digits.Given as goal
 
 abbrev pub invariant-loop-octet : goal.invariant-loop-octet

@@ -1,8 +1,7 @@
-use Rattle.std.proofs.Common.{◌≡◌, ◌∙◌, inl, inr, true, IfSome, subst, arith}
+use Rattle.noise_script.proofs.Names.{◌≡◌, ◌∙◌, inl, inr, true, IfSome, subst, arith, ints, w16, cast_signed, cast_unsigned, is_signed}
+use Rattle.noise_script.proofs.Names.{signed_value_of}
 use Rattle.std.specs.Prelude.{ℤ}
-use Rattle.std.specs.Int.{w16, w128, cast_signed, cast_unsigned}
-use Rattle.std.proofs.lemmas.Int.{ints}
-use Rattle.noise_script.specs.Numbers.{is_signed, signed_value_of}
+use Rattle.std.specs.Int.{w128}
 use Rattle.noise_script.proofs.numbers.read_signed.Goals as goal
 use Rattle.noise_script.proofs.numbers.read_signed.Goals.{then-value-from-via-then-value-from}
 use Rattle.noise_script.proofs.numbers.read_signed.Goals.{then-value-from-via-else-value-from+then-value-from-2}

@@ -1,5 +1,4 @@
-use Rattle.std.proofs.Common.{arith}
-use Rattle.std.proofs.lemmas.Int.{ints}
+use Rattle.noise_script.proofs.Names.{arith, ints}
 use Rattle.noise_script.proofs.Sums.{same-offset}
 use Rattle.noise_script.proofs.offset.plus.Goals as goal
 

@@ -1,6 +1,4 @@
-use Rattle.std.proofs.Common.{inr, refl}
-use Rattle.noise_script.specs.Forms.{SpellsLine}
-use Rattle.noise_script.specs.Lines.{words_of}
+use Rattle.noise_script.proofs.Names.{inr, refl, SpellsLine, words_of}
 use Rattle.noise_script.proofs.Entries.{holds-more}
 use Rattle.noise_script.proofs.Progress.{too-many, not-full}
 use Rattle.noise_script.proofs.reader.add_line.Goals as goal

@@ -1,8 +1,4 @@
-use Rattle.std.proofs.Common.{◌≡◌, length, refl, subst, arith}
-use Rattle.std.proofs.lemmas.Bool.Decides.{nat_tests}
-use Rattle.std.proofs.lemmas.List.{nil_from_length}
-use Rattle.std.proofs.lemmas.Result.{err_from_is_err_and}
-use Rattle.noise_script.specs.Draft.{HoldsUpTo}
+use Rattle.noise_script.proofs.Names.{◌≡◌, length, refl, subst, arith, nat_tests, nil_from_length, err_from_is_err_and, HoldsUpTo}
 use Rattle.noise_script.proofs.Progress.{holds-none, holds-more, fault-of}
 use Rattle.noise_script.proofs.reader.read_draft.Goals as goal
 

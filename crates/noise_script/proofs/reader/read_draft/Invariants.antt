@@ -1,5 +1,4 @@
-use Rattle.std.proofs.Common.{◌+◌, ◌≤◌, length}
-use Rattle.noise_script.specs.Draft.{HoldsUpTo}
+use Rattle.noise_script.proofs.Names.{◌+◌, ◌≤◌, length, HoldsUpTo}
 use Rattle.noise_script.proofs.reader.read_draft.Given as goal
 
 abbrev pub invariant-loop-rest : goal.invariant-loop-rest

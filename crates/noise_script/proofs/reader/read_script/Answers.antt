@@ -1,10 +1,6 @@
-use Rattle.std.proofs.Common.{◌≡◌, ◌⊎◌, inl, inr, ℕ, List, refl}
-use Rattle.std.proofs.lemmas.Result.{err_from_is_err_and}
-use Rattle.shared_terms.specs.declared.cause.Cause.{Cause}
-use Rattle.noise_script.specs.declared.fault.ScriptFault.{ScriptFault}
+use Rattle.noise_script.proofs.Names.{◌≡◌, ◌⊎◌, inl, inr, ℕ, List, refl, err_from_is_err_and, ScriptSpelling, FirstFault, IsFaultOf}
+use Rattle.noise_script.proofs.Names.{ScriptValue, ScriptFault, Cause}
 use Rattle.noise_script.specs.declared.fault.ScriptFault.TheVariants as faults
-use Rattle.noise_script.specs.Script.{ScriptValue}
-use Rattle.noise_script.specs.Grammar.{ScriptSpelling, FirstFault, IsFaultOf}
 use Rattle.noise_script.proofs.Ranges.{draft-in-limits, read-spelling}
 use Rattle.noise_script.proofs.Unique.{spelling-fault, spelling-once, fault-once}
 use Rattle.noise_script.proofs.reader.read_script.Goals as goal

@@ -1,9 +1,6 @@
-use Rattle.std.proofs.Common.{◌≡◌, [], ◌∷◌, length, refl, sym, subst, arith}
-use Rattle.std.specs.Int.{w16, cast_signed, cast_unsigned}
-use Rattle.std.proofs.lemmas.Int.{ints}
-use Rattle.std.proofs.lemmas.Result.{err_from_is_err_and}
-use Rattle.noise_script.specs.Lines.{words_of}
-use Rattle.noise_script.specs.Forms.{Reads, SignedIs, count, symbol, coordinate}
+use Rattle.noise_script.proofs.Names.{◌≡◌, [], ◌∷◌, length, refl, sym, subst, arith, ints, err_from_is_err_and, w16, cast_signed}
+use Rattle.noise_script.proofs.Names.{cast_unsigned, Reads, SignedIs, words_of}
+use Rattle.noise_script.specs.Forms.{count, symbol, coordinate}
 use Rattle.noise_script.proofs.Words.{fails-here, fails-later, fails-behind, spells-here, spells-behind, spells-none, one-less, three-less}
 use Rattle.noise_script.proofs.reading.read_hit.Goals as goal
 

@@ -1,5 +1,4 @@
-use Rattle.std.proofs.Common.{sym, ◌∙◌}
-use Rattle.std.proofs.lemmas.Result.{err_from_is_err_and}
+use Rattle.noise_script.proofs.Names.{sym, ◌∙◌, err_from_is_err_and}
 use Rattle.noise_script.proofs.Words.{spells-line, miscounts, misreads}
 use Rattle.noise_script.proofs.reading.read_line.Goals as goal
 

@@ -1,5 +1,4 @@
-use Rattle.std.proofs.Common.{[]}
-use Rattle.std.proofs.lemmas.Result.{err_from_is_err_and}
+use Rattle.noise_script.proofs.Names.{[], err_from_is_err_and}
 use Rattle.noise_script.proofs.reading.read_loss.Goals as goal
 
 pub returns-in_err-role : goal.returns-in_err-role

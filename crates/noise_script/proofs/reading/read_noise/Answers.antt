@@ -1,6 +1,4 @@
-use Rattle.std.proofs.Common.{[], ◌∷◌}
-use Rattle.std.proofs.lemmas.Result.{err_from_is_err_and}
-use Rattle.noise_script.specs.Forms.{Number}
+use Rattle.noise_script.proofs.Names.{[], ◌∷◌, err_from_is_err_and, Number}
 use Rattle.noise_script.proofs.Words.{fails-here, fails-later, fails-behind}
 use Rattle.noise_script.proofs.reading.read_noise.Goals as goal
 

@@ -1,8 +1,5 @@
-use Rattle.std.proofs.Common.{◌≡◌, ◌+◌, ◌*◌, ◌-◌, ◌++◌, ℕ, List, map, take, subst, arith}
-use Rattle.std.proofs.lemmas.List.{take_all}
-use Rattle.symbol_map.specs.Points.{point_of}
-use Rattle.line_coding.specs.Modulates.{ModulatorStands}
-use Rattle.bit_stuffing.specs.BitSlot.{line_bits}
+use Rattle.sample_line.proofs.Names.{◌≡◌, ◌+◌, ◌*◌, ◌-◌, ◌++◌, ℕ, List, map, take, subst, arith, take_all, line_bits, ModulatorStands}
+use Rattle.sample_line.proofs.Names.{point_of}
 use Rattle.sample_line.proofs.coder.write_labels.Goals as goal
 
 pub returns-then-count-eq1 : goal.returns-then-count-eq1

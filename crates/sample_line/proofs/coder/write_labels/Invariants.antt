@@ -1,9 +1,4 @@
-use Rattle.std.proofs.Common.{◌≡◌, ◌*◌, ◌++◌, Bool, List, length, map, take}
-use Rattle.scramblers.specs.declared.mode.Mode.{Mode}
-use Rattle.symbol_map.specs.declared.sample.Sample.{Sample}
-use Rattle.symbol_map.specs.Points.{point_of}
-use Rattle.line_coding.specs.Modulates.{ModulatorStands}
-use Rattle.bit_stuffing.specs.BitSlot.{line_bits}
+use Rattle.sample_line.proofs.Names.{◌≡◌, ◌*◌, ◌++◌, Bool, List, length, map, take, line_bits, ModulatorStands, Mode, point_of, Sample}
 use Rattle.sample_line.proofs.coder.write_labels.Given as goal
 
 abbrev pub invariant-loop-pair : goal.invariant-loop-pair

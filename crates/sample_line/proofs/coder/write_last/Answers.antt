@@ -1,9 +1,5 @@
-use Rattle.std.proofs.Common.{◌≡◌, ◌∙◌, ◌+◌, ◌++◌, [], ◌∷◌, ℕ, Bool, List, map, take, sym, ap, subst}
-use Rattle.std.proofs.lemmas.List.{append_assoc, map-append}
-use Rattle.symbol_map.specs.declared.sample.Sample.{Sample}
-use Rattle.symbol_map.specs.Points.{point_of}
-use Rattle.line_coding.specs.Modulates.{ModulatorStands}
-use Rattle.bit_stuffing.specs.BitSlot.{line_bits}
+use Rattle.sample_line.proofs.Names.{◌≡◌, ◌∙◌, ◌+◌, ◌++◌, [], ◌∷◌, ℕ, Bool, List, map, take, sym, ap, subst, append_assoc, map-append}
+use Rattle.sample_line.proofs.Names.{line_bits, ModulatorStands, point_of, Sample}
 use Rattle.sample_line.proofs.Standing.{sent-part}
 use Rattle.sample_line.proofs.coder.write_last.Goals as goal
 

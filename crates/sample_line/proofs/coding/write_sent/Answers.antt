@@ -1,11 +1,8 @@
-use Rattle.std.proofs.Common.{◌∙◌, ◌*◌, ◌-◌, ◌≤◌, ℕ, List, [], ◌∷◌, ◌++◌, length, Some, sym, ap, subst}
+use Rattle.sample_line.proofs.Names.{◌∙◌, ◌*◌, ◌-◌, ◌≤◌, ℕ, List, [], ◌∷◌, ◌++◌, length, Some, sym, ap, subst, WriterStands, slot_bits}
+use Rattle.sample_line.proofs.Names.{slot_of, Sent, signal_of, IsCodable}
 use Rattle.bit_stuffing.specs.declared.slot_writer.TheConstants.{TAIL}
-use Rattle.bit_stuffing.specs.Slots.{opening, slot_bits}
-use Rattle.bit_stuffing.specs.SlotWriter.{WriterStands}
-use Rattle.detection.specs.Slots.{slot_of}
+use Rattle.bit_stuffing.specs.Slots.{opening}
 use Rattle.detection.specs.Slots.Signal.{FlagSlot}
-use Rattle.lapm_frames.specs.declared.sent.Sent.{Sent}
-use Rattle.sample_line.specs.Signals.{signal_of, IsCodable}
 use Rattle.sample_line.proofs.coding.write_sent.Goals as goal
 
 -- the octets that the slot writer takes are those of the frame with its check

@@ -1,5 +1,4 @@
-use Rattle.std.proofs.Common.{sym, ap}
-use Rattle.sample_line.specs.Mode.{mode_of}
+use Rattle.sample_line.proofs.Names.{sym, ap, mode_of}
 use Rattle.sample_line.proofs.mode.mode_of.Goals as goal
 
 pub returns-in-Answerer : goal.returns-in-Answerer

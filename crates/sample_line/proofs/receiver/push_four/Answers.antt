@@ -1,6 +1,4 @@
-use Rattle.std.proofs.Common.{◌++◌, map}
-use Rattle.frame_check.specs.Bits.{low_bits}
-use Rattle.detection.specs.Sights.{Sight}
+use Rattle.sample_line.proofs.Names.{◌++◌, map, Sight, low_bits}
 use Rattle.sample_line.proofs.Finding.{found-both}
 use Rattle.sample_line.proofs.receiver.push_four.Goals as goal
 

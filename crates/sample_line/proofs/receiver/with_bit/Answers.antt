@@ -1,9 +1,6 @@
-use Rattle.std.proofs.Common.{◌≡◌, ◌∙◌, List, ℕ, [], ◌∷◌, ◌++◌, Some, sym, subst, append-nil}
-use Rattle.std.specs.Prelude.{option_to_list}
-use Rattle.bit_stuffing.specs.declared.piece.Piece.TheVariants.{Whole}
-use Rattle.bit_stuffing.specs.Found.{found_at, listed, answer_of}
+use Rattle.sample_line.proofs.Names.{◌≡◌, ◌∙◌, List, ℕ, [], ◌∷◌, ◌++◌, Some, sym, subst, append-nil, option_to_list, listed, Whole, Tallies}
+use Rattle.bit_stuffing.specs.Found.{found_at, answer_of}
 use Rattle.bit_stuffing.proofs.Found.{pieces-more}
-use Rattle.sample_line.specs.Tallies.{Tallies}
 use Rattle.sample_line.proofs.Finding.{none-passes, whole-passes}
 use Rattle.sample_line.proofs.receiver.with_bit.Goals as goal
 

@@ -1,9 +1,5 @@
-use Rattle.std.proofs.Common.{◌+◌, List, [], ◌∷◌, ◌++◌, length, sym, ap, subst, ◌∙◌}
-use Rattle.std.specs.Prelude.{option_to_list}
-use Rattle.lapm_frames.specs.declared.seen.Seen.{Seen}
-use Rattle.detection.specs.Patterns.{seen_at}
-use Rattle.detection.specs.Sights.{sights_at}
-use Rattle.sample_line.specs.Tallies.{Tallies}
+use Rattle.sample_line.proofs.Names.{◌+◌, List, [], ◌∷◌, ◌++◌, length, sym, ap, subst, ◌∙◌, option_to_list, seen_at, sights_at, Seen}
+use Rattle.sample_line.proofs.Names.{Tallies}
 use Rattle.sample_line.proofs.Finding.{sights-more, kinds-at}
 use Rattle.sample_line.proofs.receiver.with_bit_seen.Goals as goal
 

@@ -1,9 +1,5 @@
-use Rattle.std.proofs.Common.{◌∙◌, ◌/◌, ◌%◌, nat_eq, List, Bool, [], ◌∷◌, ◌++◌, ap, subst, sym, refl}
-use Rattle.scramblers.proofs.Streams.{four-behind}
-use Rattle.line_coding.proofs.Fours.{quad-bits}
-use Rattle.frame_check.specs.Bits.{low_bits}
-use Rattle.bit_stuffing.specs.Deframer.{DeframerStands}
-use Rattle.sample_line.specs.Tallies.{PiecesAreTallied}
+use Rattle.sample_line.proofs.Names.{◌∙◌, ◌/◌, ◌%◌, nat_eq, List, Bool, [], ◌∷◌, ◌++◌, ap, subst, sym, refl, DeframerStands, low_bits}
+use Rattle.sample_line.proofs.Names.{quad-bits, PiecesAreTallied, four-behind}
 use Rattle.sample_line.proofs.Finding.{pieces-none, pieces-then}
 use Rattle.sample_line.proofs.receiver.with_four.Goals as goal
 

@@ -1,9 +1,5 @@
-use Rattle.std.proofs.Common.{◌∙◌, ◌/◌, ◌%◌, nat_eq, List, Bool, [], ◌∷◌, ◌++◌, ap, subst, sym, refl}
-use Rattle.scramblers.proofs.Streams.{four-behind}
-use Rattle.line_coding.proofs.Fours.{quad-bits}
-use Rattle.frame_check.specs.Bits.{low_bits}
-use Rattle.detection.specs.Reader.{ReaderStands}
-use Rattle.sample_line.specs.Tallies.{PatternsAreTallied}
+use Rattle.sample_line.proofs.Names.{◌∙◌, ◌/◌, ◌%◌, nat_eq, List, Bool, [], ◌∷◌, ◌++◌, ap, subst, sym, refl, ReaderStands, low_bits}
+use Rattle.sample_line.proofs.Names.{quad-bits, PatternsAreTallied, four-behind}
 use Rattle.sample_line.proofs.Finding.{patterns-none, patterns-then}
 use Rattle.sample_line.proofs.receiver.with_four_seen.Goals as goal
 

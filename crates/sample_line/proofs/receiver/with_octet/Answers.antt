@@ -1,8 +1,5 @@
-use Rattle.std.proofs.Common.{◌%◌, ◌∙◌, List, Bool, ◌++◌, subst, sym, refl}
-use Rattle.frame_check.specs.Bits.{low_bits, octet_bits}
-use Rattle.bit_stuffing.specs.Deframer.{DeframerStands}
-use Rattle.bit_stuffing.proofs.Halves.{octet-fours}
-use Rattle.sample_line.specs.Tallies.{PiecesAreTallied}
+use Rattle.sample_line.proofs.Names.{◌%◌, ◌∙◌, List, Bool, ◌++◌, subst, sym, refl, octet-fours, DeframerStands, low_bits, octet_bits}
+use Rattle.sample_line.proofs.Names.{PiecesAreTallied}
 use Rattle.sample_line.proofs.Finding.{pieces-none, pieces-then}
 use Rattle.sample_line.proofs.receiver.with_octet.Goals as goal
 

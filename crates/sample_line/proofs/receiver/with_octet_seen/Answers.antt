@@ -1,8 +1,5 @@
-use Rattle.std.proofs.Common.{◌%◌, List, Bool, ◌++◌, subst, sym, refl}
-use Rattle.frame_check.specs.Bits.{low_bits, octet_bits}
-use Rattle.detection.specs.Reader.{ReaderStands}
-use Rattle.bit_stuffing.proofs.Halves.{octet-fours}
-use Rattle.sample_line.specs.Tallies.{PatternsAreTallied}
+use Rattle.sample_line.proofs.Names.{◌%◌, List, Bool, ◌++◌, subst, sym, refl, octet-fours, ReaderStands, low_bits, octet_bits}
+use Rattle.sample_line.proofs.Names.{PatternsAreTallied}
 use Rattle.sample_line.proofs.Finding.{patterns-none, patterns-then}
 use Rattle.sample_line.proofs.receiver.with_octet_seen.Goals as goal
 

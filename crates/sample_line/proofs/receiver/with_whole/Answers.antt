@@ -1,7 +1,6 @@
-use Rattle.std.proofs.Common.{List, ℕ, false, inl, inr, [], ◌++◌, Some, None, Err, refl, sym, ap, subst, append-nil}
-use Rattle.std.specs.Prelude.{option_to_list}
+use Rattle.sample_line.proofs.Names.{List, ℕ, false, inl, inr, [], ◌++◌, Some, None, Err, refl, sym, ap, subst, append-nil, option_to_list}
+use Rattle.sample_line.proofs.Names.{Tallies}
 use Rattle.lapm_frames.specs.declared.fault.CheckedFault.TheVariants.{BadCheck, Refused}
-use Rattle.sample_line.specs.Tallies.{Tallies}
 use Rattle.sample_line.proofs.Tallying.{another-sent, octets-more, refused-sent, spells-sent}
 use Rattle.sample_line.proofs.receiver.with_whole.Goals as goal
 

@@ -1,5 +1,4 @@
-use Rattle.std.proofs.Common.{◌≡◌, ◌+◌, ◌-◌, arith, ◌∙◌, ap, subst}
-use Rattle.exact_decoder.specs.Traced.{choices_of, columns_in, from_newest}
+use Rattle.exact_decoder.proofs.Names.{◌≡◌, ◌+◌, ◌-◌, arith, ◌∙◌, ap, subst, choices_of, columns_in, from_newest}
 use Rattle.exact_decoder.proofs.Rings.{columns-more}
 use Rattle.exact_decoder.proofs.columns.Columns.advance.Goals as goal
 

@@ -1,5 +1,4 @@
-use Rattle.std.proofs.Common.{◌≡◌, ◌+◌, ◌∷◌, ◌++◌, [], take, arith, sym, subst}
-use Rattle.exact_decoder.specs.Traced.{choices_of, from_newest, AreColumns}
+use Rattle.exact_decoder.proofs.Names.{◌≡◌, ◌+◌, ◌∷◌, ◌++◌, [], take, arith, sym, subst, choices_of, from_newest, AreColumns}
 use Rattle.exact_decoder.proofs.Walking.{column-here, column-fits}
 use Rattle.exact_decoder.proofs.Rings.{newest-at, columns-long}
 use Rattle.exact_decoder.proofs.columns.Columns.column.Goals as goal

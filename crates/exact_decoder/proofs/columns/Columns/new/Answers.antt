@@ -1,9 +1,8 @@
-use Rattle.std.proofs.Common.{◌≡◌, ℕ, ◌-◌, ◌*◌, take, drop, ◌∷◌, ◌++◌, [], List, length, length-append, replicate, refl, ◌∙◌, sym, ap}
-use Rattle.std.proofs.Common.{arith}
-use Rattle.std.proofs.lemmas.List.{map-append, take-map, drop-map}
-use Rattle.std.proofs.lemmas.List.Elements.{All-push, All-same, All-take, All-drop}
-use Rattle.exact_decoder.specs.declared.column.Column.{Column}
-use Rattle.exact_decoder.specs.Traced.{choices_of, columns_in, from_newest, IsColumn, AreColumns}
+use Rattle.exact_decoder.proofs.Names.{◌≡◌, ℕ, ◌-◌, ◌*◌, take, drop, ◌∷◌, ◌++◌, [], List, length, length-append, replicate, refl, ◌∙◌, sym}
+use Rattle.exact_decoder.proofs.Names.{ap, arith, take-map, All-push, All-same, All-take, choices_of, columns_in, from_newest, IsColumn}
+use Rattle.exact_decoder.proofs.Names.{AreColumns, Column}
+use Rattle.std.proofs.lemmas.List.{map-append, drop-map}
+use Rattle.std.proofs.lemmas.List.Elements.{All-drop}
 use Rattle.exact_decoder.proofs.Rings.{columns-long}
 use Rattle.exact_decoder.proofs.Walking.{zero-column}
 use Rattle.exact_decoder.proofs.columns.Columns.new.Goals as goal

@@ -1,5 +1,4 @@
-use Rattle.std.proofs.Common.{◌≡◌, ℕ, ◌≤◌, length}
-use Rattle.exact_decoder.specs.Traced.{columns_in, AreColumns}
+use Rattle.exact_decoder.proofs.Names.{◌≡◌, ℕ, ◌≤◌, length, columns_in, AreColumns}
 use Rattle.exact_decoder.proofs.columns.Columns.new.Given as goal
 
 abbrev pub invariant-loop : goal.invariant-loop

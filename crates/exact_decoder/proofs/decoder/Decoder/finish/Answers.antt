@@ -1,9 +1,6 @@
-use Rattle.std.proofs.Common.{◌≡◌, ◌<◌, ◌≤◌, ◌++◌, None, [], reverse, sym, ◌∙◌, subst, arith}
-use Rattle.std.proofs.lemmas.List.Elements.{All-same}
-use Rattle.exact_decoder.specs.Surviving.Trellises.{trellis_of}
-use Rattle.exact_decoder.specs.Surviving.Survivors.{IsFirstLeast}
+use Rattle.exact_decoder.proofs.Names.{◌≡◌, ◌<◌, ◌≤◌, ◌++◌, None, [], reverse, sym, ◌∙◌, subst, arith, All-same, decoding_of, DecoderStands}
+use Rattle.exact_decoder.proofs.Names.{IsFirstLeast, trellis_of}
 use Rattle.exact_decoder.specs.Memory.{opened}
-use Rattle.exact_decoder.specs.Decoder.{decoding_of, DecoderStands}
 use Rattle.exact_decoder.proofs.Keeping.{All-turned}
 use Rattle.exact_decoder.proofs.Taken.{stands-final}
 use Rattle.exact_decoder.proofs.decoder.Decoder.finish.Goals as goal

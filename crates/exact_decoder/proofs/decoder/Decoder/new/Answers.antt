@@ -1,7 +1,5 @@
 use Rattle.std.proofs.lemmas.Bool.{eq-eqb}
-use Rattle.std.proofs.Common.{◌≡◌, ◌<◌, nat_eq, Some, [], length, reverse, refl, ◌∙◌, ap, subst, arith}
-use Rattle.std.proofs.lemmas.List.Elements.{All-same, All-nil}
-use Rattle.exact_decoder.specs.Columns.{sums_at}
+use Rattle.exact_decoder.proofs.Names.{◌≡◌, ◌<◌, nat_eq, Some, [], length, reverse, refl, ◌∙◌, ap, subst, arith, All-same, All-nil, sums_at}
 use Rattle.exact_decoder.specs.Memory.{opened}
 use Rattle.exact_decoder.proofs.Spreading.{spread-start}
 use Rattle.exact_decoder.proofs.Started.{one_start, start-small, start-reached, start-stands}

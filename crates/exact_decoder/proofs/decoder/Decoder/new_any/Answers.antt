@@ -1,7 +1,5 @@
-use Rattle.std.proofs.Common.{◌≡◌, ◌<◌, nat_lt, Some, None, [], length, reverse, refl, ◌∙◌, ap, subst, arith}
-use Rattle.std.proofs.lemmas.Bool.{lt-ltb}
-use Rattle.std.proofs.lemmas.List.Elements.{All-same, All-nil}
-use Rattle.exact_decoder.specs.Columns.{sums_at}
+use Rattle.exact_decoder.proofs.Names.{◌≡◌, ◌<◌, nat_lt, Some, None, [], length, reverse, refl, ◌∙◌, ap, subst, arith, lt-ltb, All-same}
+use Rattle.exact_decoder.proofs.Names.{All-nil, sums_at}
 use Rattle.exact_decoder.specs.Memory.{opened}
 use Rattle.exact_decoder.proofs.Spreading.{spread-start}
 use Rattle.exact_decoder.proofs.Started.{get_or-replicate, any_start, any-small, start-stands}

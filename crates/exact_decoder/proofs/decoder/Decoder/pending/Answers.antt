@@ -1,5 +1,4 @@
-use Rattle.std.proofs.Common.{◌≤◌, ◌+◌, length, ap, sym, subst, ◌∙◌}
-use Rattle.std.proofs.lemmas.List.{length-reverse}
+use Rattle.exact_decoder.proofs.Names.{◌≤◌, ◌+◌, length, ap, sym, subst, ◌∙◌, length-reverse}
 use Rattle.exact_decoder.proofs.decoder.Decoder.pending.Goals as goal
 
 pub returns-clause-value : goal.returns-clause-value

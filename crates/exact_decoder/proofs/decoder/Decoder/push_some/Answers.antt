@@ -1,9 +1,7 @@
-use Rattle.std.proofs.Common.{◌≡◌, ℕ, ◌+◌, ◌-◌, ◌<◌, ◌≤◌, ◌^◌, ◌++◌, [], ◌∷◌, List, length, take, drop, lit<, Option, None, Some, reverse}
-use Rattle.std.proofs.Common.{append_assoc, refl, sym, ◌∙◌, ap, subst, arith}
-use Rattle.std.proofs.lemmas.List.{length-take-le, length-reverse, take-append-drop}
-use Rattle.symbol_map.specs.declared.sample.Sample.{Sample}
+use Rattle.exact_decoder.proofs.Names.{◌≡◌, ℕ, ◌+◌, ◌-◌, ◌<◌, ◌≤◌, ◌^◌, ◌++◌, [], ◌∷◌, List, length, take, drop, lit<, Option, None, Some}
+use Rattle.exact_decoder.proofs.Names.{reverse, append_assoc, refl, sym, ◌∙◌, ap, subst, arith, length-take-le, length-reverse}
+use Rattle.exact_decoder.proofs.Names.{take-append-drop, Decoding, decoding_of, IsSound, DecoderStands, Sample}
 use Rattle.exact_decoder.specs.Memory.{opened}
-use Rattle.exact_decoder.specs.Decoder.{Decoding, decoding_of, IsSound, DecoderStands}
 use Rattle.exact_decoder.proofs.Keeping.{All-turned}
 use Rattle.exact_decoder.proofs.Pushed.{Pushed, stands-goes_on, stands-lost, stands-stays}
 use Rattle.exact_decoder.proofs.Batches.{heard-within, heard-fit, some-heard}

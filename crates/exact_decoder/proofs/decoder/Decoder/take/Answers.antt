@@ -1,6 +1,5 @@
-use Rattle.std.proofs.Common.{◌∙◌, drop, sym, ap, subst}
+use Rattle.exact_decoder.proofs.Names.{◌∙◌, drop, sym, ap, subst, Decoding, decoding_of, DecoderStands}
 use Rattle.exact_decoder.specs.Memory.{opened}
-use Rattle.exact_decoder.specs.Decoder.{Decoding, decoding_of, DecoderStands}
 use Rattle.exact_decoder.proofs.Taken.{sound-popped, popped-first, popped-rest, stands-popped}
 use Rattle.exact_decoder.proofs.decoder.Decoder.take.Goals as goal
 

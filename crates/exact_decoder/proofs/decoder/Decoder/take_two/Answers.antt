@@ -1,6 +1,5 @@
-use Rattle.std.proofs.Common.{sym, ap, subst}
+use Rattle.exact_decoder.proofs.Names.{sym, ap, subst, Decoding, decoding_of, DecoderStands}
 use Rattle.exact_decoder.specs.Memory.{opened}
-use Rattle.exact_decoder.specs.Decoder.{Decoding, decoding_of, DecoderStands}
 use Rattle.exact_decoder.proofs.Taken.{sound-popped-two, popped-two-first, stands-popped-two}
 use Rattle.exact_decoder.proofs.decoder.Decoder.take_two.Goals as goal
 

@@ -1,6 +1,5 @@
-use Rattle.std.proofs.Common.{◌≡◌, ◌∙◌, ℕ, List, Option, IfOk, map, lit<, replicate, set, None, Some, sym, ap, subst}
-use Rattle.exact_decoder.specs.Columns.{sum_in}
-use Rattle.exact_decoder.specs.Kept.{Kept, AreSums}
+use Rattle.exact_decoder.proofs.Names.{◌≡◌, ◌∙◌, ℕ, List, Option, IfOk, map, lit<, replicate, set, None, Some, sym, ap, subst, sum_in, Kept}
+use Rattle.exact_decoder.proofs.Names.{AreSums}
 use Rattle.exact_decoder.proofs.Started.{start_kept}
 use Rattle.exact_decoder.proofs.Keeping.{start-sums, start-are}
 use Rattle.exact_decoder.proofs.kept.Survivors.new.Goals as goal

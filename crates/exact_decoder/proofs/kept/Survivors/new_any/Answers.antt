@@ -1,5 +1,4 @@
-use Rattle.std.proofs.Common.{◌≡◌, ℕ, List, Option, IfOk, lit<, subst}
-use Rattle.exact_decoder.specs.Kept.{Kept}
+use Rattle.exact_decoder.proofs.Names.{◌≡◌, ℕ, List, Option, IfOk, lit<, subst, Kept}
 use Rattle.exact_decoder.proofs.Started.{start_kept}
 use Rattle.exact_decoder.proofs.Keeping.{any-sums, any-are}
 use Rattle.exact_decoder.proofs.kept.Survivors.new_any.Goals as goal

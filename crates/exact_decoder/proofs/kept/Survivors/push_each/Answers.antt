@@ -1,6 +1,5 @@
-use Rattle.std.proofs.Common.{take, sym, subst, arith}
+use Rattle.exact_decoder.proofs.Names.{take, sym, subst, arith, SteppedEach}
 use Rattle.std.proofs.lemmas.List.{take_more}
-use Rattle.exact_decoder.specs.Batches.{SteppedEach}
 use Rattle.exact_decoder.proofs.Batches.{stepped-none, stepped-more}
 use Rattle.exact_decoder.proofs.kept.Survivors.push_each.Goals as goal
 

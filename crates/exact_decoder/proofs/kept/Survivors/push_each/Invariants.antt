@@ -1,6 +1,4 @@
-use Rattle.std.proofs.Common.{◌≤◌, take}
-use Rattle.exact_decoder.specs.Kept.{Covered}
-use Rattle.exact_decoder.specs.Batches.{SteppedEach}
+use Rattle.exact_decoder.proofs.Names.{◌≤◌, take, SteppedEach, Covered}
 use Rattle.exact_decoder.proofs.kept.Survivors.push_each.Given as goal
 
 abbrev pub invariant-loop-sample : goal.invariant-loop-sample

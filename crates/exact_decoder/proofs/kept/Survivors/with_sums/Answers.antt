@@ -1,5 +1,4 @@
-use Rattle.std.proofs.Common.{map, ap, arith}
-use Rattle.exact_decoder.specs.Columns.{sum_in}
+use Rattle.exact_decoder.proofs.Names.{map, ap, arith, sum_in}
 use Rattle.exact_decoder.proofs.Keeping.{start-tails}
 use Rattle.exact_decoder.proofs.kept.Survivors.with_sums.Goals as goal
 

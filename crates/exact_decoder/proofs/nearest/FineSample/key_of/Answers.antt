@@ -1,8 +1,6 @@
-use Rattle.std.proofs.Common.{◌≡◌, ℕ, ◌+◌, ◌*◌, arith, ◌∙◌, ap, subst}
-use Rattle.std.specs.Prelude.{ℤ, pos, unsigned_abs, ◌-ℤ◌, ◌*ℤ◌}
-use Rattle.std.specs.Int.{w16, w64, cast_signed, cast_unsigned}
-use Rattle.std.proofs.lemmas.Int.{ints}
-use Rattle.symbol_map.specs.Distance.{distance_of, squared_gap}
+use Rattle.exact_decoder.proofs.Names.{◌≡◌, ℕ, ◌+◌, ◌*◌, arith, ◌∙◌, ap, subst, ints, w16, cast_signed, cast_unsigned, ℤ, pos, unsigned_abs}
+use Rattle.exact_decoder.proofs.Names.{◌-ℤ◌, ◌*ℤ◌, distance_of, squared_gap}
+use Rattle.std.specs.Int.{w64}
 use Rattle.exact_decoder.proofs.nearest.FineSample.key_of.Goals as goal
 
 square : (n : ℕ) → 256 * n * (256 * n) ≡ 65536 * (n * n)

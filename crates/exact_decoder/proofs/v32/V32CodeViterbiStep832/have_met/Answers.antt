@@ -1,5 +1,4 @@
-use Rattle.std.proofs.Common.{◌≡◌, length, slice_index, take, ◌∙◌, sym, arith}
-use Rattle.std.proofs.lemmas.List.{take_all}
+use Rattle.exact_decoder.proofs.Names.{◌≡◌, length, slice_index, take, ◌∙◌, sym, arith, take_all}
 use Rattle.exact_decoder.proofs.Vectors.{lanes, lanes-are}
 use Rattle.exact_decoder.proofs.Alike.{all-one}
 use Rattle.exact_decoder.proofs.v32.V32CodeViterbiStep832.have_met.Goals as goal

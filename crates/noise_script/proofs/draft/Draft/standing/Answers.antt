@@ -1,9 +1,5 @@
-use Rattle.std.proofs.Common.{◌∙◌, refl, sym, ap, length}
-use Rattle.noise_script.specs.declared.offered.Offered.{Offered}
-use Rattle.noise_script.specs.Grammar.{standing, whole, each, delays_said, tries_said, window_said, length_said, loss_said, hit_said}
-use Rattle.noise_script.specs.Grammar.{noise_said, break_said, pause_said}
-use Rattle.noise_script.specs.Forms.{kind_of}
-use Rattle.noise_script.specs.declared.entry.Entry.{Entry}
+use Rattle.noise_script.proofs.Names.{◌∙◌, refl, sym, ap, length, kind_of, standing, whole, each, delays_said, tries_said, window_said}
+use Rattle.noise_script.proofs.Names.{length_said, loss_said, hit_said, noise_said, break_said, pause_said, Entry, Offered}
 use Rattle.noise_script.specs.declared.forms.Form.TheVariants as forms
 use Rattle.noise_script.proofs.Order.{in_order-length}
 use Rattle.noise_script.proofs.Entries.{counted-once, counted-flag, offered-held, counts-delay, counts-tries, counts-window, counts-length}

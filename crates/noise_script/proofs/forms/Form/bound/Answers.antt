@@ -1,5 +1,4 @@
-use Rattle.std.proofs.Common.{sym, ap}
-use Rattle.noise_script.specs.Forms.{row}
+use Rattle.noise_script.proofs.Names.{sym, ap, row}
 use Rattle.noise_script.proofs.forms.Form.bound.Goals as goal
 
 pub returns-in-Lose : goal.returns-in-Lose

@@ -1,5 +1,4 @@
-use Rattle.std.proofs.Common.{◌≢◌, ◌<◌, ℕ, get_or}
-use Rattle.noise_script.specs.Forms.{word_of}
+use Rattle.noise_script.proofs.Names.{◌≢◌, ◌<◌, ℕ, get_or, word_of}
 use Rattle.noise_script.specs.declared.forms.TheConstants.{FORMS}
 use Rattle.noise_script.specs.declared.forms.Form.TheVariants as forms
 use Rattle.noise_script.proofs.forms.Form.of_word.Given as goal

@@ -1,5 +1,4 @@
-use Rattle.std.proofs.Common.{◌∙◌, ap}
-use Rattle.rand_pcg.specs.Lcg.{increment_of}
+use Rattle.noise_script.proofs.Names.{◌∙◌, ap, increment_of}
 use Rattle.noise_script.proofs.Generated.{one-on}
 use Rattle.noise_script.proofs.generators.Generator.next_word.Goals as goal
 

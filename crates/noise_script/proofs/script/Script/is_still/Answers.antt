@@ -1,11 +1,4 @@
-use Rattle.std.proofs.Common.{◌∙◌, Bool, List, sym, ap, ◌&&◌}
-use Rattle.std.specs.List.{list_any}
-use Rattle.std.proofs.lemmas.Bool.{not-true}
-use Rattle.shared_terms.specs.Role.{same_role}
-use Rattle.noise_script.specs.declared.entry.Hit.{Hit}
-use Rattle.noise_script.specs.declared.entry.Noise.{Noise}
-use Rattle.noise_script.specs.Offsets.{meets}
-use Rattle.noise_script.specs.Script.{ScriptValue}
+use Rattle.noise_script.proofs.Names.{◌∙◌, Bool, List, sym, ap, ◌&&◌, not-true, list_any, meets, ScriptValue, Hit, Noise, same_role}
 use Rattle.noise_script.proofs.Still.{still}
 use Rattle.noise_script.proofs.script.Script.is_still.Goals as goal
 

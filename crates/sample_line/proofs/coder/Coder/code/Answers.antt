@@ -1,9 +1,5 @@
-use Rattle.std.proofs.Common.{◌≡◌, ◌∷◌, [], ◌++◌, refl, sym, subst}
-use Rattle.bit_stuffing.specs.BitSlot.{line_bits}
-use Rattle.detection.specs.Slots.{Signal}
-use Rattle.sample_line.specs.Signals.{signal_of}
-use Rattle.sample_line.specs.Line.{bits_behind}
-use Rattle.sample_line.specs.Coder.{Coding, CoderStands, IsCodedAs, bits_in}
+use Rattle.sample_line.proofs.Names.{◌≡◌, ◌∷◌, [], ◌++◌, refl, sym, subst, line_bits, Signal, Coding, CoderStands, IsCodedAs, bits_in}
+use Rattle.sample_line.proofs.Names.{bits_behind, signal_of}
 use Rattle.sample_line.proofs.SlotCoding.{codes-bits, codes-labels, codes-stand}
 use Rattle.sample_line.proofs.coder.Coder.code.Goals as goal
 

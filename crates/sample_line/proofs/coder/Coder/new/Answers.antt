@@ -1,6 +1,4 @@
-use Rattle.std.proofs.Common.{[], subst}
-use Rattle.scramblers.specs.declared.mode.Mode.{Mode}
-use Rattle.line_coding.specs.Modulates.{ModulatorStands}
+use Rattle.sample_line.proofs.Names.{[], subst, ModulatorStands, Mode}
 use Rattle.sample_line.proofs.coder.Coder.new.Goals as goal
 
 pub returns-clause-stands : goal.returns-clause-stands

@@ -1,17 +1,9 @@
-use Rattle.std.proofs.Common.{◌≡◌, ◌∙◌, ◌+◌, ◌-◌, List, ◌++◌, ℕ, Option, Result, Err, Some, drop, take, length, sym, ap, subst, arith}
+use Rattle.sample_line.proofs.Names.{◌≡◌, ◌∙◌, ◌+◌, ◌-◌, List, ◌++◌, ℕ, Option, Result, Err, Some, drop, take, length, sym, ap, subst}
+use Rattle.sample_line.proofs.Names.{arith, take-add, take-append-drop, take_all, err_from_is_err_and, LostIs, at_beginning, line_depth}
+use Rattle.sample_line.proofs.Names.{line_trellis, Lost, LineRead, HearsBetween, HearsSamples, Hearer, Tally, Sample}
 use Rattle.std.proofs.Common.{append_assoc}
-use Rattle.std.proofs.Math.Seq.{take-add}
-use Rattle.std.proofs.lemmas.List.{take-append-drop, take_all, length-drop}
+use Rattle.std.proofs.lemmas.List.{length-drop}
 use Rattle.std.proofs.lemmas.Slice.{between_to_end}
-use Rattle.std.proofs.lemmas.Result.{err_from_is_err_and}
-use Rattle.symbol_map.specs.declared.sample.Sample.{Sample}
-use Rattle.exact_decoder.specs.Surviving.Survivors.{LostIs}
-use Rattle.exact_decoder.specs.Surviving.V32.{at_beginning, line_depth, line_trellis}
-use Rattle.exact_decoder.specs.declared.decoder.Lost.{Lost}
-use Rattle.line_coding.specs.V32.{LineRead}
-use Rattle.sample_line.specs.declared.hearer.Hearer.{Hearer}
-use Rattle.sample_line.specs.declared.tally.Tally.{Tally}
-use Rattle.sample_line.specs.Hears.{HearsBetween, HearsSamples}
 use Rattle.sample_line.proofs.hearer.Hearer.hear.Goals as goal
 
 pub returns-in_err-at-clause-stands : goal.returns-in_err-at-clause-stands

@@ -1,7 +1,4 @@
-use Rattle.std.proofs.Common.{◌≡◌, ◌+◌, ◌-◌, ◌≤◌, ◌++◌, [], Bool, List, length, take, None}
-use Rattle.scramblers.specs.declared.mode.Mode.{Mode}
-use Rattle.symbol_map.specs.declared.sample.Sample.{Sample}
-use Rattle.sample_line.specs.Hears.{HearsBetween}
+use Rattle.sample_line.proofs.Names.{◌≡◌, ◌+◌, ◌-◌, ◌≤◌, ◌++◌, [], Bool, List, length, take, None, HearsBetween, Mode, Sample}
 use Rattle.sample_line.proofs.hearer.Hearer.hear.Given as goal
 
 abbrev pub invariant-loop-at : goal.invariant-loop-at

@@ -1,7 +1,4 @@
-use Rattle.std.proofs.Common.{◌++◌, subst, append-nil}
-use Rattle.frame_check.specs.Bits.{low_bits}
-use Rattle.line_coding.specs.V32.{LineRead}
-use Rattle.exact_decoder.specs.Surviving.V32.{at_beginning, line_depth}
+use Rattle.sample_line.proofs.Names.{◌++◌, subst, append-nil, at_beginning, line_depth, low_bits, LineRead}
 use Rattle.sample_line.proofs.hearer.Hearer.read_label.Goals as goal
 
 pub returns-in-Some-clause-stands : goal.returns-in-Some-clause-stands

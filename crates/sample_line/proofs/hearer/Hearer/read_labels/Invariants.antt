@@ -1,7 +1,4 @@
-use Rattle.std.proofs.Common.{◌≡◌, ◌+◌, ◌*◌, length, List, Bool}
-use Rattle.scramblers.specs.declared.mode.Mode.{Mode}
-use Rattle.symbol_map.specs.declared.sample.Sample.{Sample}
-use Rattle.sample_line.specs.Hears.{HearsBetween}
+use Rattle.sample_line.proofs.Names.{◌≡◌, ◌+◌, ◌*◌, length, List, Bool, HearsBetween, Mode, Sample}
 use Rattle.sample_line.proofs.hearer.Hearer.read_labels.Given as goal
 
 abbrev pub invariant-loop : goal.invariant-loop

@@ -1,7 +1,5 @@
-use Rattle.std.proofs.Common.{◌≡◌, ◌∙◌, ◌<◌, ◌+◌, ◌*◌, ◌/◌, ◌%◌, ◌^◌, ℕ, List, length, slice_index, slice_index_or, slice_set, inl}
-use Rattle.std.proofs.Common.{inr, sym, ap, subst, arith, length-set}
-use Rattle.std.proofs.lemmas.Bool.{cases_lt}
-use Rattle.std.proofs.lemmas.List.{get_or-set_same, get_or-set_other}
+use Rattle.sample_line.proofs.Names.{◌≡◌, ◌∙◌, ◌<◌, ◌+◌, ◌*◌, ◌/◌, ◌%◌, ◌^◌, ℕ, List, length, slice_index, slice_index_or, slice_set, inl}
+use Rattle.sample_line.proofs.Names.{inr, sym, ap, subst, arith, length-set, cases_lt, get_or-set_same, get_or-set_other}
 use Rattle.sample_line.proofs.Packing.{labels-count, label-read, eight-label}
 use Rattle.sample_line.proofs.label_slot.LabelSlot.put_eight.Goals as goal
 

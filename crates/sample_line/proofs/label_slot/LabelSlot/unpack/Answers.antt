@@ -1,5 +1,4 @@
-use Rattle.std.proofs.Common.{◌≡◌, ◌∙◌, ◌<◌, ◌+◌, ◌-◌, ◌*◌, ◌/◌, ℕ, List, slice_index, inl, inr, sym, ap, subst, arith}
-use Rattle.std.proofs.lemmas.Bool.{cases_lt}
+use Rattle.sample_line.proofs.Names.{◌≡◌, ◌∙◌, ◌<◌, ◌+◌, ◌-◌, ◌*◌, ◌/◌, ℕ, List, slice_index, inl, inr, sym, ap, subst, arith, cases_lt}
 use Rattle.sample_line.proofs.label_slot.LabelSlot.unpack.Goals as goal
 
 pub loop-eight-preserved : goal.loop-eight-preserved

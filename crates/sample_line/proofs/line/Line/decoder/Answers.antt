@@ -1,12 +1,6 @@
-use Rattle.std.proofs.Common.{◌≡◌, ◌∙◌, ℕ, nat_eq, List, [], sym, ap, subst}
-use Rattle.symbol_map.specs.declared.sample.Sample.{Sample}
-use Rattle.symbol_map.specs.Points.{point_of}
-use Rattle.trellis_tables.specs.Table.{next_state}
-use Rattle.exact_decoder.specs.Decoder.{Decoding, DecoderStands}
-use Rattle.detection.specs.Slots.{signal_bits}
-use Rattle.sample_line.specs.Recorded.{Records}
-use Rattle.exact_decoder.specs.Surviving.V32.{line_depth}
-use Rattle.sample_line.specs.Line.{Kept, size_of, sender_of, decoder_of}
+use Rattle.sample_line.proofs.Names.{◌≡◌, ◌∙◌, ℕ, nat_eq, List, [], sym, ap, subst, signal_bits, DecoderStands, line_depth, Kept, size_of}
+use Rattle.sample_line.proofs.Names.{sender_of, decoder_of, Records, point_of, Sample, next_state}
+use Rattle.exact_decoder.specs.Decoder.{Decoding}
 use Rattle.sample_line.proofs.Passing.{line-heard}
 use Rattle.sample_line.proofs.line.Line.decoder.Goals as goal
 

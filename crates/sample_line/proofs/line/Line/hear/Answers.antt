@@ -1,13 +1,5 @@
-use Rattle.std.proofs.Common.{◌∙◌, ◌+◌, map, Result, Err, sym, ap, subst}
-use Rattle.std.proofs.lemmas.Result.{err_from_is_err_and}
-use Rattle.exact_decoder.specs.declared.decoder.Lost.{Lost}
-use Rattle.symbol_map.specs.Points.{point_of}
-use Rattle.shared_terms.specs.declared.role.Role.{Role}
-use Rattle.detection.specs.Slots.{signal_bits}
-use Rattle.lapm_frames.specs.declared.heard.Heard.{Heard}
-use Rattle.sample_line.specs.Path.{LosesAmong, LosesWithin}
-use Rattle.sample_line.specs.Line.{Kept, LineStands, Passes, bits_behind, sender_of, size_of}
-use Rattle.sample_line.specs.Coder.{IsCodedAs}
+use Rattle.sample_line.proofs.Names.{◌∙◌, ◌+◌, map, Result, Err, sym, ap, subst, err_from_is_err_and, signal_bits, Lost, Heard, IsCodedAs}
+use Rattle.sample_line.proofs.Names.{Kept, LineStands, Passes, bits_behind, sender_of, size_of, LosesAmong, LosesWithin, Role, point_of}
 use Rattle.sample_line.proofs.Passing.{kept, slot-passes, lost-within}
 use Rattle.sample_line.proofs.line.Line.hear.Goals as goal
 

@@ -1,6 +1,4 @@
-use Rattle.std.proofs.Common.{subst}
-use Rattle.lapm_frames.specs.declared.sent.Sent.{Sent}
-use Rattle.sample_line.specs.Line.{Passes}
+use Rattle.sample_line.proofs.Names.{subst, Sent, Passes}
 use Rattle.sample_line.proofs.line.Line.pass.Goals as goal
 
 pub returns-clause-passes : goal.returns-clause-passes

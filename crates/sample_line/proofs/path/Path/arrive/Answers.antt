@@ -1,8 +1,4 @@
-use Rattle.std.proofs.Common.{◌+◌, ◌++◌, map, take, sym, subst}
-use Rattle.symbol_map.specs.Points.{point_of}
-use Rattle.shared_terms.specs.declared.role.Role.{Role}
-use Rattle.sample_line.specs.Mode.{mode_of}
-use Rattle.sample_line.specs.Hears.{HearsSamples}
+use Rattle.sample_line.proofs.Names.{◌+◌, ◌++◌, map, take, sym, subst, HearsSamples, mode_of, Role, point_of}
 use Rattle.sample_line.proofs.Arriving.{arrived}
 use Rattle.sample_line.proofs.path.Path.arrive.Goals as goal
 

@@ -1,7 +1,4 @@
-use Rattle.std.proofs.Common.{◌∙◌, [], subst, sym, ap}
-use Rattle.scramblers.specs.declared.mode.Mode.{Mode}
-use Rattle.sample_line.specs.Mode.{mode_of}
-use Rattle.sample_line.specs.Hears.{Hears}
+use Rattle.sample_line.proofs.Names.{◌∙◌, [], subst, sym, ap, Hears, mode_of, Mode}
 use Rattle.sample_line.proofs.path.Path.new.Goals as goal
 
 pub returns-clause-stands : goal.returns-clause-stands

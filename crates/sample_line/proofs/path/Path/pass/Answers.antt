@@ -1,11 +1,7 @@
-use Rattle.std.proofs.Common.{◌≡◌, ◌∙◌, ◌+◌, ◌-◌, ◌++◌, List, ℕ, map, take, Result, Err, refl, sym, ap, subst, arith}
+use Rattle.sample_line.proofs.Names.{◌≡◌, ◌∙◌, ◌+◌, ◌-◌, ◌++◌, List, ℕ, map, take, Result, Err, refl, sym, ap, subst, arith, take_all}
+use Rattle.sample_line.proofs.Names.{err_from_is_err_and, Lost, CarriesBetween, Arrives, Tally, point_of}
 use Rattle.std.proofs.Math.Nat.{min-le_left}
-use Rattle.std.proofs.lemmas.List.{take_all}
-use Rattle.std.proofs.lemmas.Result.{err_from_is_err_and}
-use Rattle.symbol_map.specs.Points.{point_of}
-use Rattle.exact_decoder.specs.declared.decoder.Lost.{Lost}
-use Rattle.sample_line.specs.declared.tally.Tally.{Tally}
-use Rattle.sample_line.specs.Path.{CarriesBetween, Arrives, PassesPoints}
+use Rattle.sample_line.specs.Path.{PassesPoints}
 use Rattle.sample_line.proofs.Arriving.{begun, lost-among}
 use Rattle.sample_line.proofs.path.Path.pass.Goals as goal
 

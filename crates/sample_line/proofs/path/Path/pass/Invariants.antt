@@ -1,7 +1,5 @@
-use Rattle.std.proofs.Common.{◌≡◌, ◌+◌, ◌-◌, ◌%◌, ◌<◌, ◌≤◌, ◌++◌, [], None, length, map, take, List, Bool}
-use Rattle.symbol_map.specs.declared.sample.Sample.{Sample}
-use Rattle.symbol_map.specs.Points.{point_of}
-use Rattle.sample_line.specs.Path.{Carries, CarriesBetween}
+use Rattle.sample_line.proofs.Names.{◌≡◌, ◌+◌, ◌-◌, ◌%◌, ◌<◌, ◌≤◌, ◌++◌, [], None, length, map, take, List, Bool, Carries, CarriesBetween}
+use Rattle.sample_line.proofs.Names.{point_of, Sample}
 use Rattle.sample_line.proofs.path.Path.pass.Given as goal
 
 abbrev pub invariant-loop-at : goal.invariant-loop-at

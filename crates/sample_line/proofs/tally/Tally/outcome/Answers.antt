@@ -1,7 +1,5 @@
-use Rattle.std.proofs.Common.{refl, sym, subst}
+use Rattle.sample_line.proofs.Names.{refl, sym, subst, IsOutcome, Tallies}
 use Rattle.lapm_frames.specs.declared.heard.Heard.TheVariants.{Passed}
-use Rattle.sample_line.specs.Outcomes.{IsOutcome}
-use Rattle.sample_line.specs.Tallies.{Tallies}
 use Rattle.sample_line.proofs.tally.Tally.outcome.Goals as goal
 
 pub returns-in-AsSent : goal.returns-in-AsSent

@@ -1,8 +1,5 @@
-use Rattle.std.proofs.Common.{◌≡◌, ◌∙◌, ◌<◌, ◌++◌, ◌∷◌, [], ℕ, List, length, map, take, refl, sym, ap, subst, arith, length-set}
-use Rattle.std.proofs.lemmas.List.{length-take-le, take_more_set}
-use Rattle.symbol_map.specs.declared.sample.Sample.{Sample}
-use Rattle.symbol_map.specs.Points.{point_of}
-use Rattle.sample_line.specs.Recorded.{displaced, displaced_from}
+use Rattle.sample_line.proofs.Names.{◌≡◌, ◌∙◌, ◌<◌, ◌++◌, ◌∷◌, [], ℕ, List, length, map, take, refl, sym, ap, subst, arith, length-set}
+use Rattle.sample_line.proofs.Names.{length-take-le, take_more_set, displaced, displaced_from, point_of, Sample}
 use Rattle.sample_line.proofs.Sending.{sent, displaced-more}
 use Rattle.sample_line.proofs.transmitter.Transmitter.send_each.Goals as goal
 

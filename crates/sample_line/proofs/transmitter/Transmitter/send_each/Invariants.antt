@@ -1,6 +1,4 @@
-use Rattle.std.proofs.Common.{◌≡◌, length, map, take}
-use Rattle.symbol_map.specs.Points.{point_of}
-use Rattle.sample_line.specs.Recorded.{displaced_from}
+use Rattle.sample_line.proofs.Names.{◌≡◌, length, map, take, displaced_from, point_of}
 use Rattle.sample_line.proofs.transmitter.Transmitter.send_each.Given as goal
 
 abbrev pub invariant-loop-place : goal.invariant-loop-place

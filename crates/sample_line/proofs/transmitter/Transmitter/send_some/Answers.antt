@@ -1,7 +1,4 @@
-use Rattle.std.proofs.Common.{◌≤◌, ◌++◌, ℕ, List, length, map, take, refl, subst, arith}
-use Rattle.symbol_map.specs.declared.sample.Sample.{Sample}
-use Rattle.symbol_map.specs.Points.{point_of}
-use Rattle.sample_line.specs.Transmits.{Transmits}
+use Rattle.sample_line.proofs.Names.{◌≤◌, ◌++◌, ℕ, List, length, map, take, refl, subst, arith, Transmits, point_of, Sample}
 use Rattle.sample_line.proofs.Sending.{unpacked, still-sent}
 use Rattle.sample_line.proofs.transmitter.Transmitter.send_some.Goals as goal
 

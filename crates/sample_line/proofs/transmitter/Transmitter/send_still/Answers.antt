@@ -1,7 +1,5 @@
-use Rattle.std.proofs.Common.{◌≡◌, ◌∙◌, ◌<◌, ◌++◌, ◌∷◌, [], ℕ, List, length, map, take, refl, ap, subst, arith, length-set}
-use Rattle.std.proofs.lemmas.List.{take_more_set}
-use Rattle.symbol_map.specs.declared.sample.Sample.{Sample}
-use Rattle.symbol_map.specs.Points.{point_of}
+use Rattle.sample_line.proofs.Names.{◌≡◌, ◌∙◌, ◌<◌, ◌++◌, ◌∷◌, [], ℕ, List, length, map, take, refl, ap, subst, arith, length-set}
+use Rattle.sample_line.proofs.Names.{take_more_set, point_of, Sample}
 use Rattle.sample_line.proofs.Standing.{points-part}
 use Rattle.sample_line.proofs.transmitter.Transmitter.send_still.Goals as goal
 

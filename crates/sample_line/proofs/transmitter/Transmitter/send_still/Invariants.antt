@@ -1,5 +1,4 @@
-use Rattle.std.proofs.Common.{◌≡◌, length, map, take}
-use Rattle.symbol_map.specs.Points.{point_of}
+use Rattle.sample_line.proofs.Names.{◌≡◌, length, map, take, point_of}
 use Rattle.sample_line.proofs.transmitter.Transmitter.send_still.Given as goal
 
 abbrev pub invariant-loop-place : goal.invariant-loop-place
