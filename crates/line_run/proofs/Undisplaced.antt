@@ -3,10 +3,9 @@ use Rattle.std.proofs.Common.{◌≡◌, ◌∙◌, ℕ, zero, suc, ◌+◌, ◌
 use Rattle.std.proofs.Common.{length, map, refl, ap, arith, Some, None}
 use Rattle.std.proofs.lemmas.Bool.Decides.{nat_tests}
 use Rattle.std.proofs.lemmas.List.Elements.{All-head, All-nil, All-same, All-tail}
-use Rattle.std.specs.Prelude.{ℤ, pos, ◌*ℤ◌}
+use Rattle.std.specs.Prelude.{ℤ, pos, ◌*ℤ◌, slice_index_or}
 use Rattle.symbol_map.specs.declared.sample.Sample.{Sample}
 use Rattle.symbol_map.specs.Points.{map_points, point_of, plus}
-use Rattle.std.specs.Prelude.{slice_index_or}
 use Rattle.scramblers.specs.Mode.{tap_of}
 use Rattle.exact_decoder.proofs.Surviving.Fronts.{lost-once}
 use Rattle.exact_decoder.specs.Surviving.V32.{line_depth, line_trellis}
