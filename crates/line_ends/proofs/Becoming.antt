@@ -1,34 +1,19 @@
 -- Whatever goes over a line, a slot that fits behind those before it is lost, mistaken or heard; so both slots of a turn are heard well,
 -- or the line ends the run.
-use Rattle.std.proofs.Common.{◌≡◌, ◌⊎◌, inl, inr, ℕ, ◌+◌, ◌-◌, ◌*◌, ◌<◌, ◌≤◌, List, [], ◌∷◌, ◌++◌, length, drop, refl}
-use Rattle.std.proofs.Common.{sym, ap, subst, Option, Some, None}
+use Rattle.std.proofs.Common.{◌≡◌, ◌⊎◌, inl, inr, ℕ, ◌+◌, ◌-◌, ◌*◌, ◌<◌, ◌≤◌, List, [], ◌∷◌, ◌++◌, length, drop, refl, sym, ap, subst}
+use Rattle.std.proofs.Common.{Option, Some, None}
 use Rattle.std.specs.Prelude.{is_some}
-use Rattle.frame_check.specs.declared.check.Check.{Check}
+use Rattle.line_ends.proofs.Cited.{Answerer, AreFit, Arrives, ArrivesAs, Becomes, Chance, Check, EndsLineBy, Heard, IsHeardOf, IsHeardWell}
+use Rattle.line_ends.proofs.Cited.{LineEnd, Lost, Nothing, Originator, Passed, Records, Role, ScriptValue, SentAgo, Signal}
+use Rattle.line_ends.proofs.Cited.{SlotsAreRecorded, Spoken, Turn, Wire, bits_of, delay_of, line_depth, line_trellis, loses, other}
+use Rattle.line_ends.proofs.Cited.{sent-ago, sent_ago, signal_bits, signal_of, signals, signals_before, wire_of}
 use Rattle.bit_stuffing.specs.declared.slot_writer.TheConstants.{HEAD, TAIL}
 use Rattle.symbol_map.specs.declared.sample.Sample.{Sample}
 use Rattle.exact_decoder.specs.Surviving.Survivors.{LostIs}
-use Rattle.exact_decoder.specs.Surviving.V32.{line_depth, line_trellis}
-use Rattle.detection.specs.Slots.{Signal, signal_bits}
-use Rattle.shared_terms.specs.declared.role.Role.{Role}
-use Rattle.shared_terms.specs.declared.role.Role.TheVariants.{Originator, Answerer}
-use Rattle.shared_terms.specs.Role.{other}
-use Rattle.lapm_frames.specs.declared.heard.Heard.{Heard}
-use Rattle.lapm_frames.specs.declared.heard.Heard.TheVariants.{Nothing, Passed, Lost, Chance}
-use Rattle.noise_script.specs.Script.{ScriptValue, delay_of, loses}
 use Rattle.sample_line.specs.Line.{bits_behind}
-use Rattle.sample_line.specs.Signals.{signal_of}
-use Rattle.sample_line.specs.Recorded.{Records}
-use Rattle.link_run.specs.Run.{Spoken, Turn}
-use Rattle.link_run.specs.Carried.{sent_ago}
-use Rattle.line_run.specs.Fitting.{AreFit}
-use Rattle.line_run.specs.Laws.{SlotsAreRecorded}
-use Rattle.line_run.specs.Sampled.{Wire, signals, signals_before, bits_of, Arrives, ArrivesAs, IsHeardOf, IsHeardWell}
-use Rattle.line_run.specs.Sampled.{LineEnd, LineLost, ChanceMatch, EndsLineBy}
-use Rattle.line_run.specs.Scripted.{wire_of}
-use Rattle.line_run.proofs.Slots.{SentAgo, sent-ago}
+use Rattle.line_run.specs.Sampled.{LineLost, ChanceMatch}
 use Rattle.line_run.proofs.Bits.{signals-upto}
 use Rattle.sample_line.proofs.Passing.{slot-added}
-use Rattle.line_ends.specs.EachEnds.{Becomes}
 use Rattle.line_ends.specs.EachEnds as becomes
 use Rattle.line_ends.proofs.Deciding.{some-outcome}
 use Rattle.line_ends.proofs.Fitting.{symbols_of, bits_in, fits-before}

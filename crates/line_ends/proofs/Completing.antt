@@ -1,9 +1,7 @@
 -- A run that the line doesn't end is done where no end gives up.
 use Rattle.std.proofs.Common.{refl}
-use Rattle.line_run.specs.Scripted.{wire_of}
-use Rattle.line_run.specs.Ends.{RunEnd, IsDone, LinkLost, NotDetected, LineLost, ChanceMatch, GivesUp, LineEnds}
-use Rattle.line_ends.specs.Causes.{LostLinksWereStarved, FewLossesKeepLinks}
-use Rattle.line_ends.specs.Completes.{EndsDone, CompletesUnstarved, CompletesWithFewLosses}
+use Rattle.line_ends.proofs.Cited.{ChanceMatch, CompletesUnstarved, CompletesWithFewLosses, EndsDone, FewLossesKeepLinks, GivesUp, IsDone}
+use Rattle.line_ends.proofs.Cited.{LineEnds, LineLost, LinkLost, LostLinksWereStarved, NotDetected, RunEnd, wire_of}
 
 pub done-else : (end : RunEnd) → (GivesUp end → ⊥) → (LineEnds end → ⊥) → EndsDone end
 done-else (IsDone turn) up line = (turn, refl)

@@ -5,18 +5,11 @@ use Rattle.std.specs.List.{list_any}
 use Rattle.std.proofs.lemmas.Bool.{cases_lt}
 use Rattle.std.proofs.lemmas.Bool.Decides.{nat_tests}
 use Rattle.frame_check.specs.Bits.{number}
-use Rattle.shared_terms.specs.declared.role.Role.{Role}
-use Rattle.shared_terms.specs.declared.role.Role.TheVariants.{Originator, Answerer}
-use Rattle.shared_terms.specs.Role.{other, same_role}
-use Rattle.shared_terms.specs.Both.{of}
-use Rattle.lapm_frames.specs.declared.heard.Heard.{Heard}
-use Rattle.lapm_frames.specs.declared.heard.Heard.TheVariants.{Nothing, Passed, Lost, Chance}
+use Rattle.line_ends.proofs.Cited.{Answerer, Chance, Heard, Lost, Nothing, Originator, Passed, Role, ScriptValue, Turn, delay_of, of, other}
+use Rattle.line_ends.proofs.Cited.{same_role, slots_named}
 use Rattle.noise_script.specs.declared.entry.Loss.{Loss}
 use Rattle.noise_script.specs.Offsets.{covers}
-use Rattle.noise_script.specs.Script.{ScriptValue, delay_of}
-use Rattle.link_run.specs.Run.{Turn}
 use Rattle.link_run.specs.Counts.{lost_in, lost_slots}
-use Rattle.line_ends.specs.Completes.{slots_named}
 use Rattle.line_ends.proofs.Hearing.{AsNamed}
 
 -- whether a line names a slot, and one of these lines does

@@ -1,24 +1,16 @@
 -- Whether octets pass a check, and what a slot is to its hearer, can be told.
-use Rattle.std.proofs.Common.{◌≡◌, ◌⊎◌, inl, inr, ℕ, zero, suc, ◌-◌, ◌<◌, ◌≤◌, Bool, true, false, List, [], ◌∷◌, length, take}
-use Rattle.std.proofs.Common.{All, arith, refl, sym, ◌∙◌, ap, subst, Option, Some, None, IfSome}
+use Rattle.std.proofs.Common.{◌≡◌, ◌⊎◌, inl, inr, ℕ, zero, suc, ◌-◌, ◌<◌, ◌≤◌, Bool, true, false, List, [], ◌∷◌, length, take, All, arith}
+use Rattle.std.proofs.Common.{refl, sym, ◌∙◌, ap, subst, Option, Some, None, IfSome}
 use Rattle.std.proofs.lemmas.Bool.{cases_lt}
 use Rattle.std.proofs.lemmas.List.Elements.{All-nil, All-cons, All-head, All-tail}
-use Rattle.frame_check.specs.declared.sizes.TheConstants.{INFO}
-use Rattle.frame_check.specs.declared.check.Check.{Check}
+use Rattle.line_ends.proofs.Cited.{Chance, Check, Frame, Heard, INFO, IsFrame, Lost, Nothing, Passed, Role, Seen, Sent, spelled}
 use Rattle.frame_check.specs.FrameCheck.{IsChecked, Passes}
 use Rattle.frame_check.specs.Division.{count_of, with_check}
 use Rattle.frame_check.proofs.Checks.{front-checked, with_check-is, with_check-one}
-use Rattle.shared_terms.specs.declared.role.Role.{Role}
-use Rattle.lapm_frames.specs.declared.frame.Frame.{Frame}
-use Rattle.lapm_frames.specs.Frame.{IsFrame, spelled}
 use Rattle.lapm_frames.specs.Parts.{parts_of}
 use Rattle.lapm_frames.specs.Checked.{check_heard}
-use Rattle.lapm_frames.specs.declared.seen.Seen.{Seen}
 use Rattle.lapm_frames.specs.declared.seen.Seen.TheVariants as seen
-use Rattle.lapm_frames.specs.declared.sent.Sent.{Sent}
 use Rattle.lapm_frames.specs.declared.sent.Sent.TheVariants as slots
-use Rattle.lapm_frames.specs.declared.heard.Heard.{Heard}
-use Rattle.lapm_frames.specs.declared.heard.Heard.TheVariants.{Nothing, Passed, Lost, Chance}
 use Rattle.sample_line.specs.Received.{PassTheCheck}
 use Rattle.sample_line.specs.Outcomes.{is_message, IsSilent, IsPattern, IsFrameOnce, IsWhatWasSent, IsOutcome}
 

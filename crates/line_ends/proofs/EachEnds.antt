@@ -1,28 +1,17 @@
 -- Each run goes on or ends, and so it ends.
-use Rattle.std.proofs.Common.{◌≡◌, ◌⊎◌, inl, inr, ℕ, zero, suc, ◌+◌, ◌^◌, ◌≤◌, List, [], ◌∷◌, ◌++◌, length, arith, refl}
-use Rattle.std.proofs.Common.{◌∙◌, ap, subst}
-use Rattle.shared_terms.specs.declared.role.Role.{Role}
-use Rattle.shared_terms.specs.declared.role.Role.TheVariants.{Originator, Answerer}
-use Rattle.shared_terms.specs.Role.{other}
-use Rattle.shared_terms.specs.Both.{Both, of}
-use Rattle.noise_script.specs.Script.{ScriptValue, IsInLimits}
-use Rattle.shared_terms.specs.declared.fault.LinkFault.{LinkFault}
+use Rattle.std.proofs.Common.{◌≡◌, ◌⊎◌, inl, inr, ℕ, zero, suc, ◌+◌, ◌^◌, ◌≤◌, List, [], ◌∷◌, ◌++◌, length, arith, refl, ◌∙◌, ap, subst}
+use Rattle.line_ends.proofs.Cited.{Accounts, Answerer, AreOfOctets, Both, Broken, ChanceMatch, Done, EachEndIsNamed, EachRunEnds}
+use Rattle.line_ends.proofs.Cited.{EachSlotBecomes, EachTurnIsDecided, EndsInTurn, EndsLine, Going, HasEnd, HeardTurnsAreMade, IsDone}
+use Rattle.line_ends.proofs.Cited.{IsHeardWell, IsInLimits, IsNamed, Left, LineEnd, LineLost, LineRun, LinkFault, LinkLost, MadeOver}
+use Rattle.line_ends.proofs.Cited.{NotDetected, OctetsAreSendable, Originator, Outcome, Role, ScriptValue, ScriptsHaveDelays}
+use Rattle.line_ends.proofs.Cited.{ScriptsMayPlay, SlotsAreCodable, SlotsHaveRoom, Turn, TurnIs, Wire, check_of, link_of, of, other, start}
+use Rattle.line_ends.proofs.Cited.{wire_of}
 use Rattle.shared_terms.specs.declared.fault.LinkFault.TheVariants as faults
-use Rattle.link_account.specs.Account.{check_of}
-use Rattle.link_run.specs.Run.{Accounts, Turn, start}
-use Rattle.link_run.specs.Outcomes.{Outcome, Going, Done, Broken, TurnIs}
-use Rattle.link_run.specs.Laws.{EachEndIsNamed, IsNamed}
 use Rattle.link_run.specs.Trace.{trace_text}
 use Rattle.line_texts.specs.LineText.{chance_line}
 use Rattle.turn_bound.specs.Limits.{file_limit}
-use Rattle.line_run.specs.Sampled.{Wire, LineRun, LineEnd, IsHeardWell, EndsLine}
 use Rattle.line_run.specs.Sampled as lines
-use Rattle.line_run.specs.Scripted.{wire_of, link_of, ScriptsMayPlay, ScriptsHaveDelays, SlotsHaveRoom, SlotsAreCodable}
-use Rattle.line_run.specs.Ends.{IsDone, LinkLost, NotDetected, LineLost, ChanceMatch, Left, EndsInTurn}
 use Rattle.line_ends.specs.Scripts.{NoLineRunIsLong}
-use Rattle.line_ends.specs.Causes.{MadeOver, HeardTurnsAreMade}
-use Rattle.line_ends.specs.Completes.{AreOfOctets, OctetsAreSendable}
-use Rattle.line_ends.specs.EachEnds.{EachSlotBecomes, EachTurnIsDecided, HasEnd, EachRunEnds}
 use Rattle.line_ends.proofs.Fitting.{fits-all}
 use Rattle.line_ends.proofs.Becoming.{BecomeLaws, fit-becomes, line-or-heard}
 use Rattle.line_run.proofs.WhatIsLeft.{left_of, leaves-so}

@@ -2,18 +2,10 @@
 use Rattle.std.proofs.Common.{◌≡◌, ℕ, zero, suc, ◌*◌, List, [], ◌∷◌, ◌++◌, drop, arith, sym, subst, Some}
 use Rattle.bit_stuffing.specs.Slots.{phase_after}
 use Rattle.bit_stuffing.proofs.Fill.{phase-low}
-use Rattle.shared_terms.specs.declared.role.Role.{Role}
-use Rattle.shared_terms.specs.Both.{Both, of}
-use Rattle.detection.specs.Slots.{slots_of}
-use Rattle.lapm_frames.specs.Sendable.{IsSendable}
-use Rattle.noise_script.specs.Script.{ScriptValue, IsInLimits}
-use Rattle.sample_line.specs.Signals.{signal_of}
-use Rattle.line_run.specs.Fitting.{Fits, AreFit}
+use Rattle.line_ends.proofs.Cited.{Accounts, AllSendable, AreFit, Both, Fits, GoingTurn, HeardIn, IsInLimits, IsSendable, LineRun, Role}
+use Rattle.line_ends.proofs.Cited.{ScriptValue, SlotsAreCodable, Spoken, Turn, link_of, longest_of, of, signal_in, signal_of, signals}
+use Rattle.line_ends.proofs.Cited.{slot_symbols, slots_of, spoken, wire_of}
 use Rattle.line_run.proofs.Fits.{codable-fits, fit-front, fit-more, spelled-octets}
-use Rattle.link_run.specs.Run.{Accounts, Spoken, Turn, spoken, GoingTurn}
-use Rattle.line_run.specs.Sampled.{signal_in, signals, HeardIn, LineRun}
-use Rattle.line_run.specs.Scripted.{wire_of, link_of, slot_symbols, longest_of, SlotsAreCodable}
-use Rattle.line_run.specs.Stream.{AllSendable}
 
 -- the symbols of a slot, and its bits
 abbrev pub symbols_of : ScriptValue → ℕ

@@ -4,9 +4,8 @@ use Rattle.std.proofs.Common.{slice_get, arith, refl, sym, subst, Option, Some, 
 use Rattle.std.specs.List.{concat}
 use Rattle.std.proofs.lemmas.List.{length-take}
 use Rattle.std.proofs.lemmas.List.Elements.{All-nil, All-cons, All-head, All-tail, All-push, All-take}
-use Rattle.frame_check.specs.Octets.{AreOctets}
-use Rattle.break_signals.specs.Breaks.{OwnBreaks, takes_break, after_ask}
-use Rattle.link_account.specs.Account.{Account, is_connected, wants, piece_size, after_given, after_busy, after_break_asked}
+use Rattle.line_ends.proofs.Cited.{Account, AreOctets, OwnBreaks, after_ask, after_break_asked, after_busy, after_given, is_connected}
+use Rattle.line_ends.proofs.Cited.{piece_size, takes_break, wants}
 use Rattle.link_run.specs.End.{User, BreakLine, delivered, piece_at, offered_at, offered_times, room_for, offered, is_busy, next_break}
 use Rattle.link_run.specs.End.{asked_at, asked, served}
 use Rattle.link_run.specs.Reading.{IsOffered, OffersWhatIsRead, OwnSegmentsStay}

@@ -1,42 +1,22 @@
 -- What is heard in a script's run whose noise is faint.
-use Rattle.std.proofs.Common.{◌≡◌, ◌≢◌, ℕ, ◌+◌, ◌-◌, ◌*◌, ◌<◌, ◌≤◌, Bool, true, false, List, [], ◌∷◌, ◌++◌, length, drop, arith}
-use Rattle.std.proofs.Common.{refl, sym, ◌∙◌, subst, Option, Some, None, append-nil}
-use Rattle.frame_check.specs.declared.check.Check.{Check}
-use Rattle.shared_terms.specs.declared.role.Role.{Role}
-use Rattle.shared_terms.specs.declared.role.Role.TheVariants.{Originator, Answerer}
-use Rattle.shared_terms.specs.Role.{other}
-use Rattle.shared_terms.specs.Both.{Both, of}
-use Rattle.detection.specs.Slots.{Signal, signal_bits}
-use Rattle.lapm_frames.specs.declared.frame.Frame.{Frame}
+use Rattle.std.proofs.Common.{◌≡◌, ◌≢◌, ℕ, ◌+◌, ◌-◌, ◌*◌, ◌<◌, ◌≤◌, Bool, true, false, List, [], ◌∷◌, ◌++◌, length, drop, arith, refl, sym}
+use Rattle.std.proofs.Common.{◌∙◌, subst, Option, Some, None, append-nil}
+use Rattle.line_ends.proofs.Cited.{Accounts, AllSendable, Answerer, AreFit, Arrives, ArrivesAs, Both, Chance, Check, FaintGoOn}
+use Rattle.line_ends.proofs.Cited.{FaintNeverLost, FaintReceivedIsSent, Frame, Heard, IsFaint, IsHeardOf, IsInLimits, IsSendable, LineRun}
+use Rattle.line_ends.proofs.Cited.{LosesLine, NeverChance, Nothing, Originator, Records, Role, RunsOver, SamplesAreCarried, ScriptValue}
+use Rattle.line_ends.proofs.Cited.{ScriptsHaveDelays, ScriptsMayPlay, Sent, SentAgo, Signal, SlotsAreCodable, SlotsHaveRoom, Spoken, Turn}
+use Rattle.line_ends.proofs.Cited.{Wire, check_of, delay_of, link_of, loses, of, other, sent-ago, sent_ago, signal_bits, signal_in}
+use Rattle.line_ends.proofs.Cited.{signal_of, signals, wire_of}
 use Rattle.lapm_frames.specs.Checked.{check_for}
-use Rattle.lapm_frames.specs.declared.sent.Sent.{Sent}
 use Rattle.lapm_frames.specs.declared.sent.Sent.TheVariants as slots
-use Rattle.lapm_frames.specs.declared.heard.Heard.{Heard}
-use Rattle.lapm_frames.specs.declared.heard.Heard.TheVariants.{Nothing, Chance}
-use Rattle.lapm_frames.specs.Sendable.{IsSendable}
-use Rattle.noise_script.specs.Script.{ScriptValue, IsInLimits, delay_of, loses}
-use Rattle.sample_line.specs.Signals.{signal_of}
-use Rattle.sample_line.specs.Recorded.{Records}
 use Rattle.sample_line.specs.Outcomes.{IsOutcome}
 use Rattle.sample_line.specs.Laws.{OneOutcome}
-use Rattle.line_run.specs.Fitting.{AreFit}
 use Rattle.line_run.specs.Unhindered.{ChecksAgree, octets_in, patterns_in, unhindered}
-use Rattle.line_run.specs.Laws.{FaintNeverLost, FaintReceivedIsSent, NeverChance}
 use Rattle.line_run.proofs.Received.{as-expected}
-use Rattle.link_account.specs.Account.{check_of}
-use Rattle.link_run.specs.Run.{Accounts, Spoken, Turn}
-use Rattle.link_run.specs.Carried.{sent_ago}
-use Rattle.link_run.specs.Laws.{RunsOver}
 use Rattle.link_run.specs.Overheard.{JudgesByItsCheck}
 use Rattle.link_run.specs.Starved.{IsLost}
-use Rattle.line_run.specs.Sampled.{Wire, signal_in, signals, Arrives, ArrivesAs, IsHeardOf, HeardIn, LineRun, LosesLine, EndsLine}
 use Rattle.line_run.specs.Sampled as lines
-use Rattle.line_run.specs.Scripted.{wire_of, link_of, ScriptsMayPlay, ScriptsHaveDelays, SlotsHaveRoom, SlotsAreCodable}
-use Rattle.line_run.specs.LineLaws.{SamplesAreCarried}
-use Rattle.line_ends.specs.Completes.{IsFaint, FaintGoOn}
-use Rattle.line_run.specs.Stream.{AllSendable}
 use Rattle.line_ends.proofs.Fitting.{symbols_of, bits_in, fits-all, fits-before}
-use Rattle.line_run.proofs.Slots.{SentAgo, sent-ago}
 
 pub record HearLaws : Type 0 where
   pub play : ScriptsMayPlay

@@ -1,3 +1,4 @@
+mod Cited
 mod Completing
 pub mod Fitting
 pub mod Hearing

@@ -1,18 +1,8 @@
 -- What is heard makes a next turn.
 use Rattle.std.proofs.Common.{◌≡◌, List, length, refl, sym, ◌∙◌, subst, None}
-use Rattle.shared_terms.specs.declared.role.Role.{Role}
-use Rattle.shared_terms.specs.declared.role.Role.TheVariants.{Originator, Answerer}
-use Rattle.shared_terms.specs.Role.{other}
-use Rattle.shared_terms.specs.Both.{of}
-use Rattle.noise_script.specs.Script.{delay_of}
-use Rattle.link_account.specs.Account.{check_of}
-use Rattle.link_run.specs.Run.{Link, Accounts, Side, Turn, Hears}
-use Rattle.link_run.specs.Outcomes.{Outcome, Going, Done, Broken, TurnIs}
-use Rattle.link_run.specs.Laws.{EachTurnIsMade, MakesTurn}
-use Rattle.line_run.specs.Sampled.{HeardIn, IsHeardOf}
-use Rattle.line_run.specs.Scripted.{link_of, ScriptsMayPlay, ScriptsHaveDelays}
-use Rattle.line_run.specs.LineLaws.{SamplesAreCarried, OneIsCarried}
-use Rattle.line_ends.specs.Causes.{HeardTurnsAreMade}
+use Rattle.line_ends.proofs.Cited.{Accounts, Answerer, Broken, Done, EachTurnIsMade, Going, HeardIn, HeardTurnsAreMade, Hears, IsHeardOf}
+use Rattle.line_ends.proofs.Cited.{Link, MakesTurn, OneIsCarried, Originator, Outcome, Role, SamplesAreCarried, ScriptsHaveDelays}
+use Rattle.line_ends.proofs.Cited.{ScriptsMayPlay, Side, Turn, TurnIs, check_of, delay_of, link_of, of, other}
 
 pub record Makes : Type 0 where
   pub play : ScriptsMayPlay

@@ -1,18 +1,10 @@
 -- What is received of a slot is read off labels that begin a nearest code sequence.
 use Rattle.std.proofs.Common.{◌≡◌, ◌-◌, List, [], ◌∷◌, drop, Some, subst}
-use Rattle.frame_check.specs.declared.check.Check.{Check}
-use Rattle.shared_terms.specs.declared.role.Role.{Role}
-use Rattle.shared_terms.specs.Role.{other}
-use Rattle.shared_terms.specs.Both.{of}
+use Rattle.line_ends.proofs.Cited.{Accounts, Arrives, ArrivesAs, Check, EndsBy, Heard, HeardIn, IsDone, IsHeardOver, Left, LineRun, Link}
+use Rattle.line_ends.proofs.Cited.{LinkLost, NotDetected, Role, RunEnd, Spoken, Turn, Wire, delay_of, line_trellis, of, other, sent_ago}
+use Rattle.line_ends.proofs.Cited.{turns_heard}
 use Rattle.exact_decoder.specs.Surviving.Laws.{ReleasedIsLeast, OfEachCode}
 use Rattle.exact_decoder.proofs.Surviving.V32.{line-has-laws}
-use Rattle.exact_decoder.specs.Surviving.V32.{line_trellis}
-use Rattle.lapm_frames.specs.declared.heard.Heard.{Heard}
-use Rattle.noise_script.specs.Script.{delay_of}
-use Rattle.link_run.specs.Run.{Link, Accounts, Spoken, Turn}
-use Rattle.link_run.specs.Carried.{sent_ago}
-use Rattle.line_run.specs.Sampled.{Wire, Arrives, ArrivesAs, HeardIn, IsHeardOver, LineRun}
-use Rattle.line_run.specs.Ends.{RunEnd, IsDone, LinkLost, NotDetected, Left, EndsBy, turns_heard}
 use Rattle.line_ends.specs.ReadOff.{IsReadOff, AreReadOff}
 
 slot-read : OfEachCode ReleasedIsLeast

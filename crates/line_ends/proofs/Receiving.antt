@@ -2,7 +2,7 @@
 use Rattle.std.proofs.Common.{◌≡◌, ◌⊎◌, inl, inr, ℕ, zero, suc, ◌+◌, ◌<◌, ◌≤◌, Bool, List, [], ◌∷◌, ◌++◌, length, take, map, arith, refl}
 use Rattle.std.proofs.Common.{sym, ap, subst, Some, None, append-nil, append_assoc}
 use Rattle.std.proofs.lemmas.Bool.{cases_lt}
-use Rattle.frame_check.specs.declared.check.Check.{Check}
+use Rattle.line_ends.proofs.Cited.{Check, Records, Role, ScriptValue, Seen, line_depth, line_trellis}
 use Rattle.bit_stuffing.proofs.Sent.{pieces-stay}
 use Rattle.bit_stuffing.specs.Sent.{wholes}
 use Rattle.scramblers.specs.Mode.{tap_of}
@@ -12,15 +12,10 @@ use Rattle.symbol_map.specs.declared.sample.Sample.{Sample}
 use Rattle.exact_decoder.specs.Surviving.Survivors.{IsReleased, IsOver, LostIs}
 use Rattle.exact_decoder.proofs.Surviving.Fronts.{released-once}
 use Rattle.exact_decoder.proofs.Surviving.Least.{some-released}
-use Rattle.exact_decoder.specs.Surviving.V32.{line_depth, line_trellis}
 use Rattle.exact_decoder.proofs.Surviving.V32.{line-has-laws}
 use Rattle.line_coding.specs.Demodulates.{line_of}
-use Rattle.shared_terms.specs.declared.role.Role.{Role}
 use Rattle.sample_line.specs.Mode.{mode_of}
-use Rattle.lapm_frames.specs.declared.seen.Seen.{Seen}
 use Rattle.detection.specs.Sights.{Sight, SightsAdded}
-use Rattle.noise_script.specs.Script.{ScriptValue}
-use Rattle.sample_line.specs.Recorded.{Records}
 use Rattle.sample_line.specs.Received.{Gives, FoundBetween, Receives}
 use Rattle.sample_line.specs.Laws.{RecordingsGrow, GivenStays}
 use Rattle.line_run.proofs.Recordings.{tap-some}

@@ -1,16 +1,10 @@
 -- The laws of runs that the promises of commands rest on.
 use Rattle.std.proofs.Common.{ℕ, List}
-use Rattle.shared_terms.specs.Both.{Both}
-use Rattle.noise_script.specs.Script.{IsInLimits, delay_of}
+use Rattle.line_ends.proofs.Cited.{Accounts, Both, DoneLeavesWhole, EndsHaveCauses, HearingsDeliver, HearsPrefixes, IsInLimits, LineRun}
+use Rattle.line_ends.proofs.Cited.{MayRun, OneIsCarried, RunsLeavePrefixes, RunsLeaveWhatPassed, RunsOver, SamplesAreCarried}
+use Rattle.line_ends.proofs.Cited.{ScriptsHaveDelays, ScriptsMayPlay, TakesPrefixes, Turn, Wire, delay_of, link_of}
 use Rattle.exact_decoder.specs.Surviving.Laws.{ReleasedIsLeast, OfEachCode}
-use Rattle.link_run.specs.Run.{Accounts, Turn}
-use Rattle.link_run.specs.Laws.{RunsOver, TakesPrefixes, HearsPrefixes, HearingsDeliver}
-use Rattle.line_run.specs.Sampled.{Wire, LineRun}
-use Rattle.line_run.specs.LineLaws.{SamplesAreCarried, OneIsCarried}
-use Rattle.line_run.specs.Ends.{MayRun, RunsLeavePrefixes, DoneLeavesWhole, RunsLeaveWhatPassed}
-use Rattle.line_run.specs.Scripted.{link_of, ScriptsMayPlay, ScriptsHaveDelays}
 use Rattle.line_run.specs.Scripts.{LineRunsEndSoon}
-use Rattle.line_ends.specs.Causes.{EndsHaveCauses}
 
 pub record RunLaws : Type 0 where
   pub play : ScriptsMayPlay

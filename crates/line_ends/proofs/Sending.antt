@@ -3,38 +3,20 @@ use Rattle.std.proofs.Common.{◌≡◌, ℕ, ◌<◌, ◌≤◌, false, List, [
 use Rattle.std.proofs.Common.{None, IfSome, Ok}
 use Rattle.std.specs.Prelude.{unwrap_or}
 use Rattle.std.proofs.lemmas.List.Elements.{All-nil, All-map, All-filter}
-use Rattle.frame_check.specs.declared.sizes.TheConstants.{INFO}
-use Rattle.frame_check.specs.Octets.{AreOctets}
-use Rattle.shared_terms.specs.declared.role.Role.{Role}
-use Rattle.shared_terms.specs.declared.role.Role.TheVariants.{Originator, Answerer}
-use Rattle.shared_terms.specs.Role.{other, same_role}
-use Rattle.shared_terms.specs.Both.{Both, of}
-use Rattle.xid_params.specs.Offers.{IsAllowed}
+use Rattle.line_ends.proofs.Cited.{Accounts, AllPlain, AllSendable, AllShort, Answerer, AreOctets, AsksInOctets, Both, Carries, Chance}
+use Rattle.line_ends.proofs.Cited.{Crosses, Frame, GoingTurn, Heard, Hears, INFO, IsAllowed, IsInLimits, IsPlainSent, IsSendable, LineRun}
+use Rattle.line_ends.proofs.Cited.{Link, Lost, Nothing, OctetsAreSendable, OneIsCarried, Originator, Passed, Role, RunsOver}
+use Rattle.line_ends.proofs.Cited.{SamplesAreCarried, ScriptValue, ScriptsHaveDelays, ScriptsMayPlay, SendsShort, Sent, Spoken, Turn, Wire}
+use Rattle.line_ends.proofs.Cited.{arrival, break_line, breaks_of, delay_of, information_of, link_of, of, other, releases, said_at}
+use Rattle.line_ends.proofs.Cited.{same_role, sent-ago, sent_ago, served_at, start}
 use Rattle.break_signals.specs.Words.{IsSpelledBack}
-use Rattle.lapm_frames.specs.declared.frame.Frame.{Frame}
-use Rattle.lapm_frames.specs.Frame.{information_of}
 use Rattle.lapm_frames.specs.Parts.{parts_of}
-use Rattle.lapm_frames.specs.declared.sent.Sent.{Sent}
 use Rattle.lapm_frames.specs.declared.sent.Sent.TheVariants as slots
-use Rattle.lapm_frames.specs.declared.heard.Heard.{Heard}
-use Rattle.lapm_frames.specs.declared.heard.Heard.TheVariants.{Nothing, Passed, Lost, Chance}
-use Rattle.lapm_frames.specs.Sendable.{IsSendable}
 use Rattle.noise_script.specs.declared.entry.Break.{Break}
-use Rattle.noise_script.specs.Script.{ScriptValue, IsInLimits, delay_of}
 use Rattle.link_account.specs.Speak.{Said}
 use Rattle.link_account.specs.Play.{arrives}
 use Rattle.link_run.specs.End.{is_released}
-use Rattle.link_run.specs.Run.{Link, Accounts, Spoken, Turn, start, arrival, Hears, served_at, said_at, releases, GoingTurn}
-use Rattle.link_run.specs.Carried.{sent_ago, Crosses, Carries}
-use Rattle.link_run.specs.Laws.{RunsOver, SendsShort}
 use Rattle.link_run.specs.Reading.{StaysOffered, BeginsUnoffered, HearingStaysOffered, SpeakingStaysOffered}
-use Rattle.line_run.specs.Sampled.{Wire, LineRun}
-use Rattle.line_run.specs.Scripted.{link_of, break_line, breaks_of, ScriptsMayPlay, ScriptsHaveDelays}
-use Rattle.line_run.specs.LineLaws.{SamplesAreCarried, OneIsCarried}
-use Rattle.line_run.specs.Stream.{AllSendable}
-use Rattle.line_run.proofs.Slots.{sent-ago}
-use Rattle.line_ends.specs.Completes.{OctetsAreSendable}
-use Rattle.line_ends.specs.Plain.{IsPlainSent, AllPlain, AllShort, AsksInOctets}
 use Rattle.line_ends.proofs.Slots.{plain-sent}
 use Rattle.line_ends.proofs.Words.{Octet, ArrivesInOctets, heard-owes}
 use Rattle.line_ends.proofs.Saying.{information_in, IsGood, said-good}

@@ -1,13 +1,7 @@
 -- What is said of all slots that were sent is true of the one that arrives.
 use Rattle.std.proofs.Common.{◌≡◌, ℕ, zero, suc, ◌-◌, ◌≤◌, List, [], ◌∷◌, length, drop, subst}
-use Rattle.shared_terms.specs.declared.role.Role.{Role}
-use Rattle.frame_check.specs.declared.sizes.TheConstants.{INFO}
-use Rattle.lapm_frames.specs.declared.frame.Frame.{Frame}
-use Rattle.lapm_frames.specs.Frame.{information_of}
+use Rattle.line_ends.proofs.Cited.{AllPlain, AllShort, Frame, INFO, IsPlainSent, Role, SentAgo, Spoken, Turn, information_of}
 use Rattle.lapm_frames.specs.declared.sent.Sent.TheVariants as slots
-use Rattle.link_run.specs.Run.{Spoken, Turn}
-use Rattle.line_run.proofs.Slots.{SentAgo}
-use Rattle.line_ends.specs.Plain.{AllPlain, AllShort, IsPlainSent}
 
 -- all of the turns before the last n
 plain-drop : (n : ℕ) (ts : List Turn) → AllPlain ts → AllPlain (drop n ts)

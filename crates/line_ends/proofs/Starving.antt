@@ -1,26 +1,17 @@
 -- A run that ends by a lost link was starved, and what else its end says.
 use Rattle.std.proofs.Common.{arith, ◌≡◌, ◌∙◌, ℕ, List, [], map, filter, ap}
-use Rattle.shared_terms.specs.declared.role.Role.{Role}
-use Rattle.shared_terms.specs.declared.role.Role.TheVariants.{Originator, Answerer}
-use Rattle.shared_terms.specs.Role.{same_role}
-use Rattle.shared_terms.specs.Both.{Both, of}
+use Rattle.line_ends.proofs.Cited.{Accounts, Answerer, Both, DoneIsWhole, EndsHaveCauses, FewLossesKeepLinks, GivesEachBreak, GivesUp}
+use Rattle.line_ends.proofs.Cited.{GivesUpOnTime, HearingsGiveAllBreaks, IsDone, IsInLimits, Left, LineRun, LinkLost, LosesInPeriods}
+use Rattle.line_ends.proofs.Cited.{LostLinksWereStarved, NotDetected, OneIsCarried, Originator, Role, RunEnd, RunsOver, RunsTo}
+use Rattle.line_ends.proofs.Cited.{SamplesAreCarried, ScriptValue, ScriptsHaveDelays, ScriptsMayPlay, Turn, WaitsForNoBreak, Wire}
+use Rattle.line_ends.proofs.Cited.{break_line, delay_of, link_of, of, period_of, same_role, turns_heard}
 use Rattle.noise_script.specs.declared.entry.Break.{Break}
-use Rattle.noise_script.specs.Script.{ScriptValue, IsInLimits, delay_of}
 use Rattle.shared_terms.specs.declared.fault.LinkFault.TheVariants as faults
-use Rattle.link_run.specs.Run.{Accounts, Turn}
-use Rattle.link_run.specs.Laws.{RunsOver, DoneIsWhole, HearingsGiveAllBreaks}
 use Rattle.turn_losses.specs.Losses.{OriginatorWantsPattern, UndetectedOnTime, StarvedLosesMany}
 use Rattle.turn_losses.specs.Tries.{GivesUpForLosses, GivesUpUnbroken}
 use Rattle.turn_losses.proofs.Periods.{later-loses}
 use Rattle.turn_losses.specs.Breaks.{GivesUpStarved}
-use Rattle.line_run.specs.Sampled.{Wire, LineRun}
-use Rattle.line_run.specs.Scripted.{period_of, link_of, break_line, ScriptsMayPlay, ScriptsHaveDelays}
-use Rattle.line_run.specs.LineLaws.{SamplesAreCarried, OneIsCarried}
-use Rattle.line_run.specs.Ends.{IsDone, LinkLost, NotDetected, Left, RunsTo, turns_heard, GivesUp}
 use Rattle.line_run.specs.Scripts.{ScriptsKeepTime}
-use Rattle.line_run.specs.Ends.{RunEnd}
-use Rattle.line_ends.specs.Causes.{LostLinksWereStarved, LosesInPeriods, WaitsForNoBreak, FewLossesKeepLinks}
-use Rattle.line_ends.specs.Causes.{GivesUpOnTime, GivesEachBreak, EndsHaveCauses}
 
 pub record Laws : Type 0 where
   pub play : ScriptsMayPlay

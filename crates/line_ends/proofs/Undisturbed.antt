@@ -1,23 +1,14 @@
 -- Runs of scripts whose noise is faint are done.
 use Rattle.std.proofs.Common.{◌≡◌, ℕ, List, [], ◌∷◌, length, arith, ap, subst}
-use Rattle.shared_terms.specs.declared.role.Role.{Role}
-use Rattle.shared_terms.specs.declared.role.Role.TheVariants.{Originator, Answerer}
-use Rattle.shared_terms.specs.Role.{other}
-use Rattle.shared_terms.specs.Both.{Both, of}
-use Rattle.noise_script.specs.Script.{ScriptValue, IsInLimits}
-use Rattle.line_run.specs.Laws.{EmptyScriptDisplacesNone, UndisplacedIsFaint}
+use Rattle.line_ends.proofs.Cited.{Accounts, AllSendable, Answerer, Both, Broken, ChanceMatch, CompletesQuiet, CompletesUndisturbed}
+use Rattle.line_ends.proofs.Cited.{CompletesWithFewLosses, CompletesWithFewNamed, DisplacesNoneIsFaint, Done, DoneLeavesWhole, EachRunEnds}
+use Rattle.line_ends.proofs.Cited.{EmptyScriptDisplacesNone, EndsInTurn, FaintGoOn, Going, HasEnd, HeardIn, Hears, IsDone, IsFaint}
+use Rattle.line_ends.proofs.Cited.{IsHeardOf, IsInLimits, IsQuiet, Left, LineEnds, LineLost, LineRun, Link, LinkLost, LosesWhatIsNamed}
+use Rattle.line_ends.proofs.Cited.{NotDetected, OctetsAreSendable, Originator, Outcome, QuietRunsDeliver, Role, RunEnd, ScriptRunsTo}
+use Rattle.line_ends.proofs.Cited.{ScriptValue, ScriptsHaveDelays, ScriptsMayPlay, Turn, TurnIs, UndisplacedIsFaint, UndisturbedRunsDeliver}
+use Rattle.line_ends.proofs.Cited.{heard_turns, link_of, of, other, slots_named, wire_of}
 use Rattle.shared_terms.specs.declared.fault.LinkFault.TheVariants as faults
-use Rattle.link_run.specs.Run.{Link, Accounts, Turn, Hears}
-use Rattle.link_run.specs.Outcomes.{Outcome, Going, Done, Broken, TurnIs}
-use Rattle.line_run.specs.Sampled.{Wire, IsHeardOf, HeardIn, LineRun}
 use Rattle.line_run.specs.Sampled as lines
-use Rattle.line_run.specs.Scripted.{wire_of, link_of, ScriptsMayPlay, ScriptsHaveDelays}
-use Rattle.line_run.specs.Ends.{RunEnd, IsDone, LinkLost, NotDetected, LineLost, ChanceMatch, Left, EndsInTurn, DoneLeavesWhole, LineEnds}
-use Rattle.line_ends.specs.Completes.{ScriptRunsTo, heard_turns, IsFaint, IsQuiet, DisplacesNoneIsFaint}
-use Rattle.line_run.specs.Stream.{AllSendable}
-use Rattle.line_ends.specs.Completes.{OctetsAreSendable, FaintGoOn, LosesWhatIsNamed, CompletesWithFewLosses, CompletesWithFewNamed}
-use Rattle.line_ends.specs.Completes.{CompletesQuiet, CompletesUndisturbed, slots_named}
-use Rattle.line_ends.specs.EachEnds.{HasEnd, EachRunEnds, QuietRunsDeliver, UndisturbedRunsDeliver}
 use Rattle.line_ends.proofs.Hearing.{HearLaws, AsNamed, heard-named}
 use Rattle.line_ends.proofs.Counting.{AllNamed, lost-few}
 

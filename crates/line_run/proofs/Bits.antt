@@ -1,13 +1,8 @@
 -- All that a role sent, one slot more, and its bits.
 use Rattle.std.proofs.Common.{◌≡◌, ◌∙◌, ◌*◌, List, [], ◌∷◌, ◌++◌, length, Some, ap}
-use Rattle.detection.specs.Slots.{signal_bits}
-use Rattle.shared_terms.specs.declared.role.Role.{Role}
-use Rattle.shared_terms.specs.Both.{of}
-use Rattle.sample_line.specs.Line.{bits_behind}
-use Rattle.sample_line.specs.Signals.{signal_of}
+use Rattle.line_run.proofs.Cited.{IsAlone, Role, Spoken, Turn, Wire, and_then, bits_behind, bits_of, of, signal_bits, signal_in, signal_of}
+use Rattle.line_run.proofs.Cited.{signals, signals_before}
 use Rattle.sample_line.proofs.Passing.{slot-added}
-use Rattle.link_run.specs.Run.{Spoken, Turn}
-use Rattle.line_run.specs.Sampled.{Wire, IsAlone, signal_in, and_then, signals, signals_before, bits_of}
 
 pub signals-upto : (c : Wire) (role : Role) (ts : List Turn) (slot : Spoken) (t : Turn) → (of role t).sent ≡ Some slot
     → signals c role (t ∷ ts) ≡ signals_before c role ts ++ signal_of slot.check role c.dlci slot.sent ∷ []

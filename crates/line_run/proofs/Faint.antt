@@ -4,29 +4,19 @@ use Rattle.std.proofs.Common.{map, refl, sym, ap, arith, Some, None, ℤ, pos, n
 use Rattle.std.proofs.lemmas.Bool.{and_parts}
 use Rattle.std.proofs.lemmas.Int.{ints}
 use Rattle.std.proofs.lemmas.Nat.{mul-le}
-use Rattle.symbol_map.specs.declared.sample.Sample.{Sample}
+use Rattle.line_run.proofs.Cited.{DisplacesNoneBefore, IsFaintBefore, Records, Role, Sample, ScriptValue, UndisplacedIsFaint, displaced}
+use Rattle.line_run.proofs.Cited.{displaced_from, four-each, line_depth, line_trellis, lost-once, mode_of, offset_of, point_of, saturated}
+use Rattle.line_run.proofs.Cited.{squares_from, squares_of, tap_of}
 use Rattle.symbol_map.specs.Distance.{distance_of}
 use Rattle.symbol_map.specs.Finite.{each_below, at_each}
-use Rattle.symbol_map.specs.Points.{point_of}
-use Rattle.scramblers.specs.Mode.{tap_of}
 use Rattle.trellis_tables.specs.Laws.{far_from}
 use Rattle.trellis_tables.specs.Sequences.{Leads, cost}
 use Rattle.trellis_tables.specs.Table.{next_state}
 use Rattle.trellis_tables.proofs.Tables.{branch_of}
-use Rattle.exact_decoder.proofs.Surviving.Fronts.{lost-once}
-use Rattle.exact_decoder.specs.Surviving.V32.{line_depth, line_trellis}
 use Rattle.noise_bound.proofs.NoiselessCosts.{length-points}
 use Rattle.noise_bound.specs.Near.{only, sure, IsNear}
 use Rattle.noise_bound.proofs.Near.{few-unreleased, never-lost, releases-near}
-use Rattle.line_coding.proofs.Readings.{four-each}
-use Rattle.shared_terms.specs.declared.role.Role.{Role}
-use Rattle.sample_line.specs.Mode.{mode_of}
 use Rattle.noise_script.specs.declared.offset.Offset.{Offset}
-use Rattle.noise_script.specs.Script.{ScriptValue, offset_of}
-use Rattle.sample_line.specs.Recorded.{displaced, displaced_from, saturated, Records}
-use Rattle.line_run.specs.Unhindered.{DisplacesNoneBefore}
-use Rattle.line_run.specs.Faint.{squares_of, squares_from, IsFaintBefore}
-use Rattle.line_run.specs.Laws.{UndisplacedIsFaint}
 use Rattle.line_run.proofs.Following.{Follows, all-of}
 use Rattle.line_run.proofs.Undisplaced.{carried}
 

@@ -3,26 +3,17 @@ use Rattle.std.proofs.Common.{◌≡◌, ◌∙◌, ℕ, ◌+◌, ◌-◌, ◌*�
 use Rattle.std.proofs.Common.{length-append}
 use Rattle.std.proofs.Math.Nat.{mul-suc}
 use Rattle.std.proofs.lemmas.List.Elements.{All-append}
-use Rattle.frame_check.specs.declared.check.Check.{Check}
+use Rattle.line_run.proofs.Cited.{AreFit, AreSlots, Check, Fits, FlagSlot, Frame, IsCodable, IsFrame, IsSendable, IsSlot, MarkSlot}
+use Rattle.line_run.proofs.Cited.{OfOctets, PatternSlot, Role, Sent, Signal, bits_from, check_for, checked, flags, framed, information_of}
+use Rattle.line_run.proofs.Cited.{next_phase, opening, phase_from, rest_of_flag, signal_of, slot_bits, slot_of, slots_of, spelled}
 use Rattle.frame_check.specs.declared.check.Check.TheVariants.{Sixteen, ThirtyTwo}
 use Rattle.frame_check.specs.Division.{check_of, count_of}
 use Rattle.frame_check.proofs.Checks.{check_of-is, length-check_of}
 use Rattle.bit_stuffing.specs.declared.slot_writer.TheConstants.{TAIL}
-use Rattle.bit_stuffing.specs.Slots.{AreSlots, IsSlot, bits_from, phase_from, next_phase, opening, framed, flags, rest_of_flag, slot_bits}
 use Rattle.bit_stuffing.proofs.Fill.{length-flags, next-low}
 use Rattle.bit_stuffing.proofs.Sizes.{length-slot_bits, length-empty, length-opening}
-use Rattle.detection.specs.Slots.{Signal, slot_of, slots_of}
-use Rattle.detection.specs.Slots.Signal.{PatternSlot, MarkSlot, FlagSlot}
-use Rattle.shared_terms.specs.declared.role.Role.{Role}
-use Rattle.lapm_frames.specs.declared.frame.Frame.{Frame}
-use Rattle.lapm_frames.specs.Frame.{IsFrame, information_of, spelled}
-use Rattle.lapm_frames.specs.Checked.{check_for, checked}
 use Rattle.lapm_frames.proofs.Octets.{length-information, length-spelled, spelled-small}
-use Rattle.lapm_frames.specs.declared.sent.Sent.{Sent}
 use Rattle.lapm_frames.specs.declared.sent.Sent.TheVariants as sent
-use Rattle.sample_line.specs.Signals.{signal_of, IsCodable}
-use Rattle.lapm_frames.specs.Sendable.{IsSendable}
-use Rattle.line_run.specs.Fitting.{Fits, AreFit, OfOctets}
 use Rattle.line_run.proofs.Patterns.{ArePlain}
 
 pub fit-slot : (plain : ArePlain) (size phase : ℕ) (signal : Signal) → 552 < size → phase < 8 → Fits size phase signal

@@ -1,21 +1,10 @@
 -- What the ends of a script's link send fits the slots of its line.
 use Rattle.std.proofs.Common.{◌≡◌, ℕ, ◌+◌, ◌-◌, ◌*◌, ◌/◌, ◌<◌, ◌≤◌, max, length, arith, refl, Some}
-use Rattle.frame_check.specs.declared.check.Check.{Check}
+use Rattle.line_run.proofs.Cited.{Answerer, Check, FewOctetsBesidesInformation, Frame, IsCodable, IsSendable, Originator, Role, SendsShort}
+use Rattle.line_run.proofs.Cited.{Sent, ShortIsCodable, SlotsAreCodable, SlotsHaveRoom, checked, delay_of, information_of, link_of}
+use Rattle.line_run.proofs.Cited.{longest_of, of, slot_symbols}
 use Rattle.bit_stuffing.specs.declared.slot_writer.TheConstants.{TAIL}
-use Rattle.shared_terms.specs.declared.role.Role.{Role}
-use Rattle.shared_terms.specs.declared.role.Role.TheVariants.{Originator, Answerer}
-use Rattle.shared_terms.specs.Both.{of}
-use Rattle.lapm_frames.specs.declared.frame.Frame.{Frame}
-use Rattle.lapm_frames.specs.Checked.{checked}
-use Rattle.lapm_frames.specs.Frame.{information_of}
-use Rattle.lapm_frames.specs.declared.sent.Sent.{Sent}
 use Rattle.lapm_frames.specs.declared.sent.Sent.TheVariants as sent
-use Rattle.lapm_frames.specs.Sendable.{IsSendable}
-use Rattle.noise_script.specs.Script.{delay_of}
-use Rattle.sample_line.specs.Signals.{IsCodable}
-use Rattle.line_run.specs.Laws.{FewOctetsBesidesInformation, ShortIsCodable}
-use Rattle.link_run.specs.Laws.{SendsShort}
-use Rattle.line_run.specs.Scripted.{link_of, slot_symbols, longest_of, SlotsHaveRoom, SlotsAreCodable}
 use Rattle.line_run.proofs.Sampling.{samples_are_carried, one_is_carried}
 use Rattle.line_run.proofs.Scripting.{scripts_may_play, scripts_have_delays}
 

@@ -1,11 +1,7 @@
 -- What is heard of a line that a decoder follows.
 use Rattle.std.proofs.Common.{ℕ, ◌+◌, ◌*◌, ◌<◌, length, arith}
-use Rattle.shared_terms.specs.declared.role.Role.{Role}
-use Rattle.noise_script.specs.Script.{ScriptValue}
-use Rattle.sample_line.specs.Line.{sender_of}
-use Rattle.line_run.specs.Laws.{NeverLostWhere, ReceivedIsSentWhere, SentIsReceivedWhere, HeardIsSentWhere, PassesUnhinderedWhere}
-use Rattle.line_run.specs.Unhindered.{DisplacesNoneBefore}
-use Rattle.line_run.specs.Faint.{IsFaintBefore}
+use Rattle.line_run.proofs.Cited.{DisplacesNoneBefore, HeardIsSentWhere, IsFaintBefore, NeverLostWhere, PassesUnhinderedWhere}
+use Rattle.line_run.proofs.Cited.{ReceivedIsSentWhere, Role, ScriptValue, SentIsReceivedWhere, sender_of}
 use Rattle.line_run.proofs.Patterns.{AreSeen}
 use Rattle.line_run.proofs.Settled.{LeavesTime}
 use Rattle.line_run.proofs.Following.{Follows, none-within}

@@ -1,19 +1,12 @@
 -- However a run ends, what was given begins the other's file; done means whole.
 use Rattle.std.proofs.Common.{◌≡◌, ℕ, List, ◌∷◌, length, sym, ◌∙◌, subst}
-use Rattle.shared_terms.specs.declared.role.Role.{Role}
-use Rattle.shared_terms.specs.Role.{other}
-use Rattle.shared_terms.specs.Both.{of}
+use Rattle.line_run.proofs.Cited.{Accounts, ChanceMatch, DoneIsWhole, DoneLeavesWhole, EndsInTurn, EndsOnLine, Hears, HearsPrefixes}
+use Rattle.line_run.proofs.Cited.{HearsWhatPassed, HoldPrefixes, IsDone, Leaves, Left, LineEnd, LineLost, LineRun, Link, LinkLost, MayRun}
+use Rattle.line_run.proofs.Cited.{NotDetected, OneIsCarried, Role, RunsLeavePrefixes, RunsLeaveWhatPassed, RunsOver, SamplesAreCarried}
+use Rattle.line_run.proofs.Cited.{TakesPrefixes, TakesWhatPassed, Turn, Wire, agreed_srej, delay_of, of, other}
 use Rattle.shared_terms.specs.Prefix.{IsPrefixOf}
-use Rattle.noise_script.specs.Script.{delay_of}
-use Rattle.link_run.specs.Run.{Link, Accounts, Turn, Hears}
 use Rattle.link_run.specs.Outcomes.{Outcome, Going, Done, Broken, TurnIs}
 use Rattle.link_run.specs.Taken.{taken_octets}
-use Rattle.link_run.specs.Laws.{RunsOver, agreed_srej, HoldPrefixes, TakesPrefixes, HearsPrefixes, DoneIsWhole, TakesWhatPassed}
-use Rattle.link_run.specs.Laws.{HearsWhatPassed}
-use Rattle.line_run.specs.Sampled.{Wire, LineRun, LineEnd}
-use Rattle.line_run.specs.LineLaws.{SamplesAreCarried, OneIsCarried}
-use Rattle.line_run.specs.Ends.{IsDone, LinkLost, NotDetected, LineLost, ChanceMatch, Left, Leaves, EndsInTurn, EndsOnLine, MayRun}
-use Rattle.line_run.specs.Ends.{RunsLeavePrefixes, DoneLeavesWhole, RunsLeaveWhatPassed}
 
 pub record RunLaws : Type 0 where
   pub takes : TakesPrefixes

@@ -1,3 +1,4 @@
+mod Cited
 mod Sampling
 pub mod Leaving
 pub mod Resulting

@@ -1,17 +1,10 @@
 -- The bits of a slot tell what was sent in it.
 use Rattle.std.proofs.Common.{◌≡◌, ℕ, ◌*◌, List, [], Some, None, refl, ap, subst, arith}
-use Rattle.frame_check.specs.declared.check.Check.{Check}
-use Rattle.shared_terms.specs.declared.role.Role.{Role}
-use Rattle.lapm_frames.specs.Checked.{checked, SpellsFrame}
+use Rattle.line_run.proofs.Cited.{Check, FlagSlot, IsSendable, MarkSlot, PatternSlot, Role, Sent, Signal, SlotsTellWhatWasSent, SpellsFrame}
+use Rattle.line_run.proofs.Cited.{checked, signal_of}
 use Rattle.lapm_frames.proofs.Checking.{spells, spells-one}
-use Rattle.lapm_frames.specs.declared.sent.Sent.{Sent}
 use Rattle.lapm_frames.specs.declared.sent.Sent.TheVariants as sent
-use Rattle.lapm_frames.specs.Sendable.{IsSendable}
-use Rattle.detection.specs.Slots.{Signal}
-use Rattle.detection.specs.Slots.Signal.{PatternSlot, MarkSlot, FlagSlot}
 use Rattle.detection.proofs.OneSignal.{one-signal}
-use Rattle.sample_line.specs.Signals.{signal_of}
-use Rattle.line_run.specs.Laws.{SlotsTellWhatWasSent}
 use Rattle.line_run.proofs.Patterns.{ArePlain}
 use Rattle.line_run.proofs.Fits.{codable-fits, codable-sendable, fit-slot, spelled-octets}
 

@@ -1,10 +1,8 @@
 -- The laws of pattern slots that the lemmas here are handed.
 use Rattle.std.proofs.Common.{◌≡◌, ℕ, ◌<◌, Bool, List, [], ◌∷◌, ◌++◌, length, refl}
-use Rattle.bit_stuffing.specs.Slots.{AreSlots, IsPlain}
-use Rattle.lapm_frames.specs.declared.seen.Seen.{Seen}
+use Rattle.line_run.proofs.Cited.{AreSlots, IsPlain, Seen, Sight, SightsAdded, Signal, pattern_bits, seen_in, signal_bits, slots_of}
 use Rattle.detection.specs.Patterns.{ones}
-use Rattle.detection.specs.Slots.{Signal, pattern_bits, signal_bits, slots_of}
-use Rattle.detection.specs.Sights.{Sight, SightsAdded, seen_in, sights_of}
+use Rattle.detection.specs.Sights.{sights_of}
 
 -- patterns and ones may fill a slot
 pub record ArePlain : Type 0 where

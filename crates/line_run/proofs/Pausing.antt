@@ -1,12 +1,7 @@
 -- How many lines of a script are a role's.
 use Rattle.std.proofs.Common.{◌≡◌, ◌+◌, Bool, true, false, cond, List, [], ◌∷◌, map, filter, length, arith, refl}
 use Rattle.std.specs.List.{AllByRecursion}
-use Rattle.shared_terms.specs.declared.role.Role.{Role}
-use Rattle.shared_terms.specs.declared.role.Role.TheVariants.{Originator, Answerer}
-use Rattle.shared_terms.specs.Role.{same_role}
-use Rattle.noise_script.specs.declared.entry.Pause.{Pause}
-use Rattle.noise_script.specs.Script.{IsShort}
-use Rattle.line_run.specs.Scripted.{busy_line}
+use Rattle.line_run.proofs.Cited.{Answerer, IsShort, Originator, Pause, Role, busy_line, same_role}
 use Rattle.turn_bound.specs.Limits as limits
 
 -- those of both roles together

@@ -5,48 +5,29 @@ use Rattle.std.proofs.Math.Nat.{mul_assoc, mul-suc}
 use Rattle.std.proofs.Math.Seq.{take-append_seam, drop-append_seam}
 use Rattle.std.proofs.lemmas.List.{take-append-drop, length-drop}
 use Rattle.std.proofs.lemmas.List.Elements.{All-replicate}
-use Rattle.frame_check.specs.declared.check.Check.{Check}
-use Rattle.scramblers.specs.Mode.{tap_of}
+use Rattle.line_run.proofs.Cited.{AreFit, Check, ChecksAgree, Frame, IsReleased, IsSendable, Kept, Passes, PassesSlot, Records, Role}
+use Rattle.line_run.proofs.Cited.{Sample, ScriptValue, Seen, Sent, Sight, Signal, SpellsFrame, bits_behind, check_for, checked, first-stay}
+use Rattle.line_run.proofs.Cited.{four-each, line_trellis, mode_of, octets_in, patterns_in, phase_after, seen_in, sender_of, sights_of}
+use Rattle.line_run.proofs.Cited.{signal_bits, signal_of, size_of, slot_bits, slot_of, slots_of, spelled, tap_of, unhindered}
 use Rattle.scramblers.proofs.Readings.{Descrambles_once}
-use Rattle.symbol_map.specs.declared.sample.Sample.{Sample}
-use Rattle.exact_decoder.specs.Surviving.Survivors.{IsReleased}
 use Rattle.exact_decoder.proofs.Surviving.Least.{some-released}
-use Rattle.exact_decoder.specs.Surviving.V32.{line_trellis}
 use Rattle.exact_decoder.specs.declared.decoder.Lost.{Lost}
 use Rattle.exact_decoder.proofs.Surviving.V32.{line-has-laws}
 use Rattle.line_coding.specs.Demodulates.{Demodulates, line_of}
-use Rattle.line_coding.proofs.Readings.{first-stay, four-each}
 use Rattle.bit_stuffing.specs.Found.{Found, pieces_of}
 use Rattle.bit_stuffing.specs.Sent.{FoundIn, wholes}
-use Rattle.bit_stuffing.specs.Slots.{phase_after, slot_bits}
 use Rattle.bit_stuffing.proofs.Sent.{pieces-stay}
-use Rattle.lapm_frames.specs.declared.seen.Seen.{Seen}
 use Rattle.lapm_frames.specs.declared.seen.Seen.TheVariants as seen
-use Rattle.detection.specs.Sights.{Sight, seen_in, sights_of}
-use Rattle.detection.specs.Slots.{Signal, signal_bits, slot_of, slots_of}
-use Rattle.shared_terms.specs.declared.role.Role.{Role}
-use Rattle.lapm_frames.specs.declared.frame.Frame.{Frame}
 use Rattle.frame_check.specs.Division.{with_check}
-use Rattle.lapm_frames.specs.Frame.{spelled}
-use Rattle.lapm_frames.specs.Checked.{check_for, checked, SpellsFrame}
 use Rattle.lapm_frames.proofs.Checking.{spells}
-use Rattle.lapm_frames.specs.declared.sent.Sent.{Sent}
 use Rattle.lapm_frames.specs.declared.sent.Sent.TheVariants as sent
-use Rattle.noise_script.specs.Script.{ScriptValue}
 use Rattle.lapm_frames.specs.declared.heard.Heard.{Heard}
 use Rattle.lapm_frames.specs.declared.heard.Heard.TheVariants.{Chance}
 use Rattle.sample_line.specs.Outcomes.{IsPattern, IsOutcome}
-use Rattle.sample_line.specs.Recorded.{Records}
-use Rattle.sample_line.specs.Mode.{mode_of}
 use Rattle.sample_line.specs.Received.{PassTheCheck, FoundBetween, Gives, Receives}
-use Rattle.sample_line.specs.Signals.{signal_of}
-use Rattle.lapm_frames.specs.Sendable.{IsSendable}
-use Rattle.sample_line.specs.Line.{bits_behind, Kept, Passes, PassesSlot, sender_of, size_of}
 use Rattle.sample_line.proofs.Finding.{wholes-append}
 use Rattle.sample_line.proofs.Passing.{slot-added}
 use Rattle.sample_line.proofs.Once.{given-stays, outcome-once, received-once, recordings-grow}
-use Rattle.line_run.specs.Fitting.{AreFit}
-use Rattle.line_run.specs.Unhindered.{ChecksAgree, octets_in, patterns_in, unhindered}
 use Rattle.line_run.proofs.Patterns.{AreSeen}
 use Rattle.line_run.proofs.Fits.{fit-front, length-fit}
 use Rattle.line_run.proofs.Recordings.{tap-some}

@@ -7,31 +7,19 @@ use Rattle.std.proofs.lemmas.List.Elements.{All-nil, All-cons, All-head, All-tai
 use Rattle.frame_check.specs.Bits.{low_bits, number}
 use Rattle.trellis_tables.specs.Differential.Turned.{turned}
 use Rattle.trellis_tables.proofs.Turning.Places.{turned-snoc}
-use Rattle.scramblers.specs.Mode.{tap_of}
+use Rattle.line_run.proofs.Cited.{Answerer, AreFit, LosesAt, LosesWithin, LostIs, Originator, Records, Role, Sample, ScriptValue, Signal}
+use Rattle.line_run.proofs.Cited.{displaced_from, line_depth, line_trellis, lost-stays, mode_of, point_of, signal_bits, tap_of}
 use Rattle.scramblers.specs.Scrambles.{Scrambles}
 use Rattle.scramblers.specs.Stream.{earlier}
 use Rattle.frame_check.specs.Xor.{xor}
 use Rattle.scramblers.proofs.Streams.{Scrambles-more}
-use Rattle.symbol_map.specs.declared.sample.Sample.{Sample}
-use Rattle.symbol_map.specs.Points.{point_of}
 use Rattle.symbol_map.specs.Labels.{y_of}
 use Rattle.trellis_tables.specs.Quads.{turn_of}
 use Rattle.trellis_tables.specs.Encoder.{Encodes}
 use Rattle.trellis_tables.specs.Table.{next_by_y}
 use Rattle.trellis_tables.proofs.Tables.{next_by_y-lt}
 use Rattle.trellis_tables.proofs.Codings.{Encodes-more}
-use Rattle.exact_decoder.specs.Surviving.Survivors.{LostIs}
-use Rattle.exact_decoder.proofs.Surviving.Fronts.{lost-stays}
-use Rattle.exact_decoder.specs.Surviving.V32.{line_depth, line_trellis}
-use Rattle.shared_terms.specs.declared.role.Role.{Role}
-use Rattle.shared_terms.specs.declared.role.Role.TheVariants.{Originator, Answerer}
-use Rattle.noise_script.specs.Script.{ScriptValue}
-use Rattle.sample_line.specs.Recorded.{displaced_from, Records}
-use Rattle.sample_line.specs.Mode.{mode_of}
-use Rattle.sample_line.specs.Path.{LosesAt, LosesWithin}
 use Rattle.sample_line.proofs.Once.{recordings-grow}
-use Rattle.detection.specs.Slots.{Signal, signal_bits}
-use Rattle.line_run.specs.Fitting.{AreFit}
 use Rattle.line_run.proofs.Patterns.{ArePlain}
 use Rattle.line_run.proofs.Fits.{length-fit}
 

@@ -1,21 +1,15 @@
 -- A script and two users have one result at most.
-use Rattle.std.proofs.Common.{◌≡◌, ◌≢◌, ◌⊎◌, inl, inr, ℕ, zero, suc, ◌<◌, List, [], ◌∷◌, ◌++◌, length, arith, refl, sym, ◌∙◌, ap}
-use Rattle.std.proofs.Common.{subst}
-use Rattle.shared_terms.specs.declared.role.Role.{Role}
-use Rattle.shared_terms.specs.declared.role.Role.TheVariants.{Originator, Answerer}
-use Rattle.shared_terms.specs.Role.{other}
-use Rattle.shared_terms.specs.Both.{of}
+use Rattle.std.proofs.Common.{◌≡◌, ◌≢◌, ◌⊎◌, inl, inr, ℕ, zero, suc, ◌<◌, List, [], ◌∷◌, ◌++◌, length, arith, refl, sym, ◌∙◌, ap, subst}
+use Rattle.line_run.proofs.Cited.{Accounts, Answerer, ChanceMatch, EndsBy, EndsInTurn, EndsLine, EndsOrGoesOn, GoingTurn, HeardIn}
+use Rattle.line_run.proofs.Cited.{HeardOnce, Hears, IsDone, IsHeardOf, IsHeardOver, Leaves, Left, LineEnd, LineLost, LineRun, Link}
+use Rattle.line_run.proofs.Cited.{LinkLost, OneLineEnd, OneLineRun, OneOutcome, OneResult, Originator, Role, RunEnd, RunOf, RunsTo, Turn}
+use Rattle.line_run.proofs.Cited.{Wire, heard_in, of, other}
 use Rattle.shared_terms.specs.declared.fault.LinkFault.{LinkFault}
 use Rattle.shared_terms.specs.declared.fault.LinkFault.TheVariants.{NotDetected, Spent}
-use Rattle.link_run.specs.Run.{Link, Accounts, Turn, Hears, GoingTurn, RunOf}
 use Rattle.link_run.specs.Outcomes.{Outcome, Going, Done, Broken, TurnIs}
 use Rattle.line_texts.specs.LineText.{chance_line}
 use Rattle.link_run.specs.Trace.{trace_text}
-use Rattle.link_run.specs.Laws.{heard_in, OneOutcome}
-use Rattle.line_run.specs.Sampled.{Wire, IsHeardOf, HeardIn, IsHeardOver, LineRun, LineEnd, EndsLine}
 use Rattle.line_run.specs.Sampled as lines
-use Rattle.line_run.specs.LineLaws.{HeardOnce, OneLineRun, OneLineEnd, EndsOrGoesOn}
-use Rattle.line_run.specs.Ends.{RunEnd, IsDone, LinkLost, LineLost, ChanceMatch, Left, Leaves, EndsInTurn, EndsBy, RunsTo, OneResult}
 use Rattle.line_run.specs.Ends as ends
 use Rattle.line_run.proofs.Sampling.{same-checks}
 use Rattle.line_run.proofs.Leaving.{hearing-in}

@@ -3,31 +3,19 @@ use Rattle.std.proofs.Common.{◌≡◌, ◌≢◌, ℕ, ◌-◌, Bool, true, fa
 use Rattle.std.proofs.Common.{Option, Some, None}
 use Rattle.std.specs.Prelude.{is_some, unwrap_or}
 use Rattle.std.proofs.lemmas.Bool.{false≢true}
-use Rattle.frame_check.specs.declared.check.Check.{Check}
-use Rattle.exact_decoder.specs.Surviving.Survivors.{LostIs}
+use Rattle.line_run.proofs.Cited.{Accounts, Answerer, ArrivesAs, Check, Crosses, EndsOrGoesOn, EndsOrIsHeard, HeardIn, HeardOnce, Hears}
+use Rattle.line_run.proofs.Cited.{IsHeardOf, IsHeardOver, IsHeardWell, Link, LosesLine, LostIs, OneIsCarried, OneLineEnd, OneLineEndBy}
+use Rattle.line_run.proofs.Cited.{OneLineRun, OneRun, Originator, Role, RunOf, SamplesAreCarried, Seen, Sent, Spoken, Turn, Wire}
+use Rattle.line_run.proofs.Cited.{bits_before, bits_of, delay_of, has_message, heard_in, line_depth, line_trellis, of, other, sent_ago}
 use Rattle.exact_decoder.specs.Surviving.Laws.{LostOnce}
-use Rattle.exact_decoder.specs.Surviving.V32.{line_depth, line_trellis}
-use Rattle.shared_terms.specs.declared.role.Role.{Role}
-use Rattle.shared_terms.specs.declared.role.Role.TheVariants.{Originator, Answerer}
-use Rattle.shared_terms.specs.Role.{other}
-use Rattle.shared_terms.specs.Both.{of}
-use Rattle.lapm_frames.specs.declared.seen.Seen.{Seen}
-use Rattle.lapm_frames.specs.declared.sent.Sent.{Sent}
 use Rattle.lapm_frames.specs.declared.sent.Sent.TheVariants as sent
 use Rattle.lapm_frames.specs.declared.heard.Heard.{Heard}
 use Rattle.lapm_frames.specs.declared.heard.Heard.TheVariants.{Nothing, Passed, Lost, Chance}
-use Rattle.noise_script.specs.Script.{delay_of}
 use Rattle.sample_line.specs.Outcomes.{is_message, IsWhatWasSent, IsOutcome}
 use Rattle.sample_line.specs.Received.{Receives}
 use Rattle.sample_line.specs.Laws.{RecordedOnce, ReceivedOnce, OneOutcome}
 use Rattle.link_account.specs.Account.{check_of}
-use Rattle.link_run.specs.Run.{Link, Accounts, Spoken, Turn, Hears, RunOf}
-use Rattle.link_run.specs.Carried.{sent_ago, has_message, Crosses}
-use Rattle.link_run.specs.Laws.{heard_in, OneRun}
-use Rattle.line_run.specs.Sampled.{Wire, bits_of, bits_before, ArrivesAs, IsHeardOf, HeardIn, IsHeardOver, LineLost, ChanceMatch, LosesLine}
-use Rattle.line_run.specs.Sampled.{IsHeardWell}
-use Rattle.line_run.specs.LineLaws.{SamplesAreCarried, OneIsCarried, HeardOnce, OneLineRun, OneLineEnd, OneLineEndBy, EndsOrIsHeard}
-use Rattle.line_run.specs.LineLaws.{EndsOrGoesOn}
+use Rattle.line_run.specs.Sampled.{LineLost, ChanceMatch}
 
 -- a message is what arrives as something
 same-message : (s : Sent) → has_message s ≡ is_message s

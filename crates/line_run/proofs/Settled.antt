@@ -8,17 +8,13 @@ use Rattle.bit_stuffing.specs.declared.piece.Piece.{Piece}
 use Rattle.bit_stuffing.specs.declared.piece.Piece.TheVariants.{Whole, Ragged, Aborted, TooLong, TooShort}
 use Rattle.bit_stuffing.specs.Found.{Found, pieces_of}
 use Rattle.bit_stuffing.specs.Sent.{FoundIn, aborted_at, octets_if_whole, whole_at, wholes}
-use Rattle.bit_stuffing.specs.Slots.{Slot, AreSlots, phase_after, slot_bits, opening, sent_bits, flags_behind}
+use Rattle.line_run.proofs.Cited.{AreFit, AreSlots, Fits, FlagSlot, MarkSlot, PatternSlot, Seen, Sight, Signal, Slot, flags_behind, opening}
+use Rattle.line_run.proofs.Cited.{phase_after, seen_in, sent_bits, sights_from, sights_of, signal_bits, slot_bits, slot_of, slots_of}
 use Rattle.bit_stuffing.proofs.Found.{pieces-none}
 use Rattle.bit_stuffing.proofs.Sent.{found-is-sent, pieces-stay}
 use Rattle.bit_stuffing.proofs.Sizes.{length-slot_bits}
 use Rattle.bit_stuffing.proofs.Fill.{bits-append, phase-low}
-use Rattle.lapm_frames.specs.declared.seen.Seen.{Seen}
-use Rattle.detection.specs.Sights.{Sight, seen_in, sights_of, sights_from}
-use Rattle.detection.specs.Slots.{Signal, signal_bits, slot_of, slots_of}
-use Rattle.detection.specs.Slots.Signal.{PatternSlot, MarkSlot, FlagSlot}
 use Rattle.std.proofs.lemmas.List.{map-append}
-use Rattle.line_run.specs.Fitting.{Fits, AreFit}
 use Rattle.line_run.proofs.Patterns.{AreSeen, none-seen}
 use Rattle.line_run.proofs.Fits.{fit-slot, fit-slots, fit-front, fit-last}
 

@@ -1,19 +1,13 @@
 -- The slots of a direction in order, and which one is due.
-use Rattle.std.proofs.Common.{◌≡◌, ℕ, zero, suc, ◌-◌, ◌<◌, ◌≤◌, true, List, [], ◌∷◌, ◌++◌}
-use Rattle.std.proofs.Common.{length, map, take, drop, arith, length-append, refl, sym, ◌∙◌, ap, Option, Some, None, append-nil}
-use Rattle.std.proofs.Common.{append_assoc}
+use Rattle.std.proofs.Common.{◌≡◌, ℕ, zero, suc, ◌-◌, ◌<◌, ◌≤◌, true, List, [], ◌∷◌, ◌++◌, length, map, take, drop, arith, length-append}
+use Rattle.std.proofs.Common.{refl, sym, ◌∙◌, ap, Option, Some, None, append-nil, append_assoc}
 use Rattle.std.specs.Prelude.{slice_get, is_some}
 use Rattle.std.proofs.lemmas.Bool.{false≢true}
 use Rattle.std.proofs.lemmas.List.{map-append, length-drop}
 use Rattle.std.proofs.Math.Seq.{take-append_seam, drop-append_seam}
-use Rattle.shared_terms.specs.declared.role.Role.{Role}
-use Rattle.shared_terms.specs.Both.{of}
-use Rattle.noise_script.specs.Script.{delay_of}
-use Rattle.link_run.specs.Run.{Link, Accounts, Spoken, Turn, RunOf}
-use Rattle.link_run.specs.Carried.{sent_in, sent_ago}
-use Rattle.line_run.specs.Sampled.{Wire, IsAlone, and_then, signal_in, signals, signals_before}
+use Rattle.line_run.proofs.Cited.{Accounts, IsAlone, Link, LoneSlotsAreCounted, LoneSlotsAreDue, Role, RunOf, Spoken, Turn, Wire, and_then}
+use Rattle.line_run.proofs.Cited.{delay_of, of, sent_ago, sent_in, signal_in, signals, signals_before}
 use Rattle.line_run.specs.Stream.{Carried, carried_signal, carry, sent_by, AreSent}
-use Rattle.line_run.specs.LineLaws.{LoneSlotsAreDue, LoneSlotsAreCounted}
 
 -- one slot is carried
 pub one-carried : (dlci : ℕ) (o : Option Spoken) → is_some o ≡ true → length (carry dlci o) ≡ 1

@@ -1,17 +1,9 @@
 -- What the laws of all runs say of a script's.
 use Rattle.std.proofs.Common.{◌≡◌, ℕ, ◌≤◌, List, [], ◌++◌, map, filter, length, arith, refl, ap}
 use Rattle.std.specs.List.{AllByRecursion}
-use Rattle.shared_terms.specs.declared.role.Role.{Role}
-use Rattle.shared_terms.specs.declared.role.Role.TheVariants.{Originator, Answerer}
-use Rattle.shared_terms.specs.Role.{same_role}
-use Rattle.shared_terms.specs.Both.{Both, of}
+use Rattle.line_run.proofs.Cited.{Accounts, Answerer, Both, IsCarried, IsInLimits, Originator, Pause, Role, SamplesAreCarried, ScriptValue}
+use Rattle.line_run.proofs.Cited.{break_line, busy_line, delay_of, link_of, of, period_of, same_role}
 use Rattle.noise_script.specs.declared.entry.Break.{Break}
-use Rattle.noise_script.specs.declared.entry.Pause.{Pause}
-use Rattle.noise_script.specs.Script.{ScriptValue, IsInLimits, delay_of}
-use Rattle.link_run.specs.Run.{Accounts}
-use Rattle.link_run.specs.Carried.{IsCarried}
-use Rattle.line_run.specs.LineLaws.{SamplesAreCarried}
-use Rattle.line_run.specs.Scripted.{period_of, link_of, break_line, busy_line}
 use Rattle.turn_bound.specs.Time.{IsTimed}
 use Rattle.turn_bound.specs.Bound.{EndsSoon, EndsSoonByFiles, EndsSoonByOctets}
 use Rattle.turn_bound.specs.Offered.{HoldsFile}

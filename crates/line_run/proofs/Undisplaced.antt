@@ -3,29 +3,17 @@ use Rattle.std.proofs.Common.{◌≡◌, ◌∙◌, ℕ, zero, suc, ◌+◌, ◌
 use Rattle.std.proofs.Common.{length, map, refl, ap, arith, Some, None}
 use Rattle.std.proofs.lemmas.Bool.Decides.{nat_tests}
 use Rattle.std.proofs.lemmas.List.Elements.{All-head, All-nil, All-same, All-tail}
-use Rattle.std.specs.Prelude.{ℤ, pos, ◌*ℤ◌}
-use Rattle.symbol_map.specs.declared.sample.Sample.{Sample}
-use Rattle.symbol_map.specs.Points.{map_points, point_of, plus}
-use Rattle.std.specs.Prelude.{slice_index_or}
-use Rattle.scramblers.specs.Mode.{tap_of}
-use Rattle.exact_decoder.proofs.Surviving.Fronts.{lost-once}
-use Rattle.exact_decoder.specs.Surviving.V32.{line_depth, line_trellis}
+use Rattle.std.specs.Prelude.{ℤ, pos, ◌*ℤ◌, slice_index_or}
+use Rattle.line_run.proofs.Cited.{DisplacesNoneBefore, LosesAt, Records, Role, Sample, ScriptValue, comes-back, displaced, displaced_from}
+use Rattle.line_run.proofs.Cited.{four-each, line_depth, line_trellis, lost-once, map_points, mode_of, plus, point_of, same_role, tap_of}
 use Rattle.noise_bound.specs.Noiseless.{IsNoiseless}
 use Rattle.noise_bound.proofs.NoiselessCosts.{length-points}
 use Rattle.noise_bound.proofs.Followed.{few-unreleased_at, never-lost, released-sent_at}
 use Rattle.line_coding.specs.Demodulates.{Demodulates}
-use Rattle.line_coding.proofs.Readings.{comes-back, four-each}
-use Rattle.shared_terms.specs.declared.role.Role.{Role}
 use Rattle.noise_script.specs.declared.entry.Hit.{Hit}
 use Rattle.noise_script.specs.declared.entry.Noise.{Noise}
 use Rattle.noise_script.specs.Offsets.{covers, drawn_offset, nothing, hit_offset, noise_offset, stream_of, sum_of, word_at}
-use Rattle.shared_terms.specs.Role.{same_role}
 use Rattle.noise_script.specs.Offsets as offsets
-use Rattle.noise_script.specs.Script.{ScriptValue}
-use Rattle.sample_line.specs.Recorded.{displaced, displaced_from, Records}
-use Rattle.sample_line.specs.Mode.{mode_of}
-use Rattle.sample_line.specs.Path.{LosesAt}
-use Rattle.line_run.specs.Unhindered.{DisplacesNoneBefore}
 use Rattle.line_run.proofs.Following.{Follows, all-of}
 
 -- lines of a script that are for the other role, or for later symbols

@@ -1,14 +1,13 @@
 -- What an end sends at the answer to its poll is acknowledged, where no line is lost.
-use Rattle.std.proofs.Common.{◌⊎◌, inl, inr, ◌≡◌, ℕ, ◌+◌, ◌-◌, ◌%◌, ◌<◌, ◌≤◌, ◌&&◌, Bool, true, false, cond, nat_lt, nat_le, length, arith}
-use Rattle.std.proofs.Common.{refl, sym, ◌∙◌, ap, Option, Some, None}
-use Rattle.link_account.proofs.Names.{is_some, cases_lt, nat_tests, Frame, meant, Sent, Arrived, is_connected, arrives}
+use Rattle.std.proofs.Common.{◌⊎◌, inl, inr, ◌≡◌, ℕ, ◌+◌, ◌-◌, ◌%◌, ◌<◌, ◌≤◌, Bool, true, false, length, arith, refl, sym, ◌∙◌, ap, Option}
+use Rattle.std.proofs.Common.{Some, None}
+use Rattle.link_account.proofs.Names.{is_some, Frame, meant, Sent, Arrived, is_connected, arrives}
 use Rattle.turn_losses.proofs.PeriodLaws.{Answers, reply-matches, awaits-on, NoneLost, StayConnected, connected-since}
 use Rattle.turn_losses.proofs.NumberHear.{frame_nr, nr_heard, ns_heard, nr_sent, ns_sent, NumbersHeard, Room}
 use Rattle.turn_losses.proofs.NumberTurn.{NumberTurn}
 use Rattle.turn_losses.proofs.Names.{of_arrived, is_final, is_linked, EndRun, ArrivesLate, TwoEnds, hears_final}
 use Rattle.turn_bound.proofs.Truths.{clash}
 use Rattle.turn_losses.proofs.Kept.{kept-in}
-use Rattle.lapm_frames.specs.declared.sent.Sent.TheVariants as slots
 use Rattle.lapm_frames.specs.declared.arrived.Arrived.TheVariants as arrivals
 
 -- What is known of the numbers of two ends: of e's segments, which o takes.

@@ -1,24 +1,22 @@
 use Rattle.std.proofs.Common.{◌≡◌, ℕ, ◌%◌, ◌<◌, ◌&&◌, ◌||◌, not, Bool, true, false, cond, [], arith, refl, sym, ◌∙◌, ap, subst, Option}
-use Rattle.std.proofs.Common.{Some, None, Ok, slice_index_or, ◌⊎◌, inl, inr, ◌+◌, nat_eq, length}
-use Rattle.link_account.proofs.Names.{nat_tests, Frame, I, Rnr, Outgoing, is_outstanding, advanced, resumed, next_number, OwnBreaks, ticked}
-use Rattle.link_account.proofs.Names.{Account, is_originator, hear, Arrived, Said, nr_of, may_send, steps, speak_linked, Role, is_connected}
-use Rattle.link_account.proofs.Names.{speak, of}
+use Rattle.std.proofs.Common.{Some, None, Ok, slice_index_or, ◌⊎◌, inl, inr, ◌+◌, length}
+use Rattle.link_account.proofs.Names.{Frame, I, Rnr, Outgoing, is_outstanding, advanced, resumed, OwnBreaks, ticked, Account, hear, Arrived}
+use Rattle.link_account.proofs.Names.{Said, nr_of, may_send, steps, speak_linked, Role, is_connected, speak, of}
 use Rattle.link_run.proofs.Names.{Connected, Answer, is_busy, is_released, Link}
 use Rattle.lapm_sender.specs.Outgoing.{wait_ended, paused_at, after_next, expired}
 use Rattle.link_account.specs.Hear.{ends_wait}
-use Rattle.link_account.proofs.HearWays.{Plain, IsUa, IsXid, IsTest, IsNoWord, ConnectedWays, numbered_with, acked, acked_back, by-linked}
+use Rattle.link_account.proofs.HearWays.{Plain, ConnectedWays, numbered_with, acked, by-linked}
 use Rattle.link_account.specs.Speak.{else_says, where_says, answering, polling, timer_expires, breaking, says_segment, after_timers}
 use Rattle.link_account.specs.Speak.{then_tries}
 use Rattle.turn_bound.proofs.StillTurn.{front-next}
-use Rattle.turn_bound.proofs.Truths.{or-true, or-false}
-use Rattle.turn_losses.proofs.Names.{of_arrived, Rates, Sends, is_final, Served, is_poll, rates}
+use Rattle.turn_bound.proofs.Truths.{or-true}
+use Rattle.turn_losses.proofs.Names.{of_arrived, Rates, Sends, is_final, Served, rates}
 use Rattle.lapm_frames.specs.declared.arrived.Arrived.TheVariants as arrivals
 use Rattle.lapm_frames.specs.declared.sent.Sent.TheVariants as slots
 use Rattle.turn_bound.proofs.Value.{connected-is, linked-of}
 use Rattle.turn_bound.proofs.Speaking.{linked-says}
 use Rattle.turn_losses.proofs.Trace.{SendsSegment, AnswerTurn}
 use Rattle.turn_losses.proofs.InTurn.{InTurn}
-use Rattle.turn_losses.proofs.PollHear.{PollHeard, poll-hears}
 
 -- RNR
 abbrev pub frame_rnr : Frame → Bool
@@ -67,7 +65,7 @@ module _ (turn : ℕ) (a : Account) (w : a.outgoing.awaited ≡ true) where
   pauses n command pf final g f = grind (arith)
 
   plain : (frame : Frame) → Plain frame → P (arrivals.Frame frame) a
-  plain frame q1 f = grind (arith)
+  plain frame y f = grind (arith)
 
   answer-ways : ConnectedWays P turn a
   answer-ways = grind (arith)
@@ -131,9 +129,6 @@ module _ {tries period : ℕ} {link : Link} {role : Role} {turn : ℕ} {a : Acco
 
           s : Served turn (length (of role link).user.breaks) (is_busy turn (of role link).user.busy) mid b
           s = i.served
-
-          polls : PollHeard role turn (is_poll frame) a mid
-          polls = poll-hears role (arrivals.Frame frame) turn a i.role_is i.none_due.answer mid q
 
           front : b.outgoing.front ≡ mid.outgoing.front
           front = ap (λ o. o.front) s.longer.outgoing

@@ -1,17 +1,13 @@
 -- What hearing makes of an end's breaks, of what it owes for the other end's, and of its urgent segment.
 use Rattle.std.proofs.Common.{arith, ◌⊎◌, inl, ◌≡◌, ℕ, ◌+◌, ◌%◌, ◌&&◌, List, Bool, true, false, cond, nat_eq, refl, sym, ◌∙◌, ap, Ok}
-use Rattle.link_account.proofs.Names.{Ui, Arrived, BreakWord, Ack, word_in, OwnBreaks, waits, Account, is_connected, hear, Role, on_nothing}
-use Rattle.link_account.proofs.Names.{owing}
+use Rattle.link_account.proofs.Names.{Ui, Arrived, BreakWord, Ack, word_in, OwnBreaks, waits, Account, is_connected, hear}
 use Rattle.link_run.proofs.Names.{Connected}
 use Rattle.link_account.proofs.HearWays.{by-linked}
 use Rattle.turn_losses.proofs.HeardNumber.{number-rows, plain-frame}
 use Rattle.turn_losses.proofs.Names.{of_arrived, is_final, is_linked}
 use Rattle.turn_losses.proofs.Words.{is_word, of_word, brk_of, ack_of, any_brk, pends_of}
 use Rattle.lapm_frames.specs.declared.arrived.Arrived.TheVariants as arrivals
-use Rattle.link_account.specs.Hear.{first_wait}
 use Rattle.turn_bound.proofs.Truths.{unlinked-connected}
-use Rattle.link_account.specs.declared.answer.Answer.TheVariants as answers
-use Rattle.link_account.proofs.HearWays as HearWays
 
 -- the break that waits is answered
 abbrev pub answered_own : ℕ → OwnBreaks → OwnBreaks
@@ -83,9 +79,6 @@ pub record SameOld (arrived : Arrived) (a b : Account) : Type 0 where
 unlinked-old : (arrived : Arrived) (a b : Account) → b.own_breaks ≡ a.own_breaks → b.their_breaks ≡ a.their_breaks → b.special ≡ a.special
     → b.wait.urgent ≡ a.wait.urgent → is_connected b.phase ≡ false → SameOld arrived a b
 unlinked-old arrived a b o t s u n = grind (arith)
-
-first-urgent : (r : Role) (turn : ℕ) (a : Account) → (first_wait r turn a.wait).urgent ≡ a.wait.urgent
-first-urgent b turn a = grind (arith)
 
 pub old-heard : (arrived : Arrived) (turn : ℕ) (a mid : Account) → is_linked a.phase ≡ false → hear turn arrived a ≡ Ok mid
     → SameOld arrived a mid

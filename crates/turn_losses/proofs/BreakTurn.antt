@@ -1,22 +1,18 @@
 -- What speaking makes of an end's breaks, of what it owes for the other end's, and of its urgent segment.
 use Rattle.std.proofs.Common.{◌⊎◌, inl, inr, ◌≡◌, ℕ, ◌+◌, ◌-◌, ◌%◌, ◌<◌, ◌&&◌, ◌||◌, not, Bool, true, false, cond, nat_eq, nat_lt, length}
-use Rattle.std.proofs.Common.{arith, refl, sym, ◌∙◌, ap, subst, Option, Some, None, Ok, Err, ◌≤◌, nat_le, ◌∷◌, ◌++◌, [], length-append}
-use Rattle.link_account.proofs.Names.{is_some, nat_tests, Srej, BreakWord, Brk, Ack, word_in, OwnBreaks, waits, ticked, Account, Said}
-use Rattle.link_account.proofs.Names.{frame_for, ready_frame, speak_linked, nr_of, Role, after_ask, Sent, Arrived, is_connected}
-use Rattle.link_run.proofs.Names.{Answer, Link}
-use Rattle.std.specs.Prelude.{slice_index_or}
+use Rattle.std.proofs.Common.{arith, refl, sym, ◌∙◌, ap, subst, Option, Some, None, Ok, ◌≤◌, nat_le, ◌∷◌, ◌++◌, [], length-append}
+use Rattle.link_account.proofs.Names.{is_some, nat_tests, Srej, BreakWord, OwnBreaks, waits, ticked, Account, Said, ready_frame}
+use Rattle.link_account.proofs.Names.{speak_linked, Role, after_ask, Sent, Arrived, is_connected}
+use Rattle.link_run.proofs.Names.{Link}
 use Rattle.lapm_receiver.specs.Incoming.{after_asked}
-use Rattle.break_signals.specs.Words.{spelled}
 use Rattle.break_signals.specs.Breaks.{own_due, after_brk, after_ack}
-use Rattle.break_signals.specs.declared.fault.BreakFault.TheVariants.{Number}
 use Rattle.link_account.specs.Speak.{says_word}
 use Rattle.turn_bound.proofs.Value.{IsAck}
 use Rattle.link_account.proofs.SpeakWays.{NoWord, Steps, steps-so, polling_at, by-linked}
 use Rattle.turn_bound.proofs.Truths.{or-late, or-first, clash, and-true, and-second, and-drop}
 use Rattle.turn_losses.proofs.Names.{of_frame, is_poll, is_final, of_arrived, Served}
-use Rattle.turn_losses.proofs.Words.{ack_of, any_brk, brk_of, is_word, of_word, pends_of, pends}
+use Rattle.turn_losses.proofs.Words.{ack_of, any_brk, brk_of, of_word, pends_of, pends}
 use Rattle.lapm_frames.specs.declared.sent.Sent.TheVariants as slots
-use Rattle.link_account.specs.declared.answer.Answer.TheVariants as answers
 use Rattle.turn_losses.proofs.InTurn.{InTurn}
 use Rattle.turn_losses.proofs.BreakHear.{BreakHeard, Unanswered, answered_own}
 
@@ -48,20 +44,8 @@ ready-kinds b command pf nr = grind (arith)
 small : (n : ℕ) → nat_lt (n % 2) 2 ≡ true
 small n = grind (arith, nat_tests)
 
-is-small : (n : ℕ) → n < 2 → nat_lt n 2 ≡ true
-is-small n l = grind (arith, nat_tests, l)
-
 same-number : (n : ℕ) → nat_eq n n ≡ true
 same-number n = grind (arith, nat_tests)
-
-brk-spelled : (n l : ℕ) → nat_lt n 2 ≡ true → is_word (brk_of n) (word_in (spelled (Brk n l))) ≡ true
-brk-spelled n l e = ap (λ b. is_word (brk_of n) (cond b (Ok (Brk n l)) (Err (Number n)))) e ∙ same-number n
-
-ack-spelled : (n m l : ℕ) → n < 2 → nat_eq m n ≡ true → is_word (ack_of n) (word_in (spelled (Ack m l))) ≡ true
-ack-spelled n m l s e = grind (arith, is-small)
-
-ack-no-brk : (m l : ℕ) → is_word any_brk (word_in (spelled (Ack m l))) ≡ false
-ack-no-brk m l = grind (arith)
 
 undue : (o : OwnBreaks) → own_due o ≡ None → o.brk ≡ false
 undue o n = grind (arith)
@@ -92,25 +76,13 @@ module _ (special : Bool) (a : Account) where
   }
 
   none-due : {A : Type 0} → (own_due a.own_breaks ≡ None) × (a.their_breaks.ack ≡ None) → Due → A
-  none-due x q1 = grind (arith, clash, undue)
+  none-due x y = grind (arith, clash, undue)
 
   -- one that goes only where none is due, or in the turn after a word
   idle : (said : Said) → said.account.own_breaks ≡ a.own_breaks → said.account.their_breaks ≡ a.their_breaks
       → said.account.special ≡ false → (said.account.wait.urgent ≡ true → a.wait.urgent ≡ true)
       → of_frame (of_word any_brk) said.sent ≡ false → NoWord special a → P said
   idle said o t s u b w = grind (arith, or-late, or-first, none-due)
-
-  answer-plain : (d : Answer) → of_frame (of_word any_brk) (frame_for d a) ≡ false
-  answer-plain d = grind (arith)
-
-  own-said : a.their_breaks.ack ≡ None → (word : BreakWord) → own_due a.own_breaks ≡ Some word
-      → P (says_word a.own_breaks.answered word (record a { own_breaks = after_brk a.own_breaks }))
-  own-said p word e = by a.own_breaks.brk refl e
-    where
-      by : (b : Bool) → a.own_breaks.brk ≡ b
-          → cond b (Some (Brk (a.own_breaks.answered % 2) (slice_index_or a.own_breaks.lengths a.own_breaks.answered 0))) None ≡ Some word
-          → P (says_word a.own_breaks.answered word (record a { own_breaks = after_brk a.own_breaks }))
-      by b f g = grind (arith)
 
   acked : (w : BreakWord) → a.their_breaks.ack ≡ Some w → IsAck (Some w)
       → P (says_word (length a.their_breaks.lengths - 1) w (record a { their_breaks = after_ack a.their_breaks }))
@@ -123,7 +95,7 @@ module _ (special : Bool) (a : Account) where
         account = record a
             { incoming = after_asked n a.incoming; special = true };
       })
-  asked q0 s n = grind (arith)
+  asked v s n = grind (arith)
 
   steps-breaks : (turn : ℕ) → a.special ≡ false → IsAck a.their_breaks.ack → Steps P turn special a
   steps-breaks turn none is_ack = grind (arith)

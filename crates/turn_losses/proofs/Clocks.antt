@@ -2,7 +2,6 @@
 -- is asked, and expires a period later, which asks again, unless it stopped or began anew.
 use Rattle.std.proofs.Common.{inl, inr, ◌≡◌, ℕ, zero, suc, ◌+◌, ◌*◌, ◌<◌, ◌≤◌, arith, sym, subst}
 use Rattle.std.proofs.lemmas.Bool.{cases_lt}
-use Rattle.turn_losses.proofs.Moving.{asks}
 
 -- A clock: before which turns it runs, and in which turn it was set then; in which turns it stays, and in which something is asked.
 -- A turn after which it runs: it begins in it, it expires in it, or it stays.

@@ -1,11 +1,10 @@
 -- Where the originator sees no pattern, something was lost in each period.
-use Rattle.std.proofs.Common.{◌⊎◌, inl, inr, ◌≡◌, ℕ, zero, suc, ◌+◌, ◌-◌, ◌*◌, ◌<◌, ◌≤◌, Bool, true, false, cond, nat_le, length, arith}
-use Rattle.std.proofs.Common.{refl, sym, ◌∙◌, ap, Option, Some, Result, Ok, Err, List, [], ◌∷◌}
-use Rattle.link_account.proofs.Names.{cases_lt, Originator, Answerer, Arrived, LinkFault, NotDetected, Account, hear, trying, arrives, Said}
-use Rattle.link_account.proofs.Names.{says, speak, speak_in, Role, Heard, Passed}
-use Rattle.link_run.proofs.Names.{Phase, Detecting, Negotiating, Connected, Releasing, Answer, User, is_busy, is_released, Accounts}
-use Rattle.link_run.proofs.Names.{arrival, served_at, releases, Link, Turn, RunOf, IsCarried}
-use Rattle.link_account.specs.Hear.{on_seen, on_pattern}
+use Rattle.std.proofs.Common.{◌⊎◌, inl, inr, ◌≡◌, ℕ, zero, suc, ◌+◌, ◌-◌, ◌*◌, ◌<◌, ◌≤◌, Bool, true, false, cond, length, arith, refl, sym}
+use Rattle.std.proofs.Common.{◌∙◌, ap, Option, Some, Result, Ok, Err, List, [], ◌∷◌}
+use Rattle.link_account.proofs.Names.{cases_lt, Originator, Answerer, Arrived, LinkFault, NotDetected, Account, hear, arrives, Said, says}
+use Rattle.link_account.proofs.Names.{speak, speak_in, Role, Heard, Passed}
+use Rattle.link_run.proofs.Names.{Phase, Detecting, Connected, Releasing, Answer, User, is_busy, is_released, Accounts, arrival, served_at}
+use Rattle.link_run.proofs.Names.{releases, Link, Turn, RunOf, IsCarried}
 use Rattle.link_account.specs.Speak.{else_says, answering, speak_detecting}
 use Rattle.turn_bound.specs.Spent.{SpendsOnTime}
 use Rattle.link_run.proofs.Speaking.{speaks-phase}
@@ -23,7 +22,6 @@ use Rattle.lapm_frames.specs.declared.sent.Sent.TheVariants as slots
 use Rattle.lapm_frames.specs.declared.arrived.Arrived.TheVariants as arrivals
 use Rattle.link_account.specs.declared.answer.Answer.TheVariants as answers
 use Rattle.link_account.proofs.HearWays as HearWays
-use Rattle.link_account.proofs.SpeakWays as SpeakWays
 use Rattle.turn_losses.proofs.InTurn.{in-turn}
 
 -- an end that is Detecting after it spoke was so before
@@ -188,9 +186,6 @@ wants-pattern spends tries period delay link ts before t mid kt run c broken num
       | inr g ↦ late g (o.loses u) ((k.is_heard u l).late g)
     ]
       where
-        d : 1 ≤ e.delay
-        d = k.own_delay
-
         late : e.delay ≤ u → (b : Bool) → o.heard u ≡ cond b arrivals.Nothing (arrives (e.slot (u - e.delay)))
             → (o.heard u ≡ arrivals.Nothing) ⊎ (o.heard u ≡ arrivals.Pattern seens.Odp)
         late g true q = inl q

@@ -6,7 +6,6 @@ use Rattle.link_run.proofs.Names.{Phase, Establishing, Connected, Releasing, Ans
 use Rattle.link_account.proofs.SpeakWays.{Tries, Ways, by-ways, answers_alone, linked-alike, tries-alike}
 use Rattle.turn_bound.proofs.MeetHear.{of_frame}
 use Rattle.turn_losses.proofs.Words.{any_brk, of_word}
-use Rattle.link_account.specs.declared.answer.Answer.TheVariants as answers
 
 abbrev pub is_sabme : Frame → Bool
 is_sabme (Sabme pf) = true

@@ -2,7 +2,7 @@
 use Rattle.std.proofs.Common.{inl, inr, ◌≡◌, ◌≢◌, ℕ, zero, suc, ◌+◌, ◌-◌, ◌*◌, ◌<◌, ◌≤◌, ◌&&◌, ◌||◌, Bool, true, false, max, nat_lt, nat_le}
 use Rattle.std.proofs.Common.{List, [], ◌∷◌, length, arith, refl, ◌∙◌, ap, subst, Some}
 use Rattle.turn_bound.proofs.Truths.{or-late, and-true, and-two}
-use Rattle.link_account.proofs.Names.{slice_get, cases_lt, nat_tests, Originator, Answerer, Heard}
+use Rattle.link_account.proofs.Names.{cases_lt, nat_tests, Originator, Answerer, Heard}
 use Rattle.link_run.proofs.Names.{Turn, LosesSome}
 use Rattle.link_run.specs.Counts.{lost_in, lost_slots}
 use Rattle.link_run.specs.Starved.{SpanLoses, IsLost, turn_at}
@@ -133,7 +133,7 @@ is-loss : (h : Heard) → IsLost h → is_lost h ≡ true
 is-loss p e = grind (arith)
 
 loses-turn : (t : Turn) → LosesSome (Some t) → loses t ≡ true
-loses-turn t q1 = grind (arith, is-loss)
+loses-turn t x = grind (arith, is-loss)
 
 covers-loss : (period delay last span : ℕ) (ts : List Turn) (turn : ℕ) → turn < length ts → LosesSome (turn_at turn ts)
     → in_span period delay last turn span ≡ true → covers period delay last ts span ≡ true

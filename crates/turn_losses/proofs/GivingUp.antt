@@ -1,9 +1,7 @@
 -- Whatever an end gives up for, where no break waits.
-use Rattle.std.proofs.Common.{◌≡◌, ℕ, ◌+◌, Bool, true, false, cond, ◌∷◌, length, arith, refl, sym, ◌∙◌, ap, inl, inr, List, [], subst}
-use Rattle.link_account.proofs.Names.{Role, Originator, Answerer, of, waits, LinkFault, Spent, NotDetected, is_connected, OwnBreaks}
-use Rattle.link_account.proofs.Names.{Account}
-use Rattle.link_run.proofs.Names.{is_released, served_at, BreakLine, is_busy, Link, Accounts, Turn, RunOf, SpeaksAt, said_at, IsCarried}
-use Rattle.link_run.proofs.Names.{Hears}
+use Rattle.std.proofs.Common.{◌≡◌, ℕ, ◌+◌, Bool, true, false, cond, ◌∷◌, length, arith, refl, sym, ◌∙◌, ap, List, [], subst}
+use Rattle.link_account.proofs.Names.{Role, Originator, Answerer, of, waits, LinkFault, Spent, NotDetected, is_connected, Account}
+use Rattle.link_run.proofs.Names.{served_at, BreakLine, is_busy, Link, Accounts, Turn, RunOf, SpeaksAt, said_at, IsCarried, Hears}
 use Rattle.link_account.specs.Account.{break_waits}
 use Rattle.link_run.specs.Run.{BrokenTurn}
 use Rattle.link_run.specs.Laws.{EachEndIsNamed, IsNamed}

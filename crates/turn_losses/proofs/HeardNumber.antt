@@ -1,18 +1,17 @@
 -- What a frame with a number makes of a Connected end: one row for the five of them, with what it makes of the wait for an answer, of the
 -- clock, of replies, of what is urgent and of a pause.
-use Rattle.std.proofs.Common.{◌⊎◌, inl, inr, ◌≡◌, ℕ, ◌-◌, ◌<◌, ◌&&◌, ◌||◌, not, Bool, true, false, cond, nat_lt, arith, refl, sym, ◌∙◌, ap}
-use Rattle.std.proofs.Common.{Option, Some, None, Ok}
+use Rattle.std.proofs.Common.{◌⊎◌, inl, inr, ◌≡◌, ℕ, ◌-◌, ◌<◌, ◌&&◌, ◌||◌, not, Bool, true, false, cond, arith, refl, sym, ◌∙◌, ap, Option}
+use Rattle.std.proofs.Common.{Ok}
 use Rattle.turn_bound.proofs.Truths.{or-false}
 use Rattle.link_account.proofs.Names.{nat_tests, Frame, I, Rr, Rnr, Rej, Srej, Arrived, Outgoing, advanced, resumed, Incoming, BreakWord}
 use Rattle.link_account.proofs.Names.{Account, is_connected, hear}
 use Rattle.lapm_sender.specs.Numbers.{with_number}
 use Rattle.link_account.specs.Hear.{timer_after, ends_wait}
-use Rattle.link_account.proofs.HearWays.{Numbers, numbered_with, resumed-unpaused, acked, acked_back, Plain, IsUa, IsXid, IsTest, IsNoWord}
-use Rattle.link_account.proofs.HearWays.{by-linked}
-use Rattle.turn_bound.proofs.Value.{is_waiting, connected-is}
+use Rattle.link_account.proofs.HearWays.{Numbers, numbered_with, resumed-unpaused, acked, acked_back, Plain, by-linked}
+use Rattle.turn_bound.proofs.Value.{connected-is}
 use Rattle.turn_bound.proofs.Sender.{Heard, heard-clock, meant-range, heard-advanced, heard-resumed, heard-selected, acked-heard}
 use Rattle.turn_bound.proofs.MeetHear.{resumed-awaited}
-use Rattle.turn_losses.proofs.Words.{is_word, of_word}
+use Rattle.turn_losses.proofs.Words.{of_word}
 use Rattle.turn_losses.proofs.Names.{Rates, Sends, is_poll, is_final, SetFrom, of_arrived}
 use Rattle.lapm_frames.specs.declared.arrived.Arrived.TheVariants as arrivals
 
@@ -37,7 +36,7 @@ pub record PlainFrame (frame : Frame) : Type 0 where
   pub words : (f : BreakWord → Bool) → of_word f frame ≡ false
 
 pub plain-frame : (frame : Frame) → Plain frame → PlainFrame frame
-plain-frame frame q1 = grind (arith)
+plain-frame frame x = grind (arith)
 
 never : {A : Type 0} {b : Bool} → b ≡ false → b ≡ true → A
 never e f = let wrong : true ≡ false = sym f ∙ e in cc

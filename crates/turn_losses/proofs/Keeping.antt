@@ -9,7 +9,6 @@ use Rattle.link_run.specs.Starved.{turn_at}
 use Rattle.turn_losses.specs.Polls.{sends_of, PollsIn, PollsKeepApart, RepliesAtOnce, AnswersPoll, AnswersMatchPolls}
 use Rattle.turn_losses.proofs.Tracing.{OneMore, traced-turn, past-all, past-before, timed-run, timed-of}
 use Rattle.turn_bound.proofs.Truths.{and-not}
-use Rattle.lapm_frames.specs.declared.sent.Sent.TheVariants as slots
 
 sends-kind : (is : Frame → Bool) (m : Option Spoken) (s : Spoken) → m ≡ Some s → sends_of is m ≡ of_frame is (sent_or m)
 sends-kind is b s e = grind (arith)

@@ -18,7 +18,7 @@ all-or-one P Q zero h = inl (λ n x. absurd (omega (arith, x)))
 all-or-one P Q (suc m) h = by (h m (omega arith)) (all-or-one P Q m (λ n x. h n (omega (arith, x))))
   where
     by : P m ⊎ Q m → ((n : ℕ) → n < m → P n) ⊎ ((n : ℕ) × (n < m) × Q n) → ((n : ℕ) → n < suc m → P n) ⊎ ((n : ℕ) × (n < suc m) × Q n)
-    by q0 r = grind (arith)
+    by y r = grind (arith)
 
 -- in one of so many turns it comes to pass, or it is due after each
 pub until : (sent due : ℕ → Type 0) (s n : ℕ)

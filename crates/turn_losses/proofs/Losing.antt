@@ -3,12 +3,12 @@ use Rattle.std.proofs.Common.{◌⊎◌, inl, inr, ◌≡◌, ℕ, ◌+◌, ◌-
 use Rattle.std.proofs.Common.{◌%◌, List, subst}
 use Rattle.link_account.proofs.Names.{cases_lt, nat_tests, Role, other, of, waits, Arrived, Account, is_connected, hear, Originator}
 use Rattle.link_account.proofs.Names.{Answerer}
-use Rattle.link_run.proofs.Names.{User, Turn, arrival, Carries, Link, is_released, Accounts, Hears, served_at}
+use Rattle.link_run.proofs.Names.{User, Turn, arrival, Carries, Link, Accounts, Hears, served_at}
 use Rattle.turn_bound.proofs.Truths.{clash, not-true}
 use Rattle.turn_losses.proofs.Periods.{once, loses-at, loses-last}
 use Rattle.turn_losses.proofs.PeriodLaws.{is-heard, was-sent, last-heard, two-ends, NoneLost}
 use Rattle.turn_losses.proofs.Expiries.{LostIn, lost-or-none}
-use Rattle.turn_bound.proofs.Value.{connected-is, linked-of, unlinked-of, Linked}
+use Rattle.turn_bound.proofs.Value.{connected-is, unlinked-of}
 use Rattle.turn_losses.proofs.Establishing.{is_sabme}
 use Rattle.turn_losses.proofs.BreakHear.{answered_own, break-heard, Unanswered, old-heard}
 use Rattle.turn_losses.proofs.BreakTurn.{waits-not, wait-ends, served-own, Deeds, number_of, brk_due}
@@ -144,9 +144,6 @@ module _ {tries period : ℕ} {link : Link} {r : Role} {turn : ℕ} {a : Account
   pub last-wait : is_connected mid.phase ≡ true → SpendsBreak turn b → LastWait tries period turn a
   last-wait cm spends = from (i.polls.from cm)
     where
-      mid-linked : Linked (rates tries period) (turn + 1) turn r mid
-      mid-linked = linked-of (rates tries period) (turn + 1) turn r i.phase mid i.heard.stands (ap is_connected (sym i.heard.phase) ∙ cm)
-
       own : b.own_breaks ≡ mid.own_breaks
       own = grind (arith, served-own)
 
@@ -157,12 +154,9 @@ module _ {tries period : ℕ} {link : Link} {r : Role} {turn : ℕ} {a : Account
       from (inr u) = grind (arith, old-heard, unlinked-of, rates, waits-mid)
       from (inl ca) = by (break-heard arrived turn a mid (connected-is a.phase ca) cm i.hears).own
         where
-          high : length a.own_breaks.lengths ≤ a.own_breaks.answered + 1
-          high = (linked-of (rates tries period) turn turn r a.phase a i.stands ca).breaks.high
-
           by : ((mid.own_breaks ≡ a.own_breaks) × Unanswered arrived a.own_breaks)
               ⊎ ((waits a.own_breaks ≡ true) × (mid.own_breaks ≡ answered_own turn a.own_breaks)) → LastWait tries period turn a
-          by q0 = grind (arith, clash, waits-mid, waits-not)
+          by x = grind (arith, clash, waits-mid, waits-not)
 
 -- An end that gives up while a break waits was starved.
 

@@ -1,13 +1,12 @@
 -- What an originator's try sends and hears, and what ends it.
-use Rattle.std.proofs.Common.{◌⊎◌, inl, inr, ◌≡◌, ℕ, ◌+◌, ◌≤◌, Bool, true, false, cond, nat_eq, arith, refl, sym, ◌∙◌, ap, Option, Some}
-use Rattle.std.proofs.Common.{None, Ok, Err, Result, ◌||◌, not, subst}
+use Rattle.std.proofs.Common.{◌⊎◌, inl, inr, ◌≡◌, ℕ, ◌+◌, ◌≤◌, Bool, true, false, nat_eq, arith, refl, sym, ◌∙◌, ap, Option, Some, Ok, Err}
+use Rattle.std.proofs.Common.{Result, not}
 use Rattle.link_account.proofs.Names.{is_some, nat_tests, Role, Originator, Answerer, Frame, Sabme, Disc, Ua, Dm, Ui, Xid, Offer, offer_in}
-use Rattle.link_account.proofs.Names.{written, agree, Arrived, LinkFault, Account, hear, on_frame, on_nothing, trying, Said, speak}
-use Rattle.link_account.proofs.Names.{speak_linked, false≢true, is_originator, Sent, owing, says, frame_for, speak_in}
+use Rattle.link_account.proofs.Names.{written, Arrived, LinkFault, Account, hear, on_frame, on_nothing, trying, Said, speak, speak_linked}
+use Rattle.link_account.proofs.Names.{false≢true, Sent, says, frame_for, speak_in}
 use Rattle.link_run.proofs.Names.{Phase, Detecting, Negotiating, Establishing, Connected, Releasing, Closed, Answer}
 use Rattle.lapm_frames.specs.declared.seen.Seen.TheVariants.{Adp}
-use Rattle.link_account.specs.Hear.{on_negotiating, on_establishing, on_releasing, on_xid_response, connected, on_detecting, on_disc}
-use Rattle.link_account.specs.Hear.{on_xid_command, peer_reset}
+use Rattle.link_account.specs.Hear.{connected, on_xid_command}
 use Rattle.link_account.specs.Speak.{else_says, answering, speak_answer, speak_negotiating}
 use Rattle.turn_bound.proofs.MeetHear.{of_frame, of_arrived}
 use Rattle.link_account.proofs.HearWays.{by-ways, numbered_with, numbers-alike}

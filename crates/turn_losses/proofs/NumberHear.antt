@@ -1,19 +1,18 @@
 -- What a Connected end makes of the numbers that it hears.
-use Rattle.std.proofs.Common.{◌⊎◌, inl, inr, ◌≡◌, ℕ, ◌%◌, ◌<◌, ◌≤◌, ◌||◌, Bool, true, false, cond, nat_lt, List, length, length-append}
-use Rattle.std.proofs.Common.{arith, refl, sym, ◌∙◌, ap, subst, Option, Some, None, Ok, zero, suc, ◌+◌, ◌&&◌, not, min, [], ◌∷◌}
+use Rattle.std.proofs.Common.{◌⊎◌, inl, inr, ◌≡◌, ℕ, ◌%◌, ◌<◌, ◌≤◌, Bool, true, false, List, length, length-append, arith, refl, sym, ◌∙◌}
+use Rattle.std.proofs.Common.{ap, subst, Option, Some, None, Ok, zero, suc, ◌+◌, min}
 use Rattle.turn_losses.proofs.Names.{Rates, Sends, served_account, is_linked}
-use Rattle.turn_bound.proofs.Sender.{Heard, ended, heard-advanced, heard-resumed, acked-heard, meant-range}
-use Rattle.link_account.proofs.Names.{nat_tests, Frame, I, Rr, Rnr, Rej, meant, Outgoing, is_outstanding, resumed, Incoming, after_take}
-use Rattle.link_account.proofs.Names.{after_kind, kind_of, offset, Took, InOrder, Sent, Arrived, Account, is_connected, hear, Role, Offer}
-use Rattle.link_account.proofs.Names.{Terms, IsAllowed, agree, with_piece, wants, piece_size, on_nothing}
+use Rattle.turn_bound.proofs.Sender.{Heard, heard-advanced, heard-resumed, acked-heard, meant-range}
+use Rattle.link_account.proofs.Names.{Frame, I, Rr, Rnr, Rej, meant, Outgoing, resumed, Incoming, after_take, after_kind, kind_of, offset}
+use Rattle.link_account.proofs.Names.{Took, InOrder, Sent, Arrived, Account, is_connected, hear, Offer, Terms, IsAllowed, agree, with_piece}
+use Rattle.link_account.proofs.Names.{wants}
 use Rattle.lapm_receiver.specs.Incoming.{kind_at}
 use Rattle.link_account.proofs.HearWays.{by-linked, acked, acked_back, Plain, by-early}
 use Rattle.turn_bound.proofs.Value.{connected-is}
 use Rattle.lapm_frames.specs.declared.sent.Sent.TheVariants as slots
 use Rattle.lapm_frames.specs.declared.arrived.Arrived.TheVariants as arrivals
-use Rattle.link_run.proofs.Names.{Phase, Negotiating, Establishing, Closed, User, offered_at, offered_times, room_for, piece_at}
-use Rattle.xid_params.specs.Terms.{default_offer, lowered}
-use Rattle.link_account.specs.Account.{window_for}
+use Rattle.link_run.proofs.Names.{Phase, User, offered_at, offered_times, room_for}
+use Rattle.xid_params.specs.Terms.{lowered}
 use Rattle.turn_bound.proofs.Serving.{served-by}
 use Rattle.turn_bound.proofs.Truths.{unlinked-connected}
 
@@ -174,9 +173,6 @@ second-less b m n l = grind (arith)
 
 pub fits-second : (o a : Offer) → IsAllowed a → Fits (agree o a)
 fits-second o a h = grind (arith, second-less, first-less)
-
-fits-for : (role : Role) (terms : Terms) → Fits terms → window_for role terms ≤ 127
-fits-for b terms h = grind (arith)
 
 -- becoming Connected
 pub record BeginsWith (b : Account) : Type 0 where

@@ -1,6 +1,6 @@
 -- What a Connected end tells as it speaks.
-use Rattle.std.proofs.Common.{◌⊎◌, inl, inr, ◌≡◌, ℕ, ◌++◌, ◌%◌, ◌||◌, Bool, true, false, cond, [], ◌∷◌, length, refl, sym, ◌∙◌, ap, Option}
-use Rattle.std.proofs.Common.{Some, None, Ok, zero, suc, ◌+◌, ◌≤◌, List, arith}
+use Rattle.std.proofs.Common.{◌⊎◌, inl, inr, ◌≡◌, ℕ, ◌%◌, ◌||◌, Bool, true, false, cond, length, refl, sym, ◌∙◌, ap, Option, Some, None, Ok}
+use Rattle.std.proofs.Common.{zero, suc, ◌+◌, ◌≤◌, List, arith}
 use Rattle.turn_losses.proofs.Names.{rates, is_linked}
 use Rattle.turn_bound.proofs.Value.{linked-of, connected-is}
 use Rattle.link_account.proofs.Names.{is_some, is_originator, Outgoing, Incoming, OwnBreaks, Account, Said, nr_of, frame_for, ready_frame}
@@ -12,7 +12,6 @@ use Rattle.link_account.specs.Account.{Wait}
 use Rattle.link_account.specs.Speak.{says_frame}
 use Rattle.turn_losses.proofs.NumberHear.{frame_nr, frame_ns, nr_sent, ns_sent, NumbersHeard, numbers-heard, Room, Fits, begins-roomy}
 use Rattle.link_account.proofs.SpeakWays.{Steps, by-linked, linked-alike, retimed, next-keeps}
-use Rattle.link_account.specs.declared.answer.Answer.TheVariants as answers
 use Rattle.turn_bound.proofs.Speaking.{linked-says}
 use Rattle.turn_losses.proofs.InTurn.{InTurn}
 use Rattle.turn_losses.proofs.PollTurn.{SaidPoll, poll-speaks}
@@ -170,7 +169,7 @@ module _ {tries period : ℕ} {link : Link} {role : Role} {turn : ℕ} {a : Acco
       zero-count (suc n) e = absurd (by (polled.1.counted n (omega (arith, e))))
         where
           set-by : (x : ℕ) → (x ≡ turn) ⊎ (a.wait.timer ≡ Some x) → turn ≡ x + b.setup.period → ⊥
-          set-by x q1 r = grind (arith)
+          set-by x c r = grind (arith)
 
           by : ((polled.1.made ≡ true) × (b.outgoing.count ≡ n) × (said.account.wait.timer ≡ Some turn))
               ⊎ ((polled.1.made ≡ false) × (b.outgoing.count ≡ n + 1)

@@ -1,7 +1,7 @@
 -- An answerer that gives up, also while the originator releases.
 use Rattle.std.proofs.Common.{◌⊎◌, inl, inr, ◌≡◌, ◌≢◌, ℕ, zero, suc, ◌+◌, ◌-◌, ◌*◌, ◌<◌, ◌≤◌, ◌&&◌, ◌||◌, not, Bool, true, false, cond}
 use Rattle.std.proofs.Common.{nat_eq, max, List, ◌∷◌, length, arith, refl, sym, ◌∙◌, ap, subst, Some, None, Ok, Err}
-use Rattle.turn_bound.proofs.Truths.{neither-first, and-two, clash, is-true}
+use Rattle.turn_bound.proofs.Truths.{and-two, clash, is-true}
 use Rattle.turn_bound.proofs.Value.{linked-of, connected-is}
 use Rattle.turn_bound.proofs.Speaking.{stopped}
 use Rattle.link_account.proofs.Names.{cases_lt, nat_tests, Role, Originator, Answerer, is_originator, Outgoing, ReadsWritten, waits}
@@ -16,7 +16,7 @@ use Rattle.link_run.specs.Starved.{SpanLoses, IsStarved}
 use Rattle.turn_losses.proofs.Periods.{once, later-loses, loses-at, loses-last, loses-of}
 use Rattle.turn_losses.specs.Losses.{AnswererWantsAnswers}
 use Rattle.turn_losses.proofs.PollHear.{linked-connected}
-use Rattle.turn_losses.proofs.Tracing.{timed-run, longer, EndTurn, TurnAt, end-turn, last-turn, starts-fresh}
+use Rattle.turn_losses.proofs.Tracing.{timed-run, EndTurn, TurnAt, end-turn, last-turn, starts-fresh}
 use Rattle.turn_losses.proofs.Numbering.{Plays, counts-of}
 use Rattle.turn_losses.proofs.PeriodLaws.{is-heard, last-heard, two-ends, turned, due-apart, linked-on, answer-comes, NoneLost}
 use Rattle.turn_losses.proofs.PeriodLaws.{StayConnected, connected-since}
@@ -26,7 +26,7 @@ use Rattle.std.specs.Prelude.{nat_lt}
 use Rattle.turn_losses.proofs.Acknowledged.{Counts}
 use Rattle.turn_losses.proofs.Wanting.{LastTry, last-try, peer-linked}
 use Rattle.turn_losses.specs.Tries.{AnswererWantsAnswer}
-use Rattle.turn_losses.proofs.Moving.{asks, try-heard, linked-phase, can_answer, answer-due}
+use Rattle.turn_losses.proofs.Moving.{asks, try-heard, linked-phase, answer-due}
 use Rattle.turn_losses.proofs.Trying.{TryTurn, TriesSo, Tried, tried, tries-so}
 use Rattle.turn_losses.proofs.Names.{Rates, rates, Sends, Stands, of_arrived, is_lost, PeriodLoses, LosesEach, is_linked, EndRun, TwoEnds}
 use Rattle.turn_losses.proofs.Names.{hears_final, TimedRun, end_of}
@@ -111,9 +111,6 @@ pub record Released (link : Link) (t : ℕ) (mid : Accounts) : Type 0 where
   pub done : is_whole (served_at link t mid Answerer).account.outgoing ≡ true
   pub breaks : waits (served_at link t mid Answerer).account.own_breaks ≡ false
   pub connected : is_connected (served_at link t mid Answerer).account.phase ≡ true
-
-not-either : (x : Bool) → not x ≡ true → x ≡ false
-not-either b e = grind (arith)
 
 pub told-release : (link : Link) (t : ℕ) (mid : Accounts) → releases link t mid ≡ true → Released link t mid
 told-release link t mid e = go (is_connected a.phase) refl

@@ -5,7 +5,7 @@ use Rattle.turn_losses.proofs.Names.{poll_due, EndRun, sends_poll, hears_poll, s
 use Rattle.turn_losses.proofs.Names.{of_arrived, ArrivesLate, arrives-flag, TimedRun, end_of, is_poll, is_final, TwoEnds, is_linked}
 use Rattle.std.proofs.Common.{inl, inr, zero, suc, ◌-◌, Bool, cond, List, [], ◌∷◌, length, arith, refl, sym, ◌∙◌, ap, subst, Some, None}
 use Rattle.std.proofs.Common.{◌⊎◌, ◌*◌}
-use Rattle.link_account.proofs.Names.{cases_lt, Role, Frame, Sent, Arrived, arrives, slice_get, other, of, Originator, Answerer}
+use Rattle.link_account.proofs.Names.{Role, Frame, Sent, Arrived, arrives, slice_get, other, of}
 use Rattle.link_run.proofs.Names.{arrival, sent_in, Carries, Turn}
 use Rattle.turn_bound.proofs.Tied.{sent_of, none-heard, one-heard}
 use Rattle.turn_losses.proofs.PollsFresh.{WasSent, Polls, Fresh, polls-fresh, sent-soon, sent-apart}

@@ -1,8 +1,6 @@
-use Rattle.std.proofs.Common.{arith, ◌⊎◌, inl, inr, ◌≡◌, ℕ, ◌||◌, Bool, true, false, refl, sym, ◌∙◌, ap, Option, Some, None, Ok}
-use Rattle.link_account.proofs.Names.{Role, Originator, Answerer, Arrived, Account, is_connected, is_originator, hear, on_nothing}
-use Rattle.link_account.proofs.Names.{without_adp}
+use Rattle.std.proofs.Common.{arith, ◌⊎◌, inr, ◌≡◌, ℕ, ◌||◌, Bool, true, false, refl, sym, ◌∙◌, Option, Some, None, Ok}
+use Rattle.link_account.proofs.Names.{Role, Originator, Answerer, Arrived, Account, is_connected, hear, on_nothing}
 use Rattle.link_run.proofs.Names.{Phase, Connected}
-use Rattle.link_account.specs.Hear.{first_wait}
 use Rattle.link_account.proofs.HearWays.{ConnectedWays, EarlyWays, by-ways}
 use Rattle.turn_bound.proofs.Truths.{or-false}
 use Rattle.turn_losses.proofs.HeardNumber.{number-rows, plain-frame}
@@ -30,10 +28,6 @@ pub linked-connected : (p : Phase) → is_connected p ≡ true → is_linked p �
 linked-connected p e = grind (arith)
 
 -- before it is Connected, and after
-unlinked-heard : (role : Role) (turn : ℕ) (polled : Bool) (a b : Account) → is_linked a.phase ≡ false → is_connected b.phase ≡ false
-    → b.wait.poll ≡ a.wait.poll → b.numbered ≡ a.numbered → PollHeard role turn polled a b
-unlinked-heard role turn polled a b e f p n = grind (arith)
-
 ended-heard : (role : Role) (turn : ℕ) (polled : Bool) (a b : Account) → is_linked b.phase ≡ true → is_connected b.phase ≡ false
     → b.wait ≡ a.wait → b.numbered ≡ a.numbered → PollHeard role turn polled a b
 ended-heard role turn polled a b e f p n = grind (arith)
@@ -43,12 +37,6 @@ connected-heard : (role : Role) (turn : ℕ) (polled : Bool) (a b : Account) →
     → (a.numbered ≡ true → b.numbered ≡ true) → (b.numbered ≡ true → b.owes.answer ≡ a.owes.answer) → PollHeard role turn polled a b
 connected-heard role turn polled a b e f p t r n w = grind (arith)
 
-begun-heard : (role : Role) (turn : ℕ) (polled : Bool) (a b : Account) → is_linked a.phase ≡ false → b.phase ≡ Connected
-    → b.owes.reply ≡ a.owes.reply → b.numbered ≡ a.numbered → SetFrom turn a.wait.timer b.wait.timer
-    → (role ≡ Answerer → (b.wait.poll ≡ a.wait.poll) × (b.wait.timer ≡ a.wait.timer)) → (role ≡ Originator → b.outgoing.awaited ≡ true)
-    → PollHeard role turn polled a b
-begun-heard role turn polled a b e f r n t w v = grind (arith)
-
 pub set-same : (turn : ℕ) (m : Option ℕ) → SetFrom turn m m
 set-same turn m s k = inr k
 
@@ -56,12 +44,6 @@ set-same turn m s k = inr k
 stays-heard : (role : Role) (turn : ℕ) (polled : Bool) (p : Phase) (a b : Account) → a.phase ≡ p → b.phase ≡ p → is_connected p ≡ false
     → b.wait ≡ a.wait → b.numbered ≡ a.numbered → PollHeard role turn polled a b
 stays-heard role turn polled p a b e f c w n = grind (arith)
-
-connected-begins : (role : Role) (turn : ℕ) (polled : Bool) (a b : Account) (r : Role) → role ≡ r → is_linked a.phase ≡ false
-    → b.phase ≡ Connected → b.owes.reply ≡ a.owes.reply → b.numbered ≡ a.numbered → b.wait ≡ first_wait r turn a.wait
-    → (role ≡ Originator → b.outgoing.awaited ≡ true) → PollHeard role turn polled a b
-connected-begins role turn polled a b Originator q e f r n w v = grind (arith, begun-heard)
-connected-begins role turn polled a b Answerer q e f r n w v = grind (arith, begun-heard)
 
 linked-ways : (role : Role) (turn : ℕ) (a : Account) → a.phase ≡ Connected
     → ConnectedWays (λ x b. PollHeard role turn (of_arrived is_poll x) a b) turn a

@@ -1,15 +1,14 @@
 use Rattle.std.proofs.Common.{◌⊎◌, inl, inr, ◌≡◌, ℕ, ◌+◌, ◌&&◌, ◌||◌, not, Bool, true, false, arith, refl, sym, ◌∙◌, ap, Option, Some, None}
 use Rattle.std.proofs.Common.{Ok, ◌≤◌, cond}
-use Rattle.turn_bound.proofs.Truths.{or-late, and-two, unlinked-connected, and-second, and-true, clash, and-drop}
-use Rattle.link_account.proofs.Names.{Frame, OwnBreaks, Account, is_connected, trying, Said, frame_for, nr_of, ready_frame, speak, Role}
-use Rattle.link_account.proofs.Names.{Originator, Answerer}
+use Rattle.turn_bound.proofs.Truths.{or-late, unlinked-connected, and-second, and-true, clash, and-drop}
+use Rattle.link_account.proofs.Names.{Frame, Account, is_connected, trying, Said, frame_for, nr_of, ready_frame, speak, Role, Originator}
+use Rattle.link_account.proofs.Names.{Answerer}
 use Rattle.link_run.proofs.Names.{Connected, Releasing, Answer, Phase, is_closed, is_released}
 use Rattle.link_account.specs.Speak.{running}
-use Rattle.link_account.proofs.SpeakWays.{linked-so, Before, Steps, steps-so, polling_at, ConnectedWays, Tries, Ways, by-ways}
-use Rattle.link_account.proofs.SpeakWays.{answers-unconnected, next-keeps}
+use Rattle.link_account.proofs.SpeakWays.{linked-so, Before, Steps, steps-so, ConnectedWays, Tries, Ways, by-ways, answers-unconnected}
+use Rattle.link_account.proofs.SpeakWays.{next-keeps}
 use Rattle.turn_losses.proofs.PollHear.{set-same, PollHeard, linked-connected}
 use Rattle.turn_losses.proofs.Names.{is_poll, is_final, of_frame, SetFrom, is_linked, NoneDue, poll_due, PollTurn}
-use Rattle.link_account.specs.declared.answer.Answer.TheVariants as answers
 use Rattle.turn_bound.proofs.AtMostOne.{OneDue}
 use Rattle.turn_losses.proofs.Trace.{Early}
 use Rattle.turn_bound.proofs.Tied.{keeps}
@@ -129,13 +128,6 @@ pub record SaidPoll (turn : ℕ) (a : Account) (said : Said) : Type 0 where
 pub linked-poll : (turn : ℕ) (a : Account) → ConnectedWays (SaidPoll turn a) turn a
 linked-poll turn a = ways
   where
-    stands : (own : OwnBreaks) (said : Said) → StepPoll turn (record a { own_breaks = own; special = false }) said → SaidPoll turn a said
-    stands own said k = grind (arith)
-
-    expires : (set : ℕ) → a.wait.timer ≡ Some set → turn ≡ set + a.setup.period → (own : OwnBreaks) (said : Said)
-        → StepPoll turn (polling_at turn a own) said → SaidPoll turn a said
-    expires set e due own said k = grind (arith)
-
     ways : ConnectedWays (SaidPoll turn a) turn a
     ways = grind (arith, steps-so, steps-poll)
 
@@ -291,20 +283,20 @@ poll-turn period turn role polled final a b said some h k one none early untimed
             → (count ≡ 0) ⊎ ((count ≡ a.outgoing.count) × (b.wait.timer ≡ a.wait.timer))
             → ((l.made ≡ true) × (count ≡ n) × (c.wait.timer ≡ Some turn))
             ⊎ ((l.made ≡ false) × (count ≡ n + 1) × ((r : ℕ) → a.wait.timer ≡ Some r → c.wait.timer ≡ Some r))
-        counts n q1 v = grind (arith)
+        counts n t v = grind (arith)
 
         due : (l.made ≡ true) ⊎ (poll_due a ≡ true) → (l.made ≡ true) ⊎ (b.wait.poll ≡ true)
-        due q0 = grind (arith, and-second)
+        due o = grind (arith, and-second)
 
         still-due : (of_frame is_poll said.sent ≡ true) ⊎ (c.wait.poll ≡ true) → (of_frame is_poll said.sent ≡ true) ⊎ (poll_due c ≡ true)
-        still-due q0 = grind (arith, and-true)
+        still-due i = grind (arith, and-true)
 
         timed : (s : ℕ) → (s ≡ turn) ⊎ (b.wait.timer ≡ Some s) → (s ≡ turn) ⊎ (a.wait.timer ≡ Some s)
-        timed s q1 = grind (arith)
+        timed s j = grind (arith)
 
         expired-from : (s : ℕ) × (b.wait.timer ≡ Some s) × (turn ≡ s + b.setup.period)
             → (s : ℕ) × (a.wait.timer ≡ Some s) × (turn ≡ s + period)
-        expired-from q0 = grind (arith)
+        expired-from way = grind (arith)
 
     -- it becomes so in it
     begins : is_connected c.phase ≡ true → is_connected b.phase ≡ true → SaidPoll turn b said → is_linked a.phase ≡ false → (r : Role)
@@ -333,10 +325,10 @@ poll-turn period turn role polled final a b said some h k one none early untimed
     )
       where
         begun-timer : (s : ℕ) → (s ≡ turn) ⊎ (a.wait.timer ≡ Some s) → s ≡ turn
-        begun-timer s q1 = grind (arith)
+        begun-timer s which = grind (arith)
 
         timed : (s : ℕ) → (s ≡ turn) ⊎ (b.wait.timer ≡ Some s) → s ≡ turn
-        timed s q1 = grind (arith, begun-timer)
+        timed s case = grind (arith, begun-timer)
     begins e f l x Answerer g = (
       false,
       record {

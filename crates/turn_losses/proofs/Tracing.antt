@@ -11,11 +11,8 @@ use Rattle.turn_losses.proofs.InTurn.{InTurn, in-turn}
 use Rattle.turn_losses.proofs.Answering.{end-answers}
 use Rattle.turn_losses.proofs.HeardNumber.{CountKept, count-hears, await-hears}
 use Rattle.turn_losses.proofs.Trace.{Early}
-use Rattle.turn_bound.proofs.Tied.{keeps}
 use Rattle.turn_losses.proofs.Names.{Rates, rates, Stands, Served, Deed, Happens, Trace, TimedRun, past, sent_or, is_poll, is_final}
 use Rattle.turn_losses.proofs.Names.{of_arrived, is_linked, PollTurn, KeepsTime, end_of}
-use Rattle.lapm_frames.specs.declared.heard.Heard.TheVariants as heards
-use Rattle.frame_check.specs.declared.check.Check.TheVariants as checks
 use Rattle.link_account.specs.Account.{fresh}
 
 served-heard : (role : Role) (turn breaks : ℕ) (busy polled : Bool) (a b c : Account) → Served turn breaks busy b c
@@ -30,7 +27,7 @@ silent-of z before turn q x a st e f n = grind (arith)
 module _ {tries period : ℕ} {link : Link} {role : Role} {turn : ℕ} {a : Account} {arrived : Arrived} {mid b : Account}
     (i : InTurn tries period link role turn a arrived mid b) where
   served-count : CountKept a mid → (mid.outgoing.count ≡ 0) ⊎ ((mid.outgoing.count ≡ a.outgoing.count) × (b.wait.timer ≡ a.wait.timer))
-  served-count q0 = grind (arith)
+  served-count y = grind (arith)
 
   served-one : OneDue role mid → (b.owes.answer ≡ None) ⊎ (is_released b.phase ≡ false → b.owes.reply ≡ false)
   served-one o = grind (arith)

@@ -4,8 +4,8 @@ use Rattle.std.proofs.Common.{Ok, Err}
 use Rattle.turn_bound.proofs.MeetHear.{o-hears}
 use Rattle.turn_bound.proofs.Truths.{clash, not-true}
 use Rattle.link_account.proofs.Names.{is_some, cases_lt, Originator, Answerer, offer_in, written, ReadsWritten, Sent, Arrived, Account}
-use Rattle.link_account.proofs.Names.{MayPlay, Said, speak, Spent, is_connected, says}
-use Rattle.link_account.proofs.SpeakWays.{Breaks, why-broken}
+use Rattle.link_account.proofs.Names.{MayPlay, Said, speak, Spent, is_connected}
+use Rattle.link_account.proofs.SpeakWays.{why-broken}
 use Rattle.link_run.proofs.Names.{Phase, Negotiating, Establishing, Releasing, is_released, is_closed, arrival, Link, Accounts, served_at}
 use Rattle.link_run.proofs.Names.{releases}
 use Rattle.turn_losses.proofs.Numbering.{allowed}
@@ -52,11 +52,11 @@ module _ {tries period : ℕ} {link : Link} {turn : ℕ} {a : Account} {arrived 
 
       again : TryGoesOn p arrived a mid ⊎ TryBegins turn p a mid → TriesAgain p turn b said
           → TryTurn period turn p arrived said.sent a said.account
-      again q0 q1 = grind (arith, set-is)
+      again y v = grind (arith, set-is)
 
       stands : TryGoesOn p arrived a mid ⊎ TryBegins turn p a mid → TryStands p turn b said
           → TryTurn period turn p arrived said.sent a said.account
-      stands q0 q1 = grind (arith, set-is)
+      stands r s = grind (arith, set-is)
 
       go : ((b.phase ≡ p) × (TriesAgain p turn b said ⊎ TryStands p turn b said)) ⊎ TryIsNew p turn b said
           → TryTurn period turn p arrived said.sent a said.account

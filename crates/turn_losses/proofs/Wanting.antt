@@ -1,13 +1,12 @@
 -- Why a Connected end breaks, and what was lost then.
 use Rattle.std.proofs.Common.{◌⊎◌, inl, inr, ◌≡◌, ℕ, ◌+◌, ◌*◌, ◌<◌, ◌≤◌, Bool, true, false, length, arith, sym, ◌∙◌, ap, Some, Err, subst}
-use Rattle.std.proofs.Common.{◌≢◌, max, List, ◌∷◌, refl, None}
-use Rattle.link_account.proofs.Names.{nat_tests, Role, other, of, waits, Arrived, LinkFault, Account, is_connected, speak, IsAllowed}
-use Rattle.link_account.proofs.Names.{MayPlay, false≢true, cases_lt, Originator, Answerer}
+use Rattle.std.proofs.Common.{◌≢◌, max, List, ◌∷◌}
+use Rattle.link_account.proofs.Names.{Role, other, of, waits, Arrived, LinkFault, Account, is_connected, speak, IsAllowed, MayPlay}
+use Rattle.link_account.proofs.Names.{false≢true, cases_lt, Originator, Answerer}
 use Rattle.turn_bound.proofs.Value.{linked-of, connected-is}
-use Rattle.link_run.proofs.Names.{Connected, Releasing, Phase, Detecting, Negotiating, Establishing, Turn, Accounts, Hears, arrival}
-use Rattle.link_run.proofs.Names.{served_at, Link, releases, LosesSome, is_released}
+use Rattle.link_run.proofs.Names.{Connected, Phase, Turn, Accounts, Hears, arrival, served_at, Link, releases, is_released}
 use Rattle.turn_losses.proofs.Periods.{once, loses-of, later-turn}
-use Rattle.link_account.proofs.SpeakWays.{Ended, TryEnds, ReleaseEnds, TimerEnds, BreakEnds, Breaks, Undetected, Spends, why-broken}
+use Rattle.link_account.proofs.SpeakWays.{Breaks, why-broken}
 use Rattle.turn_losses.proofs.HeardNumber.{CountKept, count-hears}
 use Rattle.turn_losses.proofs.PeriodLaws.{two-ends, connected-since}
 use Rattle.turn_losses.proofs.Expiries.{period-loses, Uncleared, expiries}
@@ -44,14 +43,8 @@ pub connected-spends : (turn : ℕ) (release : Bool) (b : Account) (fault : Link
     → speak turn release b ≡ Err fault → SpendsTries turn b ⊎ SpendsBreak turn b
 connected-spends turn release b fault e long h = go (why-broken turn release b fault h)
   where
-    other : {A : Type 0} (p : Phase) → b.phase ≡ p → (Connected ≡ p → ⊥) → A
-    other p f n = absurd (n (sym e ∙ f))
-
-    by : Ended turn release b → SpendsTries turn b ⊎ SpendsBreak turn b
-    by q0 = grind (arith)
-
     go : Breaks turn release b fault → SpendsTries turn b ⊎ SpendsBreak turn b
-    go q0 = grind (arith)
+    go v = grind (arith)
 
 pub connected-why : (turn : ℕ) (release : Bool) (b : Account) (fault : LinkFault) → b.phase ≡ Connected → 1 ≤ b.setup.period
     → waits b.own_breaks ≡ false → speak turn release b ≡ Err fault → SpendsTries turn b
@@ -86,7 +79,7 @@ module _ {tries period : ℕ} {link : Link} {role : Role} {turn : ℕ} {a : Acco
       from (inl ca) = by (count-hears z arrived turn a mid ca (linked-of z turn turn role a.phase a i.stands ca).sends i.hears)
         where
           by : CountKept a mid → LastTry tries period turn a
-          by q0 = grind (arith, mid-count)
+          by y = grind (arith, mid-count)
 
 -- in the turn behind a run
 module _ (laws : Plays) (w : TimedRun) (may : MayPlay w.link.orig.setup w.link.answ.setup) (t : Turn) (mid : Accounts)

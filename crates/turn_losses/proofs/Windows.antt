@@ -31,7 +31,7 @@ one-hit f from (suc n) h = by (f (from + n)) refl (cases_lt (hits f from n) 1) (
     by : (x : Bool) → f (from + n) ≡ x → (hits f from n < 1) ⊎ (1 ≤ hits f from n)
         → (1 ≤ hits f from n → (t : ℕ) × (from ≤ t) × (t < from + n) × (f t ≡ true))
         → (t : ℕ) × (from ≤ t) × (t < from + suc n) × (f t ≡ true)
-    by x e q2 again = grind (arith)
+    by x e v again = grind (arith)
 
 pub once : (f : ℕ → Bool) (apart turns : ℕ) → ((s t : ℕ) → s < t → t < turns → f s ≡ true → f t ≡ true → s + apart ≤ t) → (from n : ℕ)
     → n ≤ apart → from + n ≤ turns → hits f from n ≤ 1
