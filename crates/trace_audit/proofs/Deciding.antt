@@ -1,5 +1,5 @@
 -- One thing is found of octets beside a text.
-use Rattle.std.proofs.Common.{◌≡◌, ℕ, List, length, Result, Ok, Err, refl, sym, ◌∙◌, ap, subst}
+use Rattle.std.proofs.Common.{arith, ◌≡◌, ℕ, List, Result, Ok, Err, refl, ◌∙◌, ap, subst}
 use Rattle.shared_terms.specs.declared.audit_cause.AuditCause.{AuditCause}
 use Rattle.trace_audit.specs.Differences.{text_of, FirstDiffers, IsCut}
 use Rattle.trace_audit.specs.declared.comparison.Difference.{Difference}
@@ -28,9 +28,7 @@ module _ (laws : VerdictLaws) (text octets : List ℕ) where
       laws.one b.lines octets m n c d (subst (λ (l : List (List ℕ)). FirstDiffers l octets m c) lines a.first) b.first
 
   one-count : (m n : ℕ) → IsText text octets m → IsText text octets n → m ≡ n
-  one-count m n a b =
-      let lines : a.lines ≡ b.lines = laws.cut text a.lines b.lines a.cut b.cut in
-      a.count_is ∙ ap (λ (l : List (List ℕ)). length l) lines ∙ sym b.count_is
+  one-count m n a b = grind (arith)
 
   one-end : (d e : Difference) → DiffersIn text octets d.line d.cause → DiffersIn text octets e.line e.cause
       → ◌≡◌ {A = Result ℕ Difference} (Err d) (Err e)

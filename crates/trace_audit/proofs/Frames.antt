@@ -9,7 +9,6 @@ use Rattle.std.proofs.lemmas.Slice.Eq.{bytes_eq-Decides}
 use Rattle.break_signals.specs.declared.word.BreakWord.{BreakWord}
 use Rattle.break_signals.specs.declared.word.BreakWord.TheVariants.{Brk, Ack}
 use Rattle.lapm_frames.specs.declared.kind.FrameKind.{FrameKind}
-use Rattle.lapm_frames.specs.declared.kind.FrameKind.TheVariants as kind
 use Rattle.lapm_frames.specs.Parts.{kinds, first_named, parts_of_kind}
 use Rattle.line_texts.specs.FrameText.{kind_word, poll_word, number_word}
 use Rattle.trace_audit.specs.Cutting.{behind, first_of, front_of, rest_of, is_no_space}
@@ -56,19 +55,7 @@ BeginsFrame name shape = (text : List ℕ)
     × (behind_sent (name ++ 32 ∷ text) ≡ behind_frame (name ++ 32 ∷ text))
 
 begins-kind : (kind : FrameKind) → BeginsFrame (parts_of_kind kind).name (shape_of kind)
-begins-kind kind.I text = (refl, refl, refl, refl)
-begins-kind kind.Rr text = (refl, refl, refl, refl)
-begins-kind kind.Rnr text = (refl, refl, refl, refl)
-begins-kind kind.Rej text = (refl, refl, refl, refl)
-begins-kind kind.Srej text = (refl, refl, refl, refl)
-begins-kind kind.Sabme text = (refl, refl, refl, refl)
-begins-kind kind.Disc text = (refl, refl, refl, refl)
-begins-kind kind.Ua text = (refl, refl, refl, refl)
-begins-kind kind.Dm text = (refl, refl, refl, refl)
-begins-kind kind.Frmr text = (refl, refl, refl, refl)
-begins-kind kind.Xid text = (refl, refl, refl, refl)
-begins-kind kind.Test text = (refl, refl, refl, refl)
-begins-kind kind.Ui text = (refl, refl, refl, refl)
+begins-kind q0 text = grind (arith)
 
 begins-frame : (name : List ℕ) (shape : Shape) → shape_named name ≡ Some shape → BeginsFrame name shape
 begins-frame = at-names BeginsFrame begins-kind
@@ -77,19 +64,7 @@ abbrev IsShortName : List ℕ → Shape → Type 0
 IsShortName name shape = (length name ≤ 5) × (1 ≤ length name)
 
 short-kind : (kind : FrameKind) → IsShortName (parts_of_kind kind).name (shape_of kind)
-short-kind kind.I = (omega arith, omega arith)
-short-kind kind.Rr = (omega arith, omega arith)
-short-kind kind.Rnr = (omega arith, omega arith)
-short-kind kind.Rej = (omega arith, omega arith)
-short-kind kind.Srej = (omega arith, omega arith)
-short-kind kind.Sabme = (omega arith, omega arith)
-short-kind kind.Disc = (omega arith, omega arith)
-short-kind kind.Ua = (omega arith, omega arith)
-short-kind kind.Dm = (omega arith, omega arith)
-short-kind kind.Frmr = (omega arith, omega arith)
-short-kind kind.Xid = (omega arith, omega arith)
-short-kind kind.Test = (omega arith, omega arith)
-short-kind kind.Ui = (omega arith, omega arith)
+short-kind q0 = grind (arith)
 
 short-name : (name : List ℕ) (shape : Shape) → shape_named name ≡ Some shape → IsShortName name shape
 short-name = at-names IsShortName short-kind
@@ -201,9 +176,7 @@ heard-signal text rest (frame f) s = (frame-reads text rest f s).heard
 
 pub heard-reads : (text rest : List ℕ) → IsHeard text → Stops rest → behind_heard (text ++ rest) ≡ Some rest
 heard-reads text rest (nothing e) s = ap (λ t. behind_heard (t ++ rest)) e
-heard-reads text rest (lost front f e) s =
-    ap (λ t. behind_heard (t ++ rest)) e
-    ∙ ap (λ o. first_of o (behind_signal ((codes "lost " ++ front) ++ rest))) (signal-reads front rest f s)
+heard-reads text rest (lost front f e) s = grind (arith, signal-reads)
 heard-reads text rest (passed f) s = heard-signal text rest f s
 
 pub heard-is : (text rest : List ℕ) → behind_heard text ≡ Some rest → Found IsHeard text rest
@@ -302,10 +275,7 @@ length-shape Exchanging w r =
     let l = two (kind_word w.command) (poll_word w.pf ++ count_word w.count) 4 20 (length-kind w.command)
     (two (poll_word w.pf) (count_word w.count) 4 16 (length-poll w.pf) (length-number (codes " n=") w.count r.count)) in
     omega (arith, l)
-length-shape Unnumbered w r =
-    let l = two (kind_word w.command) (poll_word w.pf ++ information_word w.word w.count) 4 39 (length-kind w.command)
-    (two (poll_word w.pf) (information_word w.word w.count) 4 35 (length-poll w.pf) (length-information w.word w.count r.word r.count)) in
-    omega (arith, l)
+length-shape Unnumbered w r = grind (arith, two, length-kind, length-poll, length-information)
 
 -- a text has an octet, and not many
 abbrev IsShort : ℕ → List ℕ → Type 0

@@ -8,6 +8,7 @@ use Rattle.std.specs.List.{list_all}
 use Rattle.std.specs.Prelude.{MatchOption, ◌≢◌}
 use Rattle.std.specs.Borrow.{Bor}
 use Rattle.std.specs.Option.{option_map, option_and_then}
+use Rattle.std.proofs.lemmas.Option.{same_Some}
 use Rattle.trace_audit.specs.Cutting.{behind, front_of, rest_of, first_of}
 
 -- ---- options in a row
@@ -24,9 +25,6 @@ mapped f (Some x) y e = (x, refl, cc)
 pub either : (a b : Option (List ℕ)) (y : List ℕ) → first_of a b ≡ Some y → (a ≡ Some y) ⊎ (b ≡ Some y)
 either a b y e = grind (arith)
 
-pub some-is : {A : Type 0} (x y : A) → Some x ≡ Some y → x ≡ y
-some-is x y e = cc
-
 -- ---- labels
 
 pub behind-reads : (label rest : List ℕ) → behind label (label ++ rest) ≡ Some rest
@@ -38,7 +36,7 @@ behind-step : (x y : ℕ) (text label rest : List ℕ) (o : Option (List ℕ)) (
 behind-step x y text label rest o b same e f = grind (arith)
 
 pub behind-is : (label text rest : List ℕ) → behind label text ≡ Some rest → text ≡ label ++ rest
-behind-is [] text rest e = some-is text rest e
+behind-is [] text rest e = same_Some text rest e
 behind-is (x ∷ label) [] rest e = absurd cc
 behind-is (x ∷ label) (y ∷ text) rest e =
     behind-step x y text label rest (behind label text) (eqb x y) refl e (λ f. behind-is label text rest f)
@@ -137,18 +135,12 @@ module _ (f g h k : Reader) where
 
   pub chain3 : (a b c rest : List ℕ) → f (a ++ (b ++ (c ++ rest))) ≡ Some (b ++ (c ++ rest)) → g (b ++ (c ++ rest)) ≡ Some (c ++ rest)
       → h (c ++ rest) ≡ Some rest → option_and_then h (option_and_then g (f ((a ++ (b ++ c)) ++ rest))) ≡ Some rest
-  chain3 a b c rest p q r =
-      ap (λ t. option_and_then h (option_and_then g (f t))) (append_assoc a (b ++ c) rest ∙ ap (λ t. a ++ t) (append_assoc b c rest))
-      ∙ ap (λ o. option_and_then h (option_and_then g o)) p ∙ ap (option_and_then h) q ∙ r
+  chain3 a b c rest p q r = grind (arith, append_assoc)
 
   pub chain4 : (a b c d rest : List ℕ) → f (a ++ (b ++ (c ++ (d ++ rest)))) ≡ Some (b ++ (c ++ (d ++ rest)))
       → g (b ++ (c ++ (d ++ rest))) ≡ Some (c ++ (d ++ rest)) → h (c ++ (d ++ rest)) ≡ Some (d ++ rest) → k (d ++ rest) ≡ Some rest
       → option_and_then k (option_and_then h (option_and_then g (f ((a ++ (b ++ (c ++ d))) ++ rest)))) ≡ Some rest
-  chain4 a b c d rest p q r s =
-      ap (λ t. option_and_then k (option_and_then h (option_and_then g (f t))))
-      (append_assoc a (b ++ (c ++ d)) rest ∙ ap (λ t. a ++ t) (append_assoc b (c ++ d) rest ∙ ap (λ t. b ++ t) (append_assoc c d rest)))
-      ∙ ap (λ o. option_and_then k (option_and_then h (option_and_then g o))) p
-      ∙ ap (λ o. option_and_then k (option_and_then h o)) q ∙ ap (option_and_then k) r ∙ s
+  chain4 a b c d rest p q r s = grind (arith, append_assoc)
 
 -- what texts in a row are together
 pub join2 : (text a x b rest : List ℕ) → text ≡ a ++ x → x ≡ b ++ rest → text ≡ (a ++ b) ++ rest

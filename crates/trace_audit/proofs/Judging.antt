@@ -13,7 +13,6 @@ use Rattle.command_base.specs.declared.status.Status.{Status}
 use Rattle.command_base.specs.declared.status.Status.TheVariants.{Done, BadScript, TooLong, AuditNo, NoMemory}
 use Rattle.command_base.specs.declared.stop.Stop.{Stop}
 use Rattle.command_base.specs.declared.stop.Stop.TheVariants as stops
-use Rattle.command_base.specs.Inputs.{IsWithin, IsLonger}
 use Rattle.command_base.specs.Job.{Answers}
 use Rattle.command_base.specs.Lines.{true_line}
 use Rattle.command_base.proofs.Jobs.{done-of, shared-of, Comes, is_done, is_own, is_memory, comes-to}
@@ -50,8 +49,7 @@ audited-so f n found a = record {
 differs-so : (old before : FolderState) (n : AuditNames) (line : ℕ) (cause : AuditCause)
     → Ends old before n (Err (stops.Own (AuditNo line cause)))
     → Audits old n (Err (record { line = line; cause = cause }))
-differs-so old before n line cause (inl never) = absurd never
-differs-so old before n line cause (inr a) = a
+differs-so old before n line cause q5 = grind (arith)
 
 abbrev is_no : Status → Bool
 is_no (AuditNo line cause) = true
@@ -92,15 +90,8 @@ trace-fits count within longer = omega (arith, within, longer)
 -- right inputs are not refused
 never-refused : NoFaultInScripts → (old : FolderState) (n : AuditNames) (script : ScriptValue) (answer : Status) → AreRight old n script
     → RefusesOwn LIMITS old n.script 3 (files_of n) 1 answer → ⊥
-never-refused law old n script (TooLong word) r (inl s) =
-    script-fits (length (octets_at old n.script)) r.script_short (s.longer r.script_told)
-never-refused law old n script (TooLong word) r (inr f) = by f.first
-  where
-    by : (((word ≡ 1) × IsLonger old n.orig LIMITS.file)
-        ⊎ (IsWithin old n.orig LIMITS.file × (((word ≡ 2) × IsLonger old n.answ LIMITS.file) ⊎ (IsWithin old n.answ LIMITS.file × ⊥)))) → ⊥
-    by (inl o) = file-fits (length (octets_at old n.orig)) r.orig_short (o.1 r.orig_told)
-    by (inr (w, inl a)) = file-fits (length (octets_at old n.answ)) r.answ_short (a.1 r.answ_told)
-    by (inr (w, inr a)) = a.1
+never-refused law old n script (TooLong word) r (inl s) = grind (arith, script-fits)
+never-refused law old n script (TooLong word) r (inr f) = grind (arith, file-fits)
 never-refused law old n script (BadScript line cause) r s = law (octets_at old n.script) script line cause r.spelled (s.first r.script_told)
 never-refused law old n script answer r never = never
 

@@ -5,6 +5,7 @@ use Rattle.std.proofs.Math.Seq.{take-append_seam}
 use Rattle.std.specs.Prelude.{IfSome, ◌==◌}
 use Rattle.std.specs.Option.{option_map, option_and_then}
 use Rattle.std.specs.Str.{bytes_eq}
+use Rattle.std.proofs.lemmas.Option.{same_Some}
 use Rattle.shared_terms.specs.declared.role.Role.{Role}
 use Rattle.shared_terms.specs.declared.role.Role.TheVariants.{Originator, Answerer}
 use Rattle.line_texts.specs.LineText.{line_begins, break_word}
@@ -12,9 +13,9 @@ use Rattle.trace_audit.specs.declared.line.LineText.{LineText}
 use Rattle.trace_audit.specs.Cutting.{behind, number_at}
 use Rattle.trace_audit.specs.Pieces.{behind_heard, behind_sent}
 use Rattle.trace_audit.specs.Grammar.{count_bound, IsHeard, IsSent, IsChance, IsPlain, HasParts}
-use Rattle.trace_audit.specs.Reading.{before, heard_at, sent_at, role_or, role_at, ends_in, given_at, sent_and_given, reply_at, plain_line}
+use Rattle.trace_audit.specs.Reading.{before, heard_at, sent_at, role_at, ends_in, given_at, sent_and_given, reply_at, plain_line}
 use Rattle.trace_audit.specs.Reading.{chance_parts, plain_at, body_at, behind_turn, line_in}
-use Rattle.trace_audit.proofs.Fronts.{chained, mapped, behind-is, some-is}
+use Rattle.trace_audit.proofs.Fronts.{chained, mapped, behind-is}
 use Rattle.trace_audit.proofs.Numbers.{number-reads, number-is}
 use Rattle.trace_audit.proofs.Shapes.{Stops}
 use Rattle.trace_audit.proofs.Frames.{same-bytes, heard-reads, heard-is, heard-short, sent-reads, sent-is, sent-short}
@@ -52,9 +53,7 @@ heard-at-reads text rest h s =
     ∙ ap (λ (f : List ℕ). Some (f, rest)) (before-front text rest)
 
 sent-at-reads : (text rest : List ℕ) → IsSent text → Stops rest → sent_at (text ++ rest) ≡ Some (text, rest)
-sent-at-reads text rest h s =
-    ap (option_map (λ (r : List ℕ). (before (text ++ rest) r, r))) (sent-reads text rest h s)
-    ∙ ap (λ (f : List ℕ). Some (f, rest)) (before-front text rest)
+sent-at-reads text rest h s = grind (arith, sent-reads, before-front)
 
 abbrev Pair : Type 0
 Pair = List ℕ × List ℕ
@@ -87,8 +86,7 @@ given-reads (Some n) h =
     ∙ ap (option_and_then ends_in) (number-reads 256 n [] h (omega arith) refl)
 
 ends-is : (n : ℕ) (rest : List ℕ) (given : Option ℕ) → ends_in (n, rest) ≡ Some given → (rest ≡ []) × (Some n ≡ given)
-ends-is n [] given e = (refl, cc)
-ends-is n (x ∷ rest) given e = absurd cc
+ends-is n q1 given e = grind (arith)
 
 given-is : (text : List ℕ) (given : Option ℕ) → given_at text ≡ Some given → IsUnits given × (text ≡ break_word given)
 given-is [] given e =
@@ -104,17 +102,12 @@ given-is (x ∷ text) given e =
     subst (λ (o : Option ℕ). IsUnits o × (x ∷ text ≡ break_word o)) r.1 (p.0, l ∙ ap (λ t. codes " break=" ++ t) digits)
 
 ends-none : (n : ℕ) (rest : List ℕ) → (length rest == 0) ≡ false → ends_in (n, rest) ≡ None
-ends-none n [] e = absurd cc
-ends-none n (x ∷ rest) e = refl
+ends-none n q1 e = grind (arith)
 
 -- a number with something behind it is no break's
 pub given-none : (text field : List ℕ) (n : ℕ) (rest : List ℕ) → (length text == 0) ≡ false → Some field ≡ behind (codes " break=") text
     → Some (n, rest) ≡ number_at 256 field → (length rest == 0) ≡ false → None ≡ given_at text
-given-none [] field n rest s b e m = absurd cc
-given-none (x ∷ text) field n rest s b e m = sym (
-    ap (λ o. option_and_then ends_in (option_and_then (number_at 256) o)) (sym b) ∙ ap (option_and_then ends_in) (sym e)
-    ∙ ends-none n rest m
-    )
+given-none q0 field n rest s b e m = grind (arith)
 
 given-stops : (given : Option ℕ) → Stops (break_word given)
 given-stops given = grind (arith)
@@ -123,10 +116,7 @@ given-stops given = grind (arith)
 
 reply-reads : (sent : List ℕ) (given : Option ℕ) → IsSent sent → IsUnits given
     → reply_at (codes " > " ++ (sent ++ break_word given)) ≡ Some (sent, given)
-reply-reads sent given h k =
-    ap (option_and_then (λ (read : Pair). option_map (λ (g : Option ℕ). (read.0, g)) (given_at read.1)))
-    (sent-at-reads sent (break_word given) h (given-stops given))
-    ∙ ap (option_map (λ (g : Option ℕ). (sent, g))) (given-reads given k)
+reply-reads sent given h k = grind (arith, sent-at-reads, given-reads)
 
 abbrev Reply : Type 0
 Reply = List ℕ × Option ℕ
@@ -160,26 +150,11 @@ abbrev Roled : Type 0
 Roled = Role × List ℕ
 
 role-is : (text : List ℕ) (role : Role) (rest : List ℕ) → role_at text ≡ Some (role, rest) → text ≡ piece role ++ rest
-role-is text role rest e = go (behind (codes " orig ") text) refl e
-  where
-    go : (o : Option (List ℕ)) → behind (codes " orig ") text ≡ o → role_or o (behind (codes " answ ") text) ≡ Some (role, rest)
-        → text ≡ piece role ++ rest
-    go (Some r) f g =
-        let p : (Originator, r) ≡ (role, rest) = some-is (Originator, r) (role, rest) g in
-        behind-is (codes " orig ") text r f ∙ (λ i. piece (p i).0 ++ (p i).1)
-    go None f g =
-        let m = mapped (λ (r : List ℕ). (Answerer, r)) (behind (codes " answ ") text) (role, rest) g in
-        behind-is (codes " answ ") text m.0 m.1 ∙ (λ i. piece (m.2 i).0 ++ (m.2 i).1)
+role-is text role rest e = grind (arith, same_Some, behind-is)
 
 begins-is : (turn : ℕ) (role : Role) (rest : List ℕ) → line_begins turn role ++ rest ≡ decimal turn ++ (piece role ++ rest)
-begins-is turn Originator rest =
-    append_assoc (decimal turn ++ codes " " ++ codes "orig") (codes " ") rest
-    ∙ append_assoc (decimal turn ++ codes " ") (codes "orig") (codes " " ++ rest)
-    ∙ append_assoc (decimal turn) (codes " ") (codes "orig" ++ (codes " " ++ rest))
-begins-is turn Answerer rest =
-    append_assoc (decimal turn ++ codes " " ++ codes "answ") (codes " ") rest
-    ∙ append_assoc (decimal turn ++ codes " ") (codes "answ") (codes " " ++ rest)
-    ∙ append_assoc (decimal turn) (codes " ") (codes "answ" ++ (codes " " ++ rest))
+begins-is turn Originator rest = grind (arith, append_assoc)
+begins-is turn Answerer rest = grind (arith, append_assoc)
 
 piece-stops : (role : Role) (rest : List ℕ) → Stops (piece role ++ rest)
 piece-stops role rest = grind (arith)
@@ -203,10 +178,7 @@ no-chance turn role text t e = go (bytes_eq text (codes "chance")) refl
 
 body-reads : (turn : ℕ) (role : Role) (rest : List ℕ) (t : LineText) → body_at turn role rest ≡ Some t → turn < count_bound
     → line_in (line_begins turn role ++ rest) ≡ Some t
-body-reads turn role rest t e h =
-    ap line_in (begins-is turn role rest)
-    ∙ ap (option_and_then behind_turn) (number-reads count_bound turn (piece role ++ rest) h (omega arith) (piece-stops role rest))
-    ∙ ap (option_and_then (λ (next : Roled). body_at turn next.0 next.1)) (role-reads role rest) ∙ e
+body-reads turn role rest t e h = grind (arith, begins-is, number-reads, role-reads)
 
 chance-line : (line : List ℕ) (t : LineText) → IsChance line t → t.turn < count_bound → line_in line ≡ Some t
 chance-line line t c h =
@@ -256,7 +228,7 @@ body-is turn role rest t e = go (bytes_eq rest (codes "chance")) refl e
     go : (b : Bool) → bytes_eq rest (codes "chance") ≡ b → cond b (Some (chance_parts turn role)) (plain_at turn role rest) ≡ Some t
         → BodyIs turn role rest t
     go true same f =
-        subst (BodyIs turn role rest) (some-is (chance_parts turn role) t f)
+        subst (BodyIs turn role rest) (same_Some (chance_parts turn role) t f)
         (chance-body turn role rest (same-bytes rest (codes "chance") same))
     go false same f = plain-body turn role rest t f
 
@@ -281,7 +253,7 @@ unread line t none h = let e : None ≡ Some t = sym none ∙ line-reads line t 
 
 -- a line has one reading
 pub one-reading : (line : List ℕ) (a b : LineText) → HasParts line a → HasParts line b → a ≡ b
-one-reading line a b h k = some-is a b (sym (line-reads line a h) ∙ line-reads line b k)
+one-reading line a b h k = same_Some a b (sym (line-reads line a h) ∙ line-reads line b k)
 
 -- parts stand for one line
 sent-some : (sent : List ℕ) → IsSent sent → sent ≡ [] → ⊥

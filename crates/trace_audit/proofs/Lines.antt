@@ -2,6 +2,7 @@
 use Rattle.std.proofs.Common.{◌≡◌, ◌≢◌, ℕ, ◌+◌, ◌<◌, List, [], ◌∷◌, ◌++◌, length, take, drop}
 use Rattle.std.proofs.Common.{refl, sym, ap, subst, ◌∙◌, arith, append_assoc, length-append, append-nil}
 use Rattle.std.proofs.Math.Seq.{drop-append_seam}
+use Rattle.std.proofs.lemmas.List.{nil_from_length}
 use Rattle.trace_audit.specs.Differences.{fed, text_of, GoesOnWith, LineDiffers, RestDiffers, FirstDiffers}
 use Rattle.trace_audit.specs.Compared.{HasLines, DiffersIn}
 use Rattle.shared_terms.specs.declared.audit_cause.AuditCause.{AuditCause}
@@ -17,8 +18,7 @@ more-text lines line = text_of-append lines (line ∷ []) ∙ ap (λ t. text_of 
 module _ (text : List ℕ) (lines : List (List ℕ)) where
   -- what stands behind the lines
   pub behind-lines : (at count : ℕ) (h : HasLines text lines at count) → drop at text ≡ h.rest
-  behind-lines at count h =
-      ap (λ t. drop at t) h.text_is ∙ ap (λ n. drop n (text_of lines ++ h.rest)) h.at_is ∙ drop-append_seam (text_of lines) h.rest
+  behind-lines at count h = grind (arith, drop-append_seam)
 
   pub agrees-more : (at count : ℕ) (line : List ℕ) → HasLines text lines at count → GoesOnWith line (drop at text)
       → HasLines text (lines ++ line ∷ []) (at + length line + 1) (count + 1)
@@ -86,12 +86,10 @@ module _ (text : List ℕ) (lines : List (List ℕ)) where
 
   -- no octet stands behind the lines, or one does
   none-behind : (rest : List ℕ) → take 1 rest ≡ [] → rest ≡ []
-  none-behind [] e = refl
-  none-behind (x ∷ rest) e = absurd cc
+  none-behind q0 e = grind (arith)
 
   some-behind : (rest : List ℕ) → take 1 rest ≢ [] → 0 < length rest
-  some-behind [] e = absurd (e refl)
-  some-behind (x ∷ rest) e = omega arith
+  some-behind q0 e = grind (arith)
 
   pub all-there : (at count : ℕ) (behind : List ℕ) → HasLines text lines at count → behind ≡ take 1 (drop at text) → behind ≡ []
       → (text ≡ text_of lines) × (count ≡ length lines)
@@ -151,16 +149,12 @@ front-same [] b c e = e
 front-same (x ∷ a) b c e = front-same a b c (ap (λ (t : List ℕ). drop 1 t) e)
 
 nothing-behind : (a b c : List ℕ) → a ++ b ++ c ≡ a → c ≡ []
-nothing-behind a b c e = none c (omega (
+nothing-behind a b c e = nil_from_length c (omega (
   arith,
   ap (λ (t : List ℕ). length t) e,
   length-append {A = ℕ} (a ++ b) c,
   length-append {A = ℕ} a b,
 ))
-  where
-    none : (c : List ℕ) → length c ≡ 0 → c ≡ []
-    none [] h = refl
-    none (x ∷ c) h = absurd (omega (arith, h))
 
 -- a text that goes on with a line doesn't differ from it
 pub no-difference : (line rest : List ℕ) (cause : AuditCause) → GoesOnWith line rest → LineDiffers line rest cause → ⊥
@@ -171,16 +165,7 @@ no-difference line rest another g d = d.other g
 pub not-before : (lines : List (List ℕ)) (text : List ℕ) (m n : ℕ) (c d : AuditCause) (a : FirstDiffers lines text m c)
     (b : FirstDiffers lines text n d)
     → length a.before < length b.before → ⊥
-not-before lines text m n c d a b h =
-    let s = split-more a.before a.more b.before b.more (sym a.lines_is ∙ b.lines_is) h in
-    let e : text_of a.before ++ a.rest ≡ text_of a.before ++ (fed s.0 ++ (text_of s.3 ++ b.rest)) =
-    sym a.text_is ∙ b.text_is ∙ ap (λ l. text_of l ++ b.rest) s.4
-    ∙ ap (λ t. t ++ b.rest) (text_of-append a.before (s.0 ∷ s.3))
-    ∙ append_assoc (text_of a.before) (fed s.0 ++ text_of s.3) b.rest
-    ∙ ap (λ t. text_of a.before ++ t) (append_assoc (fed s.0) (text_of s.3) b.rest) in
-    let g : GoesOnWith s.0 a.rest = (text_of s.3 ++ b.rest, front-same (text_of a.before) a.rest (fed s.0 ++ (text_of s.3 ++ b.rest)) e) in
-    let differs : LineDiffers s.0 a.rest c = subst (λ more. RestDiffers more a.rest c) s.2 a.differs in
-    no-difference s.0 a.rest c g differs
+not-before lines text m n c d a b h = grind (arith, split-more, text_of-append, append_assoc, front-same, no-difference)
 
 -- a text that is the lines' doesn't differ
 pub same-text : (lines : List (List ℕ)) (text : List ℕ) (n : ℕ) (c : AuditCause) → text ≡ text_of lines → FirstDiffers lines text n c → ⊥

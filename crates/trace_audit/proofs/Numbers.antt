@@ -1,10 +1,10 @@
 -- Numbers in decimal digits without leading zeros.
-use Rattle.std.proofs.Common.{◌≡◌, ℕ, zero, suc, ◌^◌, ◌<◌, ◌≤◌, Bool, true, false, not, ◌&&◌, cond, eqb, List, [], ◌∷◌, ◌++◌, length}
+use Rattle.std.proofs.Common.{◌≡◌, ℕ, zero, suc, ◌^◌, ◌<◌, ◌≤◌, Bool, true, false, ◌&&◌, cond, List, [], ◌∷◌, ◌++◌, length}
 use Rattle.std.proofs.Common.{get_or, Option, Some, None, refl, sym, ap, subst, ◌∙◌, arith, append_assoc}
 use Rattle.std.specs.Prelude.{decimal, nat_le, nat_lt}
 use Rattle.std.specs.List.{list_all}
 use Rattle.std.specs.Option.{option_map, option_and_then}
-use Rattle.std.proofs.lemmas.Bool.{and_parts}
+use Rattle.std.proofs.lemmas.Bool.{and_parts, lt-ltb, le-ltb}
 use Rattle.std.proofs.lemmas.Bool.Decides.{nat_tests}
 use Rattle.std.proofs.lemmas.Fmt.{digits_decimal, digits_value-decimal, decimal-digits_value, first_decimal, decimal_digit}
 use Rattle.noise_script.specs.Numbers.{is_digit, is_number, value_of, leads_well, plain_number}
@@ -15,11 +15,7 @@ use Rattle.trace_audit.proofs.Fronts.{chained, mapped, behind-reads, behind-is, 
 -- a zero leads no other digit
 no-zero : (word : List ℕ) → 48 < get_or word 0 0 → leads_well word ≡ true
 no-zero [] h = refl
-no-zero (x ∷ word) h = let e : eqb x 48 ≡ false = grind (arith, nat_tests, h) in go (nat_le 2 (length (x ∷ word))) (eqb x 48) e
-  where
-    go : (a b : Bool) → b ≡ false → not (a && b) ≡ true
-    go true b e = rw e refl
-    go false b e = refl
+no-zero (x ∷ word) h = grind (arith, nat_tests)
 
 alone : (word : List ℕ) → length word ≤ 1 → leads_well word ≡ true
 alone word h = let e : nat_le 2 (length word) ≡ false = grind (arith, nat_tests, h) in rw e refl
@@ -28,13 +24,10 @@ leads : (n : ℕ) → IsSmall n → leads_well (decimal n) ≡ true
 leads zero h = alone (decimal 0) (omega (arith, ap (λ (l : List ℕ). length l) (decimal_digit 0 (omega arith))))
 leads (suc n) h = no-zero (decimal (suc n)) (first_decimal (suc n) (omega arith) h)
 
-below-is : (n m : ℕ) → n < m → nat_lt n m ≡ true
-below-is n m h = grind (arith, nat_tests, h)
-
 pub plain-reads : (n : ℕ) → IsSmall n → plain_number (decimal n) ≡ Some n
 plain-reads n h =
     let v : value_of (decimal n) ≡ n = digits_value-decimal numerals n h in
-    rw (is-number n h, leads n h, v, below-is n (2 ^ 64) h) refl
+    rw (is-number n h, leads n h, v, lt-ltb n (2 ^ 64) h) refl
 
 -- the tests of a word, where all pass
 tested : (a b c : Bool) (v n : ℕ) → cond (a && (b && c)) (Some v) None ≡ Some n → (a ≡ true) × (b ≡ true) × (c ≡ true) × (v ≡ n)
@@ -43,13 +36,7 @@ tested a b c v n e = grind (arith)
 led : (word : List ℕ) → leads_well word ≡ true → 0 < length word → get_or word 0 0 ≡ 48 → length word ≡ 1
 led [] l h z = omega (arith, h)
 led (x ∷ []) l h z = refl
-led (x ∷ y ∷ word) l h z = absurd
-    (go (eqb x 48) (grind (arith, nat_tests, z)) (nat_le 2 (length (x ∷ y ∷ word))) (is-most 2 (length (x ∷ y ∷ word)) (omega arith)) l)
-  where
-    go : (b : Bool) → b ≡ true → (a : Bool) → a ≡ true → not (a && b) ≡ true → ⊥
-    go true e true f l = cc
-    go true e false f l = cc
-    go false e a f l = cc
+led (x ∷ y ∷ word) l h z = grind (arith, nat_tests, is-most)
 
 pub plain-is : (word : List ℕ) (n : ℕ) → plain_number word ≡ Some n → word ≡ decimal n
 plain-is word n e =
@@ -66,9 +53,6 @@ bounded n bound m e = go (nat_lt n bound) refl e
     go : (b : Bool) → nat_lt n bound ≡ b → cond b (Some n) None ≡ Some m → (n ≡ m) × (m < bound)
     go b t e = grind (arith)
 
-past-is : (n m : ℕ) → m ≤ n → nat_lt n m ≡ false
-past-is n m h = grind (arith, nat_tests, h)
-
 -- ---- at the front of a text
 
 -- none is read, or one below the bound, or past it
@@ -78,10 +62,10 @@ read-none bound text e = ap (λ (o : Option ℕ). option_map (λ n. (n, rest_of 
 pub read-below : (bound n : ℕ) (text rest : List ℕ) → Some n ≡ plain_number (front_of is_digit text) → rest ≡ rest_of is_digit text
     → n < bound
     → Some (n, rest) ≡ number_at bound text
-read-below bound n text rest e r h = rw (sym e, r, below-is n bound h) refl
+read-below bound n text rest e r h = rw (sym e, r, lt-ltb n bound h) refl
 
 pub read-past : (bound n : ℕ) (text : List ℕ) → Some n ≡ plain_number (front_of is_digit text) → bound ≤ n → None ≡ number_at bound text
-read-past bound n text e h = rw (sym e, past-is n bound h) refl
+read-past bound n text e h = rw (sym e, le-ltb n bound h) refl
 
 pub number-reads : (bound n : ℕ) (rest : List ℕ) → n < bound → bound ≤ 2 ^ 64 → begins is_digit rest ≡ false
     → number_at bound (decimal n ++ rest) ≡ Some (n, rest)
@@ -92,7 +76,7 @@ number-reads bound n rest h fits stops =
       front-reads is_digit (decimal n) rest digits stops,
       rest-reads is_digit (decimal n) rest digits stops,
       plain-reads n small,
-      below-is n bound h,
+      lt-ltb n bound h,
     ) refl
 
 pub number-is : (bound : ℕ) (text : List ℕ) (n : ℕ) (rest : List ℕ) → number_at bound text ≡ Some (n, rest)
@@ -124,9 +108,7 @@ behind-number-is bound text rest e =
 -- behind a label
 pub labelled-reads : (label : List ℕ) (bound n : ℕ) (rest : List ℕ) → n < bound → bound ≤ 2 ^ 64 → begins is_digit rest ≡ false
     → behind_labelled label bound ((label ++ decimal n) ++ rest) ≡ Some rest
-labelled-reads label bound n rest h fits stops =
-    ap (λ t. option_and_then (behind_number bound) (behind label t)) (append_assoc label (decimal n) rest)
-    ∙ ap (option_and_then (behind_number bound)) (behind-reads label (decimal n ++ rest)) ∙ behind-number-reads bound n rest h fits stops
+labelled-reads label bound n rest h fits stops = grind (arith, append_assoc, behind-reads, behind-number-reads)
 
 pub labelled-is : (label : List ℕ) (bound : ℕ) (text rest : List ℕ) → behind_labelled label bound text ≡ Some rest
     → (n : ℕ) × (n < bound) × (text ≡ (label ++ decimal n) ++ rest)

@@ -32,11 +32,7 @@ use Rattle.trace_audit.specs.Ends.{AreOpen, IsBegun, Takes, Audits, FailsLater, 
 -- the script or a file was not taken
 pub refused-first : (old new : FolderState) (n : AuditNames) (stop : Stop) → Refuses LIMITS old new n.script 3 (files_of n) 1 stop
     → EndsBy old new n stop
-refused-first old new n (stops.Own answer) r = inl r
-refused-first old new n (stops.Read fault) r = inl r
-refused-first old new n (stops.Write fault) r = absurd r
-refused-first old new n (stops.Say fault) r = absurd r
-refused-first old new n stops.NoMemory r = r
+refused-first old new n q3 r = grind (arith)
 
 -- nor was the trace
 pub refused-trace : (old mid new : FolderState) (n : AuditNames) (script : ScriptValue) (stop : Stop) → AreOpen old n script
@@ -58,20 +54,12 @@ refused-trace old mid new n script other are r stand h = absurd h
 -- of the script and the files
 pub counts-first : (a b : FolderState) (n : AuditNames) (stop : Stop) → StopCounts a b (n.orig ∷ n.answ ∷ n.script ∷ []) [] stop
     → StopCounts a b (inputs_of n) [] stop
-counts-first a b n (stops.Own answer) h = h
-counts-first a b n (stops.Read folder.Failed) (inl o) = inl o
-counts-first a b n (stops.Read folder.Failed) (inr (inl w)) = inr (inl w)
-counts-first a b n (stops.Read folder.Failed) (inr (inr (inl s))) = inr (inr (inl s))
-counts-first a b n (stops.Read folder.Failed) (inr (inr (inr never))) = absurd never
-counts-first a b n other h = h
+counts-first a b n other h = grind (arith)
 
 -- of the trace
 pub counts-trace : (a b : FolderState) (n : AuditNames) (stop : Stop) → IsNotWithin a b n.trace 16777216 4 stop
     → StopCounts a b (inputs_of n) [] stop
-counts-trace a b n (stops.Own answer) h = subst (λ (s : Status). StopCounts a b (inputs_of n) [] (stops.Own s)) (sym h.0) (tt, h.2)
-counts-trace a b n (stops.Read folder.Failed) h = inr (inr (inr h))
-counts-trace a b n (stops.Read folder.NoMemory) h = h
-counts-trace a b n other h = absurd h
+counts-trace a b n other h = grind (arith)
 
 pub end-turns : (a b : FolderState) (n : AuditNames) (end : Result ℕ Stop) → EndCounts a b (n.orig ∷ n.answ ∷ n.trace ∷ []) [] end
     → EndCounts a b (inputs_of n) [] end

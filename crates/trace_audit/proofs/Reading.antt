@@ -1,5 +1,5 @@
 -- Both lines of a turn are lines that are read.
-use Rattle.std.proofs.Common.{◌≡◌, ℕ, ◌<◌, ◌≤◌, ◌^◌, Bool, true, false, cond, nat_lt, List, [], ◌∷◌, length, slice_index_or, arith, refl}
+use Rattle.std.proofs.Common.{◌≡◌, ℕ, ◌<◌, ◌≤◌, ◌^◌, true, false, List, [], ◌∷◌, length, arith, refl}
 use Rattle.std.proofs.Common.{sym, ◌∙◌, subst, Option, Some, None}
 use Rattle.std.specs.Prelude.{IfSome, unwrap_or}
 use Rattle.std.specs.Option.{option_map}
@@ -15,7 +15,7 @@ use Rattle.lapm_frames.specs.declared.sent.Sent.TheVariants as slots
 use Rattle.lapm_frames.specs.declared.heard.Heard.{Heard}
 use Rattle.lapm_frames.specs.declared.heard.Heard.TheVariants.{Nothing, Passed, Lost, Chance}
 use Rattle.noise_script.specs.Script.{ScriptValue, IsInLimits, delay_of}
-use Rattle.link_account.specs.Account.{Account, is_connected, given_break}
+use Rattle.link_account.specs.Account.{Account, given_break}
 use Rattle.link_run.specs.Run.{Accounts, Spoken, Turn}
 use Rattle.link_run.specs.Carried.{sent_ago, has_message, Crosses, Carries}
 use Rattle.link_run.specs.Outcomes.{Outcome, Going, TurnIs}
@@ -30,7 +30,6 @@ use Rattle.trace_audit.specs.Readable.{line_of, LinesAreRead}
 use Rattle.line_run.proofs.Slots.{SentAgo, sent-ago}
 use Rattle.line_run.proofs.Leaving.{hearing-in}
 use Rattle.line_ends.proofs.Words.{Owes}
-use Rattle.line_ends.proofs.Saying.{octet-at}
 use Rattle.line_ends.proofs.Slots.{plain-sent, short-sent}
 use Rattle.line_ends.proofs.Sending.{SendLaws, HoldBoth, holds-all, mid-holds-at}
 
@@ -46,11 +45,7 @@ abbrev IsShort : Sent → Type 0
 IsShort s = (frame : Frame) → s ≡ slots.Frame frame → length (information_of frame) ≤ INFO
 
 signal-read : (s : Sent) → has_message s ≡ true → IsPlainSent s → IsShort s → IsReadableSignal s
-signal-read slots.Mark m p f = absurd cc
-signal-read slots.Odp m p f = tt
-signal-read slots.Adp m p f = tt
-signal-read slots.Flags m p f = absurd cc
-signal-read (slots.Frame frame) m p f = frame-read frame p (f frame refl)
+signal-read q0 m p f = grind (arith)
 
 -- what was sent is read where it is heard
 abbrev IsKnown : Option Spoken → Type 0
@@ -70,13 +65,7 @@ heard-read (Some slot) Chance c f = absurd c
 
 -- a break that is given is an octet
 given-read : (a : Account) → Owes a → IfSome (given_break a) (λ units. units < 256)
-given-read a h = go (is_connected a.phase) (nat_lt a.breaks_told (length a.their_breaks.lengths))
-  where
-    go : (b c : Bool)
-        → IfSome (cond b (cond c (Some (slice_index_or a.their_breaks.lengths a.breaks_told 0)) None) None) (λ units. units < 256)
-    go true true = octet-at a.their_breaks.lengths a.breaks_told h.1
-    go true false = tt
-    go false c = tt
+given-read a h = grind (arith)
 
 module _ (laws : SendLaws) (script : ScriptValue) (files : Both (List ℕ)) (ts : List Turn) (ends : Accounts) (h : IsInLimits script)
     (o : AsksInOctets script) (r : LineRun (wire_of script) (link_of script files) ts ends) where

@@ -1,9 +1,8 @@
 -- The turns of an audit, one after the other, up to what is found.
-use Rattle.std.proofs.Common.{◌≡◌, inl, inr, ℕ, ◌+◌, ◌*◌, ◌<◌, ◌^◌, Bool, true, false, List, [], ◌∷◌, ◌++◌, length, Result, Ok, Err, refl}
+use Rattle.std.proofs.Common.{◌≡◌, ℕ, ◌+◌, ◌*◌, ◌<◌, ◌^◌, Bool, true, false, List, [], ◌∷◌, ◌++◌, length, Result, Ok, Err, refl}
 use Rattle.std.proofs.Common.{sym, ◌∙◌, ap, subst, take, arith, length-append}
 use Rattle.std.specs.Prelude.{IsTrue, MatchResult}
 use Rattle.outside_calls.specs.Folder.{FolderState, OnlyReads, CountsStand}
-use Rattle.outside_calls.specs.declared.folder.FolderFault.TheVariants as folder
 use Rattle.outside_calls.proofs.Steps.{octets-kept}
 use Rattle.outside_calls.proofs.OnlyOutputs.{told_earlier}
 use Rattle.outside_calls.proofs.Putting.{OnlyPuts-reads}
@@ -17,21 +16,19 @@ use Rattle.line_world.specs.declared.world.World.{World}
 use Rattle.line_world.proofs.Folders.{IsApart}
 use Rattle.line_world.proofs.Reached.{knows-later, knows-told, files_at}
 use Rattle.command_base.specs.declared.stop.Stop.{Stop}
-use Rattle.command_base.specs.declared.stop.Stop.TheVariants as stops
 use Rattle.command_base.specs.Stops.{StopCounts, EndCounts}
 use Rattle.trace_audit.specs.Differences.{text_of, FirstDiffers, IsCut}
 use Rattle.trace_audit.specs.Compared.{Compared, HasWindow, IsFew, audited, trace_limit}
 use Rattle.trace_audit.specs.declared.comparison.Comparison.{Comparison}
 use Rattle.trace_audit.specs.declared.comparison.Difference.{Difference}
-use Rattle.trace_audit.specs.Lines.{trace_lines, turn_lines}
+use Rattle.trace_audit.specs.Lines.{trace_lines}
 use Rattle.trace_audit.specs.Verdict.{IsFound}
 use Rattle.trace_audit.specs.Turns.{ComesTo, TurnMade, AreCompared, HasFew, IsReading, RunFound, RunIs, found_end, audit_inputs}
 
 -- two lines a turn
 trace-count : (ts : List Turn) → length (trace_lines ts) ≡ 2 * length ts
 trace-count [] = refl
-trace-count (t ∷ ts) =
-    omega (arith, trace-count ts, length-append {A = List ℕ} (trace_lines ts) (turn_lines (length ts) t))
+trace-count (t ∷ ts) = grind (arith, length-append, trace-count ts)
 
 -- what was read doesn't change what is known
 knows-read : (a b : FolderState) (n : Written) (files : Both (List ℕ)) → IsApart n → OnlyReads a b → KnowsFiles a n files
@@ -126,18 +123,12 @@ compared-none w f n trace c first compared few = record {
 -- the trace is an input too
 pub trace-counts : (a b : FolderState) (n : Written) (trace : List ℕ) (stop : Stop) → StopCounts a b (trace ∷ []) [] stop
     → StopCounts a b (audit_inputs n trace) [] stop
-trace-counts a b n trace (stops.Own answer) h = h
-trace-counts a b n trace (stops.Read folder.Failed) h = inr (inr h)
-trace-counts a b n trace other h = h
+trace-counts a b n trace other h = grind (arith)
 
 -- so are the files
 pub files-counts : (a b : FolderState) (n : Written) (trace : List ℕ) (stop : Stop) → StopCounts a b (inputs_of n) [] stop
     → StopCounts a b (audit_inputs n trace) [] stop
-files-counts a b n trace (stops.Own answer) h = h
-files-counts a b n trace (stops.Read folder.Failed) (inl orig) = inl orig
-files-counts a b n trace (stops.Read folder.Failed) (inr (inl answ)) = inr (inl answ)
-files-counts a b n trace (stops.Read folder.Failed) (inr (inr never)) = absurd never
-files-counts a b n trace other h = h
+files-counts a b n trace other h = grind (arith)
 
 pub found-counts : (a b : FolderState) (inputs : List (List ℕ)) (found : Result ℕ Difference) → CountsStand a b
     → EndCounts a b inputs [] (found_end found)
@@ -194,9 +185,7 @@ module _ (v : World) (mid new : FolderState) (n : Written) (trace : List ℕ) (c
 -- what stops an audit before anything is found
 pub stops-so : (script : ScriptValue) (f : FolderState) (n : Written) (trace : List ℕ) (stop : Stop) → IsReading stop
     → RunIs script f n trace (Err stop)
-stops-so script f n trace (stops.Read fault) h = tt
-stops-so script f n trace stops.NoMemory h = tt
-stops-so script f n trace other h = absurd h
+stops-so script f n trace other h = grind (arith)
 
 -- ---- whether a turn has stopped the audit
 

@@ -5,7 +5,7 @@ use Rattle.std.specs.Prelude.{IfSome}
 use Rattle.std.specs.Option.{option_and_then}
 use Rattle.break_signals.specs.declared.word.BreakWord.{BreakWord}
 use Rattle.break_signals.specs.declared.word.BreakWord.TheVariants.{Brk, Ack}
-use Rattle.line_texts.specs.FrameText.{kind_word, poll_word, number_word, break_words}
+use Rattle.line_texts.specs.FrameText.{kind_word, poll_word, number_word}
 use Rattle.noise_script.specs.Numbers.{is_digit}
 use Rattle.trace_audit.specs.Cutting.{behind, first_of, behind_number, behind_labelled}
 use Rattle.trace_audit.specs.Pieces.{behind_direction, behind_poll, behind_count, behind_break, behind_labelled_break, behind_information}
@@ -87,11 +87,8 @@ labelled-break-is label text rest e =
 information-reads : (word : Option BreakWord) (n : ℕ) (rest : List ℕ) → IfSome word IsBreak → n < count_bound → Stops rest
     → behind_information (information_word word n ++ rest) ≡ Some rest
 information-reads None n rest w h s = count-reads n rest h s
-information-reads (Some (Brk number units)) n rest w h s =
-    ap (λ o. first_of o (first_of (behind_labelled_break (codes " brkack ") (break_words (Brk number units) ++ rest))
-    (behind_count (break_words (Brk number units) ++ rest)))) (break-reads number units rest w.0 w.1 s)
-information-reads (Some (Ack number units)) n rest w h s =
-    ap (λ o. first_of o (behind_count (break_words (Ack number units) ++ rest))) (break-reads number units rest w.0 w.1 s)
+information-reads (Some (Brk number units)) n rest w h s = grind (arith, break-reads)
+information-reads (Some (Ack number units)) n rest w h s = grind (arith, break-reads)
 
 -- what the information is, with the count for what has none
 abbrev pub InformationIs : List ℕ → List ℕ → Type 0
@@ -130,25 +127,11 @@ shape-reads Supervisory w rest r s =
     (direction-reads w.command (nr ++ (poll_word w.pf ++ rest)))
     (labelled-reads (codes " r=") number_bound w.nr (poll_word w.pf ++ rest) r.nr (omega arith) (poll-stops w.pf rest))
     (poll-reads w.pf rest)
-shape-reads Commanding w rest r s =
-    chain2 (behind (codes " cmd")) behind_poll behind_poll behind_poll (kind_word true) (poll_word w.pf) rest
-    (behind-reads (codes " cmd") (poll_word w.pf ++ rest)) (poll-reads w.pf rest)
-shape-reads Responding w rest r s =
-    chain2 (behind (codes " rsp")) behind_poll behind_poll behind_poll (kind_word false) (poll_word w.pf) rest
-    (behind-reads (codes " rsp") (poll_word w.pf ++ rest)) (poll-reads w.pf rest)
-shape-reads Rejecting w rest r s =
-    let n = count_word w.count in
-    chain3 (behind (codes " rsp")) behind_poll behind_count behind_poll (kind_word false) (poll_word w.pf) n rest
-    (behind-reads (codes " rsp") (poll_word w.pf ++ (n ++ rest))) (poll-reads w.pf (n ++ rest)) (count-reads w.count rest r.count s)
-shape-reads Exchanging w rest r s =
-    let n = count_word w.count in
-    chain3 behind_direction behind_poll behind_count behind_poll (kind_word w.command) (poll_word w.pf) n rest
-    (direction-reads w.command (poll_word w.pf ++ (n ++ rest))) (poll-reads w.pf (n ++ rest)) (count-reads w.count rest r.count s)
-shape-reads Unnumbered w rest r s =
-    let i = information_word w.word w.count in
-    chain3 behind_direction behind_poll behind_information behind_poll (kind_word w.command) (poll_word w.pf) i rest
-    (direction-reads w.command (poll_word w.pf ++ (i ++ rest))) (poll-reads w.pf (i ++ rest))
-    (information-reads w.word w.count rest r.word r.count s)
+shape-reads Commanding w rest r s = grind (arith, chain2, behind-reads, poll-reads)
+shape-reads Responding w rest r s = grind (arith, chain2, behind-reads, poll-reads)
+shape-reads Rejecting w rest r s = grind (arith, chain3, behind-reads, poll-reads, count-reads)
+shape-reads Exchanging w rest r s = grind (arith, chain3, direction-reads, poll-reads, count-reads)
+shape-reads Unnumbered w rest r s = grind (arith, chain3, direction-reads, poll-reads, information-reads)
 
 -- words of a shape, whatever the name
 abbrev pub ShapeIs : Shape → List ℕ → List ℕ → Type 0

@@ -1,5 +1,5 @@
 -- The text of a trace by its lines.
-use Rattle.std.proofs.Common.{◌≡◌, ℕ, List, [], ◌∷◌, ◌++◌, length, refl, sym, ap, ◌∙◌, append-nil}
+use Rattle.std.proofs.Common.{arith, ◌≡◌, ℕ, List, [], ◌∷◌, ◌++◌, refl, sym, ap, append-nil}
 use Rattle.shared_terms.specs.declared.role.Role.TheVariants.{Originator, Answerer}
 use Rattle.link_run.specs.Run.{Turn}
 use Rattle.link_run.specs.Trace.{side_line, turn_text, trace_text}
@@ -12,9 +12,7 @@ turn-cut turn t = ap (λ x. side_line turn Originator t.orig ++ x) (sym (append-
 
 trace-cut : (ts : List Turn) → trace_text ts ≡ text_of (trace_lines ts)
 trace-cut [] = refl
-trace-cut (t ∷ ts) =
-    ap (λ x. x ++ turn_text (length ts) t) (trace-cut ts) ∙ ap (λ x. text_of (trace_lines ts) ++ x) (turn-cut (length ts) t)
-    ∙ sym (text_of-append (trace_lines ts) (turn_lines (length ts) t))
+trace-cut (t ∷ ts) = grind (arith, turn-cut, text_of-append, trace-cut ts)
 
 pub texts-have-lines : TextsHaveLines
 texts-have-lines = record { turn = turn-cut; trace = trace-cut; chance = λ turn role. refl }

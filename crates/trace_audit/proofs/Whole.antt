@@ -13,7 +13,6 @@ use Rattle.break_signals.specs.declared.word.BreakWord.TheVariants.{Brk, Ack}
 use Rattle.noise_script.specs.Numbers.{is_digit}
 use Rattle.noise_script.proofs.Decimals.{at-most, both, number-all}
 use Rattle.lapm_frames.specs.declared.kind.FrameKind.{FrameKind}
-use Rattle.lapm_frames.specs.declared.kind.FrameKind.TheVariants as kinds
 use Rattle.lapm_frames.specs.Parts.{parts_of_kind}
 use Rattle.line_texts.specs.FrameText.{kind_word, poll_word, number_word}
 use Rattle.line_texts.specs.LineText.{line_begins, break_word}
@@ -54,19 +53,7 @@ abbrev IsWholeName : List ℕ → Shape → Type 0
 IsWholeName name shape = IsWhole name
 
 whole-kind : (kind : FrameKind) → IsWhole (parts_of_kind kind).name
-whole-kind kinds.I = refl
-whole-kind kinds.Rr = refl
-whole-kind kinds.Rnr = refl
-whole-kind kinds.Rej = refl
-whole-kind kinds.Srej = refl
-whole-kind kinds.Sabme = refl
-whole-kind kinds.Disc = refl
-whole-kind kinds.Ua = refl
-whole-kind kinds.Dm = refl
-whole-kind kinds.Frmr = refl
-whole-kind kinds.Xid = refl
-whole-kind kinds.Test = refl
-whole-kind kinds.Ui = refl
+whole-kind q0 = grind (arith)
 
 break-whole : (label : List ℕ) (number units : ℕ) → IsWhole label → number < 2 → units < 256
     → IsWhole (number_word label number ++ number_word (codes " ") units)

@@ -1,12 +1,12 @@
 -- What the octets that a text begins with tell of it.
-use Rattle.std.proofs.Common.{◌≡◌, ◌≢◌, ℕ, zero, suc, ◌+◌, ◌-◌, ◌<◌, ◌≤◌, Bool, true, false, not, ◌&&◌, cond, eqb, List, [], ◌∷◌, ◌++◌}
+use Rattle.std.proofs.Common.{◌≡◌, ◌≢◌, ℕ, zero, suc, ◌+◌, ◌-◌, ◌<◌, ◌≤◌, Bool, true, false, not, cond, eqb, List, [], ◌∷◌, ◌++◌}
 use Rattle.std.proofs.Common.{length, take, drop, refl, sym, ap, subst, ◌∙◌, arith, append_assoc, ◌⊎◌, inl, inr, length-append, append-nil}
 use Rattle.std.proofs.Common.{take-append-drop, length-take}
 use Rattle.std.specs.Prelude.{◌==◌}
 use Rattle.std.specs.List.{list_all}
 use Rattle.std.specs.Str.{bytes_eq}
 use Rattle.std.proofs.lemmas.Slice.Eq.{bytes_eq-Decides}
-use Rattle.std.proofs.lemmas.Bool.{and_parts, eqb-true, cases_lt}
+use Rattle.std.proofs.lemmas.Bool.{and_parts, eqb-true, cases_lt, not-false, and_from}
 use Rattle.std.proofs.lemmas.List.{take_all}
 use Rattle.trace_audit.specs.Cutting.{front_of, rest_of}
 use Rattle.trace_audit.proofs.Fronts.{begins, front-rest, front-passes, front-reads, rest-reads}
@@ -23,14 +23,11 @@ IsWhole line = list_all is_no_feed line ≡ true
 
 -- ---- tests of octets
 
-pub unnot : (b : Bool) → not b ≡ false → b ≡ true
-unnot b e = grind (arith)
-
 pub differ : (a b : List ℕ) → not (bytes_eq a b) ≡ true → a ≢ b
 differ a b e same = cc (sym e ∙ ap not ((bytes_eq-Decides a b).1 same))
 
 pub same-octets : (a b : List ℕ) → not (bytes_eq a b) ≡ false → a ≡ b
-same-octets a b e = (bytes_eq-Decides a b).0 (unnot (bytes_eq a b) e)
+same-octets a b e = (bytes_eq-Decides a b).0 (not-false (bytes_eq a b) e)
 
 pub equal : (a b : List ℕ) → bytes_eq a b ≡ true → a ≡ b
 equal a b e = (bytes_eq-Decides a b).0 e
@@ -46,8 +43,7 @@ empty [] e = refl
 empty (x ∷ xs) e = absurd (omega (arith, eqb-true (length (x ∷ xs)) 0 e))
 
 pub full : (xs : List ℕ) → (length xs == 0) ≡ false → xs ≢ []
-full [] e s = cc
-full (x ∷ xs) e s = cc
+full q0 e s = grind (arith)
 
 -- ---- the octets behind a line
 
@@ -61,24 +57,17 @@ rest-stops test (x ∷ text) = go (test x) refl (rest-stops test text)
 
 -- what stands behind a line that isn't the last begins with its line feed
 is-feed : (x : ℕ) → is_no_feed x ≡ false → x ≡ 10
-is-feed x e = eqb-true x 10 (go (eqb x 10) e)
-  where
-    go : (b : Bool) → not b ≡ false → b ≡ true
-    go b e = grind (arith)
+is-feed x e = eqb-true x 10 (not-false (eqb x 10) e)
 
 fed-behind : (behind : List ℕ) → behind ≢ [] → begins is_no_feed behind ≡ false → (tail : List ℕ) × (behind ≡ 10 ∷ tail)
-fed-behind [] some stops = absurd (some refl)
-fed-behind (x ∷ tail) some stops = (tail, ap (λ y. y ∷ tail) (is-feed x stops))
+fed-behind q0 some stops = grind (arith)
 
 cons-nil : (x : ℕ) (xs : List ℕ) → x ∷ xs ≡ [] → ⊥
 cons-nil x xs e = cc
 
 -- a front that is shorter than asked for is all
 short-front : (n : ℕ) (rest window : List ℕ) → window ≡ take n rest → length window < n → rest ≡ window
-short-front n rest window e h =
-    let l : length window ≡ length (take n rest) = ap (λ (t : List ℕ). length t) e in
-    let few : length rest ≤ n = omega (arith, l, h, length-take n rest) in
-    sym (e ∙ take_all n rest few)
+short-front n rest window e h = grind (arith, length-take, take_all)
 
 -- a front goes on with the rest
 whole-rest : (n : ℕ) (rest window : List ℕ) → window ≡ take n rest → rest ≡ window ++ drop n rest
@@ -87,10 +76,7 @@ whole-rest n rest window e = sym (take-append-drop n rest) ∙ ap (λ t. t ++ dr
 all-front : (a b : List ℕ) → IsWhole (a ++ b) → IsWhole a
 all-front [] b h = refl
 all-front (x ∷ a) b h = let p = and_parts (is_no_feed x) (list_all is_no_feed (a ++ b)) h in
-    both (is_no_feed x) (list_all is_no_feed a) p.0 (all-front a b p.1)
-  where
-    both : (p q : Bool) → p ≡ true → q ≡ true → (p && q) ≡ true
-    both p q e f = rw (e, f) refl
+    and_from (is_no_feed x) (list_all is_no_feed a) p.0 (all-front a b p.1)
 
 -- a list that isn't empty ends
 unfold-last : (front : List ℕ) (xs : List ℕ) (last : ℕ) (missing : List ℕ) → missing ≢ [] → front ++ missing ≡ xs ++ last ∷ []

@@ -21,7 +21,7 @@ use Rattle.break_signals.specs.declared.fault.BreakFault.TheVariants.{Kind, Numb
 use Rattle.break_signals.specs.Words.{word_in, spelled}
 use Rattle.break_signals.proofs.Spelling.{is_spelled_back_always}
 use Rattle.line_texts.specs.FrameText.{IsInformation, kind_word, poll_word, number_word, if_word, break_in, frame_text, information_words}
-use Rattle.line_texts.specs.LineText.{slot_word, heard_word, sent_word, break_word, is_chance, line_begins, chance_line, trace_line}
+use Rattle.line_texts.specs.LineText.{slot_word, heard_word, sent_word, break_word, is_chance, line_begins}
 use Rattle.line_texts.specs.LineText.{line_text}
 use Rattle.line_texts.specs.declared.trace_line.TraceLine.{TraceLine}
 use Rattle.trace_audit.specs.Grammar.{Shape, Numbered, Supervisory, Commanding, Responding, Rejecting, Exchanging, Unnumbered, number_bound}
@@ -53,10 +53,8 @@ few-number : (info : List ℕ) (word : BreakWord) → word_in info ≡ Ok word �
 few-number [] word e = absurd cc
 few-number (kind ∷ []) word e = of-others kind word (Length 1) (nat_eq kind 64 || nat_eq kind 96) e
 few-number (kind ∷ number ∷ []) word e = of-others kind word (Length 2) (nat_eq kind 64 || nat_eq kind 96) e
-few-number (kind ∷ number ∷ units ∷ []) word e =
-    of-three kind number units word (nat_eq kind 64 || nat_eq kind 96) (nat_eq kind 64) (nat_lt number 2) refl e
-few-number (kind ∷ number ∷ units ∷ more ∷ rest) word e =
-    of-others kind word (Length (length (kind ∷ number ∷ units ∷ more ∷ rest))) (nat_eq kind 64 || nat_eq kind 96) e
+few-number (kind ∷ number ∷ units ∷ []) word e = grind (arith, of-three)
+few-number (kind ∷ number ∷ units ∷ more ∷ rest) word e = grind (arith, of-others)
 
 is-break : (word : BreakWord) → AreOctets (spelled word) → number_in word < 2 → IsBreak word
 is-break word small few = grind (arith)
@@ -69,9 +67,7 @@ read-break info (Err fault) e small = tt
 -- ---- frames
 
 five : (n d s r p i : List ℕ) → n ++ d ++ s ++ r ++ p ++ i ≡ n ++ (d ++ (s ++ (r ++ (p ++ i))))
-five n d s r p i =
-    append_assoc (n ++ d ++ s ++ r) p i ∙ append_assoc (n ++ d ++ s) r (p ++ i) ∙ append_assoc (n ++ d) s (r ++ (p ++ i))
-    ∙ append_assoc n d (s ++ (r ++ (p ++ i)))
+five n d s r p i = grind (arith, append_assoc)
 
 abbrev of_words : List ℕ → Bool → ℕ → ℕ → Bool → ℕ → Option BreakWord → FrameWords
 of_words name command ns nr pf n word = record { name = name; command = command; ns = ns; nr = nr; pf = pf; count = n; word = word }
@@ -253,10 +249,4 @@ line-has-parts line h = go (is_chance line.arrived) refl
 
 -- the line that is written is that with its line feed
 pub line-is-fed : (line : TraceLine) → line_text line ≡ text_of_line line ++ codes "\n"
-line-is-fed line = go (is_chance line.arrived)
-  where
-    go : (b : Bool) → cond b (chance_line line.turn line.role) (trace_line line.turn line.role line.arrived line.sent line.given)
-        ≡ cond b (line_begins line.turn line.role ++ codes "chance")
-        (line_begins line.turn line.role ++ heard_word line.arrived ++ codes " > " ++ sent_word line.sent ++ break_word line.given) ++ codes
-        "\n"
-    go b = grind (arith)
+line-is-fed line = grind (arith)

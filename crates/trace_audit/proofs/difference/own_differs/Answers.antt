@@ -1,7 +1,8 @@
 use Rattle.std.proofs.Common.{refl, sym, rules}
+use Rattle.std.proofs.lemmas.Bool.{not-false}
 use denote.Enum.Bare.{same_true, differs_true}
 use Rattle.shared_terms.specs.contracts.role.Role.{the_type}
-use Rattle.trace_audit.proofs.Windows.{unnot, differ, same-octets, given-differs}
+use Rattle.trace_audit.proofs.Windows.{differ, same-octets, given-differs}
 use Rattle.trace_audit.proofs.difference.own_differs.Goals as goal
 
 pub returns-in_default : goal.returns-in_default
@@ -36,7 +37,7 @@ returns-then-ne-2 c = record {
   other_is = c.in-Ok.ensures.ok;
   differ = (
     c.if-right-other.false,
-    same_true the_type (search rules) _ _ (unnot _ (sym c.if-ne.ensures)),
+    same_true the_type (search rules) _ _ (not-false _ (sym c.if-ne.ensures)),
     differ _ _ (sym c.if-ne-2.ensures),
   );
 }
@@ -49,7 +50,7 @@ returns-then-ne-3 c = record {
   other_is = c.in-Ok.ensures.ok;
   differ = (
     c.if-right-other.false,
-    same_true the_type (search rules) _ _ (unnot _ (sym c.if-ne.ensures)),
+    same_true the_type (search rules) _ _ (not-false _ (sym c.if-ne.ensures)),
     same-octets _ _ (sym c.if-ne-2.ensures),
     differ _ _ (sym c.if-ne-3.ensures),
   );
@@ -63,7 +64,7 @@ returns-else-ne-3 c = record {
   other_is = c.in-Ok.ensures.ok;
   differ =
       let turn = c.if-right-other.false in
-      let role = same_true the_type (search rules) _ _ (unnot _ (sym c.if-ne.ensures)) in
+      let role = same_true the_type (search rules) _ _ (not-false _ (sym c.if-ne.ensures)) in
       let arrived = same-octets _ _ (sym c.if-ne-2.ensures) in
       let sent = same-octets _ _ (sym c.if-ne-3.ensures) in (
         turn,
