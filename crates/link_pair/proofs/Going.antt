@@ -173,7 +173,14 @@ module _ (delivers : HearingsDeliver) (speaks : SpeakingTakesNothing) (m : Modem
   -- the last turn, and what the outputs hold behind it
   abbrev last-turn : (outcome : Outcome) (number : ℕ) (e : turns.EndsInTurn m l c links streams old new n files ts ends outcome number)
       → EndsInTurn c (link_of c.script e.others) ts ends outcome number (left_of e.mid (trace_text (e.turn ∷ ts)))
-  last-turn outcome number e = assumption (e.number_is, e.turn, leaves-so e.mid (trace_text (e.turn ∷ ts)))
+  last-turn outcome number e = record {
+    number = e.number_is;
+    last = e.turn;
+    mid = e.mid;
+    heard = e.makes.heard;
+    is = e.makes.is;
+    leaves = leaves-so e.mid (trace_text (e.turn ∷ ts));
+  }
 
   last-held : (outcome : Outcome) (number : ℕ) (e : turns.EndsInTurn m l c links streams old new n files ts ends outcome number)
       → HoldEach new (outputs_of n) (held_of (left_of e.mid (trace_text (e.turn ∷ ts))))
@@ -257,7 +264,12 @@ module _ (delivers : HearingsDeliver) (speaks : SpeakingTakesNothing) (m : Modem
   }
 
   stopped : Stops m l c links streams old new n files ts ends → IsStopped LinkStops c new n (length ts) (Goes ts ends)
-  stopped (inl s) = assumption (s.known.known a.knows, stops-so s)
+  stopped (inl s) = record {
+    others = s.others;
+    knows = s.known.known a.knows;
+    lasts = record { run = s.makes.run; count = refl };
+    stops = stops-so s;
+  }
   stopped (inr s) = record {
     others = files;
     knows = knows-later old new n files a.apart a.only a.knows;

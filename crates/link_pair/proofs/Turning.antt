@@ -214,7 +214,15 @@ module _ (laws : PairLaws) (x : Pair) (h : Half) (l : Lines) (old new : FolderSt
           second_known = known-beside old new m n a.others beside around.only a.second_known;
           left = k.left;
           leaves = left_by a.q;
-          runs = by_line First x.round cause (assumption (k.leaves, leaves-none a.q)) refl;
+          runs = by_line First x.round cause (record {
+            p = a.p;
+            q = a.q;
+            at = a.at;
+            going = a.going;
+            is = k.is;
+            first_leaves = k.leaves;
+            second_leaves = leaves-none a.q;
+          }) refl;
           first_holds = k.holds;
           second_holds = held-beside old new m n a.q beside around.only a.second_holds;
         };
@@ -376,7 +384,15 @@ module _ (laws : PairLaws) (x : Pair) (h : Half) (l : Lines) (old new : FolderSt
           second_known = k.knows;
           left = left_by a.p;
           leaves = k.left;
-          runs = by_line Second x.round cause (assumption (leaves-none a.p, k.leaves)) refl;
+          runs = by_line Second x.round cause (record {
+            p = a.p;
+            q = a.q;
+            at = a.at;
+            going = a.going;
+            is = k.is;
+            first_leaves = leaves-none a.p;
+            second_leaves = k.leaves;
+          }) refl;
           first_holds = held-beside old new n m a.p beside around.only a.first_holds;
           second_holds = k.holds;
         };

@@ -100,7 +100,14 @@ same-run script dlci b d delays link ts ends s r =
 abbrev same-last : (script : ScriptValue) (dlci : ℕ) (b d : Beside) → ((role : Role) → 1 ≤ delay_of script role) → (link : Link)
     (ts : List Turn) (ends : Accounts) (o : Outcome) (turn : ℕ) (left : Left) → SameBelow (length ts) b d
     → EndsInTurn (wire_at script dlci b) link ts ends o turn left → EndsInTurn (wire_at script dlci d) link ts ends o turn left
-same-last script dlci b d delays link ts ends o turn left s e = assumption (same-in script dlci b d delays ts e.last s e.heard)
+same-last script dlci b d delays link ts ends o turn left s e = record {
+  number = e.number;
+  last = e.last;
+  mid = e.mid;
+  heard = same-in script dlci b d delays ts e.last s e.heard;
+  is = e.is;
+  leaves = e.leaves;
+}
 
 -- a run that an end of the link ended, with the ends that it has then
 record SameEnd (script : ScriptValue) (dlci : ℕ) (d : Beside) (link : Link) (ts : List Turn) (ends mid : Accounts) (end : RunEnd)
@@ -155,15 +162,20 @@ same-lasts script dlci b d delays link rounds (Ended ts ends end left) s h =
     let few : length h.ran.turns ≤ rounds = omega (arith, ap length h.turns_are, h.before) in
     let near : SameBelow (length h.ran.turns) b d = fewer (length h.ran.turns) rounds b d few s in
     let e = same-end script dlci b d delays link h.ran.turns h.ran.ends end left near h.by_link h.ran.ended in
-    assumption (
-      same-run script dlci b d delays link h.ran.turns h.ran.ends near h.ran.run,
-      e.mid_is ∙ h.ends_are,
-      same-idles script dlci b d delays ends (rounds - suc (length ts)) ts (fewer (rounds - suc (length ts) + length ts) rounds b d
-          (omega (
-            arith,
-            h.before,
-          )) s) h.idles,
-    )
+    record {
+      ran = record {
+        turns = h.ran.turns;
+        ends = h.ran.ends;
+        run = same-run script dlci b d delays link h.ran.turns h.ran.ends near h.ran.run;
+        ended = e.ended;
+      };
+      turns_are = h.turns_are;
+      ends_are = e.mid_is ∙ h.ends_are;
+      by_link = h.by_link;
+      before = h.before;
+      idles = same-idles script dlci b d delays ends (rounds - suc (length ts)) ts
+          (fewer (rounds - suc (length ts) + length ts) rounds b d (omega (arith, h.before)) s) h.idles;
+    }
 
 -- slots of earlier rounds stay as they are
 pub slot-stays : (dlci : ℕ) (role : Role) (t : Turn) (ts : List Turn) (round : ℕ) → round < length ts

@@ -126,27 +126,38 @@ last-moves : IsolationLaws → (script : ScriptValue) (files : Both (List ℕ)) 
     → (o : Outcome) (turn : ℕ) (left : Left)
     → EndsInTurn (wire_at script dlci beside) (link_of script files) ts ends o turn left
     → EndsInTurn (wire_at script at near) (link_of script files) ts ends o turn left
-last-moves laws script files dlci beside at near m v ts ends r o turn left e = assumption
-    (heard-moves laws script files dlci beside ts ends at near m v r e.last e.mid
-    (hearing-in script files ts ends e.last e.mid o e.is) e.heard)
+last-moves laws script files dlci beside at near m v ts ends r o turn left e = record {
+  number = e.number;
+  last = e.last;
+  mid = e.mid;
+  heard =
+      heard-moves laws script files dlci beside ts ends at near m v r e.last e.mid (hearing-in script files ts ends e.last e.mid o e.is)
+      e.heard;
+  is = e.is;
+  leaves = e.leaves;
+}
 
 -- So is a whole run that an end of the link ended: it is the same there.
 pub runs-move : IsolationLaws → (script : ScriptValue) (files : Both (List ℕ)) (dlci : ℕ) (beside : Beside) (at : ℕ) (near : Beside)
     → MaySend script files → Moves script dlci beside at near
     → (end : RunEnd) (left : Left) → IsByLink end → RunsTo (wire_at script dlci beside) (link_of script files) end left
     → RunsTo (wire_at script at near) (link_of script files) end left
-runs-move laws script files dlci beside at near m v (IsDone turn) left b r = assumption (
-  run-moves laws script files dlci beside at near m v r.turns r.ends r.run,
-  last-moves laws script files dlci beside at near m v r.turns r.ends r.run _ turn left r.ended,
-)
+runs-move laws script files dlci beside at near m v (IsDone turn) left b r = record {
+  turns = r.turns;
+  ends = r.ends;
+  run = run-moves laws script files dlci beside at near m v r.turns r.ends r.run;
+  ended = last-moves laws script files dlci beside at near m v r.turns r.ends r.run _ turn left r.ended;
+}
 runs-move laws script files dlci beside at near m v (LinkLost role segment turn) left b r = record {
   turns = r.turns;
   ends = r.ends;
   run = run-moves laws script files dlci beside at near m v r.turns r.ends r.run;
   ended = (r.ended.0, last-moves laws script files dlci beside at near m v r.turns r.ends r.run _ turn left r.ended.1);
 }
-runs-move laws script files dlci beside at near m v (NotDetected turn) left b r = assumption (
-  run-moves laws script files dlci beside at near m v r.turns r.ends r.run,
-  last-moves laws script files dlci beside at near m v r.turns r.ends r.run _ turn left r.ended,
-)
+runs-move laws script files dlci beside at near m v (NotDetected turn) left b r = record {
+  turns = r.turns;
+  ends = r.ends;
+  run = run-moves laws script files dlci beside at near m v r.turns r.ends r.run;
+  ended = last-moves laws script files dlci beside at near m v r.turns r.ends r.run _ turn left r.ended;
+}
 runs-move laws script files dlci beside at near m v end left b r = absurd b

@@ -80,16 +80,24 @@ last-turn c link ts before (IsDone turn) left b e = record {
   named_is = ap IsDone (sym e.number);
   leaves = e.leaves;
 }
-last-turn c link ts before (LinkLost role segment turn) left b e = assumption (
-  Broken role (faults.Spent segment e.0),
-  broken-not role (faults.Spent segment e.0),
-  ap (LinkLost role segment) (sym e.1.number),
-)
-last-turn c link ts before (NotDetected turn) left b e = assumption (
-  Broken Originator faults.NotDetected,
-  broken-not Originator faults.NotDetected,
-  ap NotDetected (sym e.number),
-)
+last-turn c link ts before (LinkLost role segment turn) left b e = record {
+  last = e.1.last;
+  outcome = Broken role (faults.Spent segment e.0);
+  heard = e.1.heard;
+  is = e.1.is;
+  not_going = broken-not role (faults.Spent segment e.0);
+  named_is = ap (LinkLost role segment) (sym e.1.number);
+  leaves = e.1.leaves;
+}
+last-turn c link ts before (NotDetected turn) left b e = record {
+  last = e.last;
+  outcome = Broken Originator faults.NotDetected;
+  heard = e.heard;
+  is = e.is;
+  not_going = broken-not Originator faults.NotDetected;
+  named_is = ap NotDetected (sym e.number);
+  leaves = e.leaves;
+}
 last-turn c link ts before end left b e = absurd b
 
 -- an ended link, by the turns before its last one

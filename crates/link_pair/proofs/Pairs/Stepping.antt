@@ -123,7 +123,9 @@ before-second script files others delays rounds p q a =
 -- there is one thing that a pair came to in so many turns
 starts : (script : ScriptValue) (dlci : ℕ) (beside : Beside) (link : Link) (p : Progress) → Lasts (wire_at script dlci beside) link 0 p
     → p ≡ Goes [] (start link)
-starts script dlci beside link q4 h = grind (arith)
+starts script dlci beside link (Goes [] ends) h = ap (Goes []) h.run.run
+starts script dlci beside link (Goes (t ∷ ts) ends) h = absurd (omega (arith, h.count))
+starts script dlci beside link (Ended ts ends end left) h = absurd (omega (arith, h.before))
 
 abbrev pub OneAt : ScriptValue → Both (List ℕ) → Both (List ℕ) → ℕ → ℕ → Type 0
 OneAt script files others firsts seconds = (p q r s : Progress) → PairAt script files others firsts seconds p q
