@@ -56,11 +56,6 @@ pub next : (end end' : Connected) (sent : Sent) (o : Option Said) (rest : Said) 
     → SaysLinked (else_says o rest) end' sent
 next end end' sent q3 rest a h k = grind (arith)
 
--- The timers come first: the second one breaks the link, or neither does.
-breaks_off : (end : Connected) (broken : LinkFault) (turn : ℕ) (special : Bool) (r : Result Account LinkFault) → Becomes r end (Err broken)
-    → SpeaksLinked (after_timers turn special r) end (Err broken)
-breaks_off end broken turn special q4 h = grind (arith)
-
 pub second_breaks : (end1 end2 : Connected) (broken : LinkFault) (turn : ℕ) (special : Bool) (r : Result Account LinkFault)
     → Becomes r end1 (Ok tt)
     → ((b : Account) → Links end1 b → Becomes (on_break_timer turn b) end2 (Err broken))

@@ -10,10 +10,6 @@ abbrev ok-or : {A E : Type 0} → A → Result A E → A
 ok-or d (Ok x) = x
 ok-or d (Err e) = d
 
-abbrev err-or : {A E : Type 0} → E → Result A E → E
-err-or d (Ok x) = d
-err-or d (Err e) = e
-
 pub one-ok : {A E : Type 0} {r : Result A E} {x y : A} → r ≡ Ok x → r ≡ Ok y → x ≡ y
 one-ok {A} {E} {r} {x} {y} e k = ap (ok-or x) (sym e ∙ k)
 

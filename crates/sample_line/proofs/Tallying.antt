@@ -1,10 +1,9 @@
 -- A tally once octets passed the check once more, or one more pattern was received.
 use Rattle.sample_line.proofs.Names.{◌≡◌, inl, inr, ◌∙◌, ℕ, Bool, true, false, List, [], ◌∷◌, ◌++◌, ◌-◌, length, refl, sym, ap, subst}
-use Rattle.sample_line.proofs.Names.{arith, get_or, length-append, false≢true, get_or-append_right, get_or_append_left, Frame, Seen, Sent}
+use Rattle.sample_line.proofs.Names.{arith, get_or, length-append, get_or-append_right, get_or_append_left, Frame, Seen, Sent}
 use Rattle.sample_line.proofs.Names.{IsSilent, IsWhatWasSent, Tallies, Tally, Silent, Role}
 use Rattle.std.proofs.Common.{◌⊎◌}
 use Rattle.std.specs.List.{All}
-use Rattle.std.proofs.lemmas.List.Elements.{All-push}
 use Rattle.lapm_frames.specs.declared.fault.FrameFault.{FrameFault}
 use Rattle.lapm_frames.specs.Frame.{FrameSpelling}
 use Rattle.lapm_frames.specs.Fault.{FirstFault}
@@ -146,22 +145,5 @@ last-pattern sender dlci sent.Adp octets patterns p w = (
   some-before seen.Adp octets patterns p w,
 )
 last-pattern sender dlci (sent.Frame frame) octets patterns p w = absurd (snoc-some patterns p w.3)
-
-own-more : (own : Seen) (octets : List (List ℕ)) (patterns : List Seen) (p : Seen) → p ≡ own → octets ≡ []
-    → All (λ other. other ≡ own) patterns
-    → IsPattern own octets (patterns ++ p ∷ [])
-own-more own octets patterns p e none all = (none, snoc-some patterns p, All-push (λ other. other ≡ own) patterns p all e)
-
-none-all : (own : Seen) (patterns : List Seen) → patterns ≡ [] → All (λ other. other ≡ own) patterns
-none-all own [] e k d low = absurd (omega (arith, low))
-none-all own (p ∷ patterns) e k d low = absurd cc
-
-is-odp : (p : Seen) → carries sent.Odp p ≡ true → p ≡ seen.Odp
-is-odp seen.Odp e = refl
-is-odp seen.Adp e = absurd (false≢true e)
-
-is-adp : (p : Seen) → carries sent.Adp p ≡ true → p ≡ seen.Adp
-is-adp seen.Adp e = refl
-is-adp seen.Odp e = absurd (false≢true e)
 
 -- outcomes

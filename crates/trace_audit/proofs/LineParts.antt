@@ -101,16 +101,10 @@ given-is (x ∷ text) given e =
     let digits : d.0 ≡ decimal c.0.0 = p.1 ∙ ap (λ t. decimal c.0.0 ++ t) r.0 ∙ append-nil (decimal c.0.0) in
     subst (λ (o : Option ℕ). IsUnits o × (x ∷ text ≡ break_word o)) r.1 (p.0, l ∙ ap (λ t. codes " break=" ++ t) digits)
 
-ends-none : (n : ℕ) (rest : List ℕ) → (length rest == 0) ≡ false → ends_in (n, rest) ≡ None
-ends-none n q1 e = grind (arith)
-
 -- a number with something behind it is no break's
 pub given-none : (text field : List ℕ) (n : ℕ) (rest : List ℕ) → (length text == 0) ≡ false → Some field ≡ behind (codes " break=") text
     → Some (n, rest) ≡ number_at 256 field → (length rest == 0) ≡ false → None ≡ given_at text
 given-none q0 field n rest s b e m = grind (arith)
-
-given-stops : (given : Option ℕ) → Stops (break_word given)
-given-stops given = grind (arith)
 
 -- ---- the reply
 
@@ -155,9 +149,6 @@ role-is text role rest e = grind (arith, same_Some, behind-is)
 begins-is : (turn : ℕ) (role : Role) (rest : List ℕ) → line_begins turn role ++ rest ≡ decimal turn ++ (piece role ++ rest)
 begins-is turn Originator rest = grind (arith, append_assoc)
 begins-is turn Answerer rest = grind (arith, append_assoc)
-
-piece-stops : (role : Role) (rest : List ℕ) → Stops (piece role ++ rest)
-piece-stops role rest = grind (arith)
 
 -- ---- the line
 

@@ -9,7 +9,6 @@ use Rattle.shared_terms.specs.Role.{other}
 use Rattle.shared_terms.specs.Both.{Both, of}
 use Rattle.lapm_frames.specs.declared.frame.Frame.{Frame}
 use Rattle.lapm_frames.specs.Frame.{information_of}
-use Rattle.lapm_frames.specs.Parts.{parts_of}
 use Rattle.lapm_frames.specs.declared.sent.Sent.{Sent}
 use Rattle.lapm_frames.specs.declared.sent.Sent.TheVariants as slots
 use Rattle.lapm_frames.specs.declared.heard.Heard.{Heard}
@@ -23,9 +22,8 @@ use Rattle.line_run.specs.Sampled.{HeardIn, LineRun}
 use Rattle.line_run.specs.Scripted.{wire_of, link_of}
 use Rattle.line_texts.specs.LineText.{is_chance}
 use Rattle.trace_audit.specs.Grammar.{count_bound}
-use Rattle.trace_audit.specs.Written.{IsReadableFrame, IsReadableSent, IsReadableSignal, IsReadableHeard, IsReadable}
-use Rattle.trace_audit.proofs.Written.{breaks}
-use Rattle.line_ends.specs.Plain.{InOctets, IsPlain, IsPlainSent, AsksInOctets}
+use Rattle.trace_audit.specs.Written.{IsReadableSent, IsReadableSignal, IsReadableHeard, IsReadable}
+use Rattle.line_ends.specs.Plain.{IsPlainSent, AsksInOctets}
 use Rattle.trace_audit.specs.Readable.{line_of, LinesAreRead}
 use Rattle.line_run.proofs.Slots.{SentAgo, sent-ago}
 use Rattle.line_run.proofs.Leaving.{hearing-in}
@@ -36,9 +34,6 @@ use Rattle.line_ends.proofs.Sending.{SendLaws, HoldBoth, holds-all, mid-holds-at
 -- a plain frame of few octets is read
 few : (o : Option (List ℕ)) → length (unwrap_or o []) ≤ INFO → IfSome o (λ info. length info < count_bound)
 few o h = grind (arith)
-
-frame-read : (f : Frame) → IsPlain f → length (information_of f) ≤ INFO → IsReadableFrame f
-frame-read f p l = (p.ns, p.nr, few (parts_of f).info l, breaks f (λ command pf info e. subst InOctets e p.octets))
 
 -- a slot whose frame has few octets
 abbrev IsShort : Sent → Type 0

@@ -1,5 +1,5 @@
 -- What the octets that a text begins with tell of it.
-use Rattle.std.proofs.Common.{◌≡◌, ◌≢◌, ℕ, zero, suc, ◌+◌, ◌-◌, ◌<◌, ◌≤◌, Bool, true, false, not, cond, eqb, List, [], ◌∷◌, ◌++◌}
+use Rattle.std.proofs.Common.{◌≡◌, ◌≢◌, ℕ, zero, suc, ◌+◌, ◌-◌, ◌<◌, ◌≤◌, Bool, true, false, not, cond, List, [], ◌∷◌, ◌++◌}
 use Rattle.std.proofs.Common.{length, take, drop, refl, sym, ap, subst, ◌∙◌, arith, append_assoc, ◌⊎◌, inl, inr, length-append, append-nil}
 use Rattle.std.proofs.Common.{take-append-drop, length-take}
 use Rattle.std.specs.Prelude.{◌==◌}
@@ -54,10 +54,6 @@ rest-stops test (x ∷ text) = go (test x) refl (rest-stops test text)
     go : (b : Bool) → test x ≡ b → begins test (rest_of test text) ≡ false → begins test (cond b (rest_of test text) (x ∷ text)) ≡ false
     go true e s = s
     go false e s = e
-
--- what stands behind a line that isn't the last begins with its line feed
-is-feed : (x : ℕ) → is_no_feed x ≡ false → x ≡ 10
-is-feed x e = eqb-true x 10 (not-false (eqb x 10) e)
 
 fed-behind : (behind : List ℕ) → behind ≢ [] → begins is_no_feed behind ≡ false → (tail : List ℕ) × (behind ≡ 10 ∷ tail)
 fed-behind q0 some stops = grind (arith)

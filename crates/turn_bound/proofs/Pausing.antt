@@ -115,10 +115,6 @@ says-calm turn release a said calm e = SpeakWays.by-ways (Calm a) turn release a
   disc = λ p. tries-alike _ turn _ a (λ w. (refl, λ h. h)) (refl, λ h. h);
 }) said e
 
--- An end that isn't Connected, or that is told to release, sends no poll.
-abbrev pub Unpolled : Said → Type 0
-Unpolled said = of_frame frame_poll said.sent ≡ false
-
 pub says-unpolled : (turn : ℕ) (release : Bool) (a : Account) (said : Said) → is_connected a.phase ≡ false → speak turn release a ≡ Ok said
     → of_frame frame_poll said.sent ≡ false
 says-unpolled turn release a said c e = grind (arith)

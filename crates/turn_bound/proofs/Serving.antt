@@ -25,9 +25,6 @@ same-longer connected o = record { outgoing = refl; longer = omega arith; ended 
 piece-longer : (o : Outgoing) (piece : List ℕ) → o.ended ≡ false → Longer true o (with_piece piece o)
 piece-longer o piece e = grind (arith, length-append {A = List ℕ})
 
-abbrev pub with_pieces : List (List ℕ) → Bool → Outgoing → Outgoing
-with_pieces pieces ended o = record o { pieces = pieces; ended = ended }
-
 more-longer : (connected : Bool) (o n m : Outgoing) → Longer connected o n → Longer connected n m → Longer connected o m
 more-longer connected o n m h k = grind (arith)
 

@@ -3,7 +3,7 @@ use Rattle.std.proofs.Common.{◌⊎◌, inl, inr, ◌≡◌, ℕ, zero, suc, �
 use Rattle.std.proofs.Common.{◌∙◌, ap, Option, Some, Result, Ok, Err, List, [], ◌∷◌}
 use Rattle.link_account.proofs.Names.{cases_lt, Originator, Answerer, Arrived, LinkFault, NotDetected, Account, hear, arrives, Said, says}
 use Rattle.link_account.proofs.Names.{speak, speak_in, Role, Heard, Passed}
-use Rattle.link_run.proofs.Names.{Phase, Detecting, Connected, Releasing, Answer, User, is_busy, is_released, Accounts, arrival, served_at}
+use Rattle.link_run.proofs.Names.{Detecting, Connected, Releasing, Answer, User, is_busy, is_released, Accounts, arrival, served_at}
 use Rattle.link_run.proofs.Names.{releases, Link, Turn, RunOf, IsCarried}
 use Rattle.link_account.specs.Speak.{else_says, answering, speak_detecting}
 use Rattle.turn_bound.specs.Spent.{SpendsOnTime}
@@ -77,10 +77,6 @@ heard-from arrived turn a mid r h = HearWays.by-ways
 
 abbrev says-ok : Said → Result Said LinkFault
 says-ok said = Ok said
-
-abbrev PhaseOf : Result Account LinkFault → Phase → Type 0
-PhaseOf (Err fault) p = Unit {0}
-PhaseOf (Ok a) p = a.phase ≡ p
 
 -- An answerer that is Detecting and hears nothing but the originator's pattern stays so, and answers it at once.
 answers-odp : (user : User) (turn : ℕ) (arrived : Arrived) (a mid : Account) (released release : Bool) (said : Said) → a.phase ≡ Detecting

@@ -10,7 +10,7 @@ use Rattle.link_account.specs.Hear.{connected, on_xid_command}
 use Rattle.link_account.specs.Speak.{else_says, answering, speak_answer, speak_negotiating}
 use Rattle.turn_bound.proofs.MeetHear.{of_frame, of_arrived}
 use Rattle.link_account.proofs.HearWays.{by-ways, numbered_with, numbers-alike}
-use Rattle.link_account.proofs.SpeakWays.{Tries, answers_alone, by-linked, linked-so, linked-alike, retimed}
+use Rattle.link_account.proofs.SpeakWays.{Tries, answers_alone, by-linked, linked-so, linked-alike}
 use Rattle.turn_losses.proofs.PollTurn.{SaidPoll, linked-poll}
 use Rattle.lapm_frames.specs.declared.arrived.Arrived.TheVariants as arrivals
 use Rattle.link_account.proofs.SpeakWays as SpeakWays
