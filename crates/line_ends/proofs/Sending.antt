@@ -50,37 +50,23 @@ user-octets script files o Answerer = breaks-octets script Answerer o
 -- the offer that an end may send
 offers-allowed : ScriptsMayPlay → (script : ScriptValue) (files : Both (List ℕ)) → IsInLimits script → (role : Role)
     → IsAllowed (of role (link_of script files)).setup.offer
-offers-allowed play script files h Originator = (play script files h).offer_o
-offers-allowed play script files h Answerer = (play script files h).offer_a
+offers-allowed play script files h role = grind (arith)
 
 -- what passes was sent
 passes-octets : (s : Sent) → IsPlainSent s → ArrivesInOctets (arrives s)
-passes-octets slots.Mark h = tt
-passes-octets slots.Odp h = tt
-passes-octets slots.Adp h = tt
-passes-octets slots.Flags h = tt
-passes-octets (slots.Frame frame) h = h.octets
+passes-octets s h = grind (arith)
 
 crosses-octets : (o : Option Spoken) (heard : Heard) → Crosses o heard → ((slot : Spoken) → o ≡ Some slot → IsPlainSent slot.sent)
     → ArrivesInOctets (arrival heard)
-crosses-octets o Nothing c f = tt
-crosses-octets o (Lost s) c f = tt
-crosses-octets o Chance c f = tt
-crosses-octets None (Passed s) c f = absurd c
-crosses-octets (Some slot) (Passed s) c f = subst (λ z. ArrivesInOctets (arrives z)) (sym c.0) (passes-octets slot.sent (f slot refl))
+crosses-octets o heard c f = grind (arith, passes-octets)
 
 -- a frame that is plain and short, of octets, can be sent
 short-info : (o : Option (List ℕ)) → length (unwrap_or o []) ≤ INFO → IfSome o (λ info. length info ≤ INFO)
-short-info None h = tt
-short-info (Some info) h = h
+short-info o h = grind (arith)
 
 plain-sendable : (s : Sent) → IsPlainSent s → AreOctets (information_in s)
     → ((frame : Frame) → s ≡ slots.Frame frame → length (information_of frame) ≤ INFO) → IsSendable s
-plain-sendable slots.Mark p o f = tt
-plain-sendable slots.Odp p o f = tt
-plain-sendable slots.Adp p o f = tt
-plain-sendable slots.Flags p o f = tt
-plain-sendable (slots.Frame frame) p o f = ((p.ns, p.nr, short-info (parts_of frame).info (f frame refl)), o)
+plain-sendable s p o f = grind (arith, short-info)
 
 -- what an end says as a turn's end of it
 says-good : (link : Link) (turn : ℕ) (mid : Accounts) (role : Role) (said : Said) → said_at link turn mid role ≡ Ok said → (file : List ℕ)

@@ -30,8 +30,7 @@ pub record Laws : Type 0 where
 -- the line of samples as any line
 over : Laws → (c : Wire) (files : Both (List ℕ)) (ts : List Turn) (ends : Accounts) → IsInLimits c.script
     → LineRun c (link_of c.script files) ts ends → RunsOver (link_of c.script files) (delay_of c.script) ts ends
-over laws c files ts ends h r = record
-    { may_play = laws.play c.script files h; delays = laws.delays c.script h; carried = laws.carried c ts r.heard; run = r.run }
+over laws c files ts ends h r = grind (arith)
 
 pub lost-links-were-starved : Laws → LostLinksWereStarved
 lost-links-were-starved laws c files (LinkLost role segment turn) left h r g =
@@ -68,8 +67,7 @@ loses-without-break laws c files end left h r g quiet = absurd g
 
 no-breaks : (script : ScriptValue) (files : Both (List ℕ)) → script.breaks ≡ [] → (role : Role)
     → (of role (link_of script files)).user.breaks ≡ []
-no-breaks script files e Originator = ap (λ (l : List Break). map break_line (filter (λ (b : Break). same_role b.role Originator) l)) e
-no-breaks script files e Answerer = ap (λ (l : List Break). map break_line (filter (λ (b : Break). same_role b.role Answerer) l)) e
+no-breaks script files e role = grind (arith)
 
 loses-unasked : Laws → (c : Wire) (files : Both (List ℕ)) (end : RunEnd) (left : Left) → IsInLimits c.script
     → (r : RunsTo c (link_of c.script files) end left) → GivesUp end → c.script.breaks ≡ [] → LosesInPeriods c files end left r
