@@ -1,12 +1,12 @@
 -- Whatever goes over a line, a slot that fits behind those before it is lost, mistaken or heard; so both slots of a turn are heard well,
 -- or the line ends the run.
-use Rattle.std.proofs.Common.{arith, ◌≡◌, ◌⊎◌, inl, inr, ℕ, ◌+◌, ◌-◌, ◌*◌, ◌<◌, ◌≤◌, List, [], ◌∷◌, ◌++◌, length, drop, refl, sym, ap, subst}
-use Rattle.std.proofs.Common.{Option, Some, None}
+use Rattle.std.proofs.Common.{arith, ◌≡◌, ◌⊎◌, inl, inr, ℕ, ◌+◌, ◌-◌, ◌*◌, ◌<◌, ◌≤◌, List, [], ◌∷◌, ◌++◌, length, drop, refl, sym, ap}
+use Rattle.std.proofs.Common.{subst, Option, Some, None}
 use Rattle.std.specs.Prelude.{is_some}
-use Rattle.line_ends.proofs.Cited.{Answerer, AreFit, Arrives, ArrivesAs, Becomes, Chance, Check, EndsLineBy, Heard, IsHeardOf, IsHeardWell}
-use Rattle.line_ends.proofs.Cited.{LineEnd, Lost, Nothing, Originator, Passed, Records, Role, ScriptValue, SentAgo, Signal}
-use Rattle.line_ends.proofs.Cited.{SlotsAreRecorded, Spoken, Turn, Wire, bits_of, delay_of, line_depth, line_trellis, loses, other}
-use Rattle.line_ends.proofs.Cited.{sent-ago, sent_ago, signal_bits, signal_of, signals, signals_before, wire_of}
+use Rattle.line_ends.proofs.Cited.{Answerer, AreFit, Arrives, ArrivesAs, Becomes, Check, EndsLineBy, Heard, IsHeardOf, IsHeardWell, LineEnd}
+use Rattle.line_ends.proofs.Cited.{Nothing, Originator, Records, Role, ScriptValue, SentAgo, Signal, SlotsAreRecorded, Spoken, Turn, Wire}
+use Rattle.line_ends.proofs.Cited.{bits_of, delay_of, line_depth, line_trellis, loses, other, sent-ago, sent_ago, signal_bits, signal_of}
+use Rattle.line_ends.proofs.Cited.{signals, signals_before, wire_of}
 use Rattle.bit_stuffing.specs.declared.slot_writer.TheConstants.{HEAD, TAIL}
 use Rattle.symbol_map.specs.declared.sample.Sample.{Sample}
 use Rattle.exact_decoder.specs.Surviving.Survivors.{LostIs}

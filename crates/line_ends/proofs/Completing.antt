@@ -1,7 +1,7 @@
 -- A run that the line doesn't end is done where no end gives up.
-use Rattle.std.proofs.Common.{arith, refl}
-use Rattle.line_ends.proofs.Cited.{ChanceMatch, CompletesUnstarved, CompletesWithFewLosses, EndsDone, FewLossesKeepLinks, GivesUp, IsDone}
-use Rattle.line_ends.proofs.Cited.{LineEnds, LineLost, LinkLost, LostLinksWereStarved, NotDetected, RunEnd, wire_of}
+use Rattle.std.proofs.Common.{arith}
+use Rattle.line_ends.proofs.Cited.{CompletesUnstarved, CompletesWithFewLosses, EndsDone, FewLossesKeepLinks, GivesUp, LineEnds}
+use Rattle.line_ends.proofs.Cited.{LostLinksWereStarved, RunEnd, wire_of}
 
 pub done-else : (end : RunEnd) → (GivesUp end → ⊥) → (LineEnds end → ⊥) → EndsDone end
 done-else end up line = grind (arith)

@@ -1,12 +1,10 @@
 -- How many slots the lose lines of a script name.
 use Rattle.std.proofs.Common.{◌≡◌, ℕ, zero, suc, ◌+◌, ◌-◌, ◌<◌, ◌≤◌, ◌&&◌, ◌||◌, Bool, true, false, nat_le, nat_lt, List, [], ◌∷◌, length}
-use Rattle.std.proofs.Common.{inl, inr, arith, refl, sym, ap, subst}
+use Rattle.std.proofs.Common.{arith, refl, subst}
 use Rattle.std.specs.List.{list_any}
-use Rattle.std.proofs.lemmas.Bool.{cases_lt}
 use Rattle.std.proofs.lemmas.Bool.Decides.{nat_tests}
 use Rattle.frame_check.specs.Bits.{number}
-use Rattle.line_ends.proofs.Cited.{Answerer, Chance, Heard, Lost, Nothing, Originator, Passed, Role, ScriptValue, Turn, delay_of, of, other}
-use Rattle.line_ends.proofs.Cited.{same_role, slots_named}
+use Rattle.line_ends.proofs.Cited.{Answerer, Heard, Originator, Role, ScriptValue, Turn, delay_of, of, other, same_role, slots_named}
 use Rattle.noise_script.specs.declared.entry.Loss.{Loss}
 use Rattle.noise_script.specs.Offsets.{covers}
 use Rattle.link_run.specs.Counts.{lost_in, lost_slots}

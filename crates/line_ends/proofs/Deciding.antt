@@ -19,7 +19,7 @@ abbrev pub Decided : Type 0 → Type 0
 Decided P = P ⊎ (P → ⊥)
 
 pub both-decided : {P Q : Type 0} → Decided P → Decided Q → Decided (P × Q)
-both-decided q0 d = grind (arith)
+both-decided x d = grind (arith)
 
 three-decided : {P Q R : Type 0} → Decided P → Decided Q → Decided R → Decided (P × Q × R)
 three-decided (inl p) (inl q) (inl r) = inl (p, q, r)
@@ -107,7 +107,7 @@ empty-decided [] = inl refl
 empty-decided (x ∷ xs) = inr (λ e. absurd cc)
 
 not-decided : {P : Type 0} → Decided P → Decided (P → ⊥)
-not-decided q0 = grind (arith)
+not-decided x = grind (arith)
 
 -- exactly this frame's octets, once
 once-decided : (sender : Role) (dlci : ℕ) (frame : Frame) (octets : List (List ℕ)) (patterns : List Seen)
@@ -117,13 +117,9 @@ once-decided sender dlci frame (x ∷ y ∷ octets) patterns = inr (λ h. omega 
 once-decided sender dlci frame (x ∷ []) patterns =
     go (three-decided (is-frame-decided frame) (list-decided number-decided x (spelled frame sender dlci)) (empty-decided patterns))
   where
-    first : List (List ℕ) → List ℕ
-    first [] = []
-    first (z ∷ zs) = z
-
     go : Decided (IsFrame frame × (x ≡ spelled frame sender dlci) × (patterns ≡ []))
         → Decided (IsFrameOnce sender dlci frame (x ∷ []) patterns)
-    go q0 = grind (arith)
+    go w = grind (arith)
 
 pattern-decided : (pattern : Seen) (octets : List (List ℕ)) (patterns : List Seen) → Decided (IsPattern pattern octets patterns)
 pattern-decided pattern octets patterns =

@@ -1,13 +1,13 @@
 -- What an end is handed by its user are octets, and so is what it then holds.
-use Rattle.std.proofs.Common.{◌≡◌, ℕ, zero, suc, ◌*◌, ◌<◌, ◌≤◌, Bool, true, false, cond, nat_le, List, [], ◌∷◌, ◌++◌, length, drop, All}
-use Rattle.std.proofs.Common.{slice_get, arith, refl, sym, subst, Option, Some, None}
+use Rattle.std.proofs.Common.{◌≡◌, ℕ, zero, suc, ◌<◌, Bool, true, false, cond, nat_le, List, [], ◌∷◌, ◌++◌, length, All, slice_get, arith}
+use Rattle.std.proofs.Common.{refl, sym, subst, Option, Some, None}
 use Rattle.std.specs.List.{concat}
 use Rattle.std.proofs.lemmas.List.{length-take}
 use Rattle.std.proofs.lemmas.List.Elements.{All-nil, All-cons, All-head, All-tail, All-push, All-take}
 use Rattle.line_ends.proofs.Cited.{Account, AreOctets, OwnBreaks, after_ask, after_break_asked, after_busy, after_given, is_connected}
-use Rattle.line_ends.proofs.Cited.{piece_size, takes_break, wants}
-use Rattle.link_run.specs.End.{User, BreakLine, delivered, piece_at, offered_at, offered_times, room_for, offered, is_busy, next_break}
-use Rattle.link_run.specs.End.{asked_at, asked, served}
+use Rattle.line_ends.proofs.Cited.{takes_break, wants}
+use Rattle.link_run.specs.End.{User, BreakLine, delivered, offered_at, offered_times, room_for, offered, is_busy, next_break, asked_at}
+use Rattle.link_run.specs.End.{asked, served}
 use Rattle.link_run.specs.Reading.{IsOffered, OffersWhatIsRead, OwnSegmentsStay}
 use Rattle.line_ends.proofs.Words.{Octet, Owes}
 use Rattle.line_ends.proofs.Saying.{AllOctets, IsReady}

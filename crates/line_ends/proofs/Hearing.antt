@@ -1,6 +1,6 @@
 -- What is heard in a script's run whose noise is faint.
-use Rattle.std.proofs.Common.{◌≡◌, ◌≢◌, ℕ, ◌+◌, ◌-◌, ◌*◌, ◌<◌, ◌≤◌, Bool, true, false, List, [], ◌∷◌, ◌++◌, length, drop, arith, refl, sym}
-use Rattle.std.proofs.Common.{◌∙◌, subst, Option, Some, None, append-nil}
+use Rattle.std.proofs.Common.{◌≡◌, ◌≢◌, ℕ, ◌+◌, ◌-◌, ◌*◌, ◌<◌, ◌≤◌, Bool, true, List, [], ◌∷◌, ◌++◌, length, drop, arith, refl, sym, ◌∙◌}
+use Rattle.std.proofs.Common.{subst, Option, Some, None, append-nil}
 use Rattle.line_ends.proofs.Cited.{Accounts, AllSendable, Answerer, AreFit, Arrives, ArrivesAs, Both, Chance, Check, FaintGoOn}
 use Rattle.line_ends.proofs.Cited.{FaintNeverLost, FaintReceivedIsSent, Frame, Heard, IsFaint, IsHeardOf, IsInLimits, IsSendable, LineRun}
 use Rattle.line_ends.proofs.Cited.{LosesLine, NeverChance, Nothing, Originator, Records, Role, RunsOver, SamplesAreCarried, ScriptValue}

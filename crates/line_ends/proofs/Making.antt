@@ -1,8 +1,8 @@
 -- What is heard makes a next turn.
-use Rattle.std.proofs.Common.{arith, ◌≡◌, List, length, refl, sym, ◌∙◌, subst, None}
-use Rattle.line_ends.proofs.Cited.{Accounts, Answerer, Broken, Done, EachTurnIsMade, Going, HeardIn, HeardTurnsAreMade, Hears, IsHeardOf}
-use Rattle.line_ends.proofs.Cited.{Link, MakesTurn, OneIsCarried, Originator, Outcome, Role, SamplesAreCarried, ScriptsHaveDelays}
-use Rattle.line_ends.proofs.Cited.{ScriptsMayPlay, Side, Turn, TurnIs, check_of, delay_of, link_of, of, other}
+use Rattle.std.proofs.Common.{arith, ◌≡◌, List, length, sym, ◌∙◌, subst, None}
+use Rattle.line_ends.proofs.Cited.{Accounts, Answerer, EachTurnIsMade, HeardIn, HeardTurnsAreMade, Hears, IsHeardOf, Link, MakesTurn}
+use Rattle.line_ends.proofs.Cited.{OneIsCarried, Originator, Outcome, Role, SamplesAreCarried, ScriptsHaveDelays, ScriptsMayPlay, Side}
+use Rattle.line_ends.proofs.Cited.{Turn, TurnIs, check_of, link_of, of, other}
 
 pub record Makes : Type 0 where
   pub play : ScriptsMayPlay
@@ -25,7 +25,7 @@ heard-turns-are-made laws c files ts ends h run well = record { turn = m.turn; m
     first = record { orig = side Originator; answ = side Answerer }
 
     heard-first : HeardIn c ts first
-    heard-first q0 = grind (arith)
+    heard-first y = grind (arith)
 
     same-first : (role : Role) → (of role first).heard ≡ (well role).heard
     same-first role = grind (arith)

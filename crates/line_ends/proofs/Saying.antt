@@ -1,14 +1,13 @@
 -- What an end says has numbers below 128, and its words of breaks are octets; all of it are octets where its user's file is.
-use Rattle.std.proofs.Common.{◌≡◌, ℕ, zero, suc, ◌+◌, ◌*◌, ◌/◌, ◌%◌, ◌<◌, ◌&&◌, Bool, true, false, cond, nat_eq, nat_le, List, [], ◌∷◌}
+use Rattle.std.proofs.Common.{◌≡◌, ℕ, zero, suc, ◌+◌, ◌*◌, ◌/◌, ◌%◌, ◌<◌, ◌&&◌, Bool, true, false, cond, nat_le, List, [], ◌∷◌}
 use Rattle.std.proofs.Common.{slice_index_or, arith, subst, Option, Some, None, Result, Ok, Err}
 use Rattle.std.proofs.lemmas.List.Elements.{All-from_recursion, All-nil, All-cons, All-head, All-tail}
 use Rattle.line_ends.proofs.Cited.{Account, Answerer, AreOctets, Frame, IsAllowed, IsPlain, IsPlainSent, LinkFault, Originator, OwnBreaks}
-use Rattle.line_ends.proofs.Cited.{Role, Sent, information_of, is_originator, own_due, waits, written}
+use Rattle.line_ends.proofs.Cited.{Role, Sent, information_of, is_originator, own_due, written}
 use Rattle.lapm_frames.specs.declared.frame.Frame.TheVariants.{Sabme, Disc, Xid}
 use Rattle.xid_params.specs.declared.offer.Offer.{Offer}
 use Rattle.lapm_receiver.specs.Incoming.{asks}
 use Rattle.break_signals.specs.declared.word.BreakWord.{BreakWord}
-use Rattle.break_signals.specs.declared.word.BreakWord.TheVariants.{Brk}
 use Rattle.lapm_frames.specs.declared.sent.Sent.TheVariants as slots
 use Rattle.link_account.specs.declared.phase.Phase.{Phase}
 use Rattle.link_account.specs.declared.phase.Phase.TheVariants.{Detecting, Negotiating, Establishing, Connected, Releasing, Closed}
@@ -18,9 +17,8 @@ use Rattle.link_account.specs.declared.answer.Answer.TheVariants as answers
 use Rattle.link_account.specs.Hear.{trying}
 use Rattle.link_account.specs.Speak.{Said, says, says_segment, says_own, says_break, says_asking, where_says, else_says, answering}
 use Rattle.link_account.specs.Speak.{may_send, step1, step2, step3, step4, step5, step6, step7, step8, steps, speak, speak_in}
-use Rattle.link_account.specs.Speak.{speak_detecting, speak_negotiating, speak_releasing, speak_linked, speak_answer, u_try, tries_frame}
-use Rattle.link_account.specs.Speak.{trying_again, spent, on_timer, timer_expires, polling, on_break_timer, breaking, then_tries}
-use Rattle.link_account.specs.Speak.{after_timers, tells, ready_frame, nr_of, has_news}
+use Rattle.link_account.specs.Speak.{speak_detecting, speak_negotiating, speak_releasing, speak_linked, speak_answer, u_try, on_timer}
+use Rattle.link_account.specs.Speak.{on_break_timer, then_tries, after_timers, tells, has_news}
 use Rattle.line_ends.proofs.Words.{Octet, OfOctets, Owes}
 
 -- the information in a slot

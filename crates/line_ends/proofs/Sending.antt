@@ -1,16 +1,15 @@
 -- What the ends of a run send, all through it: what is read where it is heard, and what can be sent where their users' files are octets.
-use Rattle.std.proofs.Common.{◌≡◌, ℕ, ◌<◌, ◌≤◌, false, List, [], ◌∷◌, All, length, filter, arith, refl, sym, ◌∙◌, ap, subst, Option, Some}
-use Rattle.std.proofs.Common.{None, IfSome, Ok}
+use Rattle.std.proofs.Common.{◌≡◌, ℕ, ◌<◌, ◌≤◌, false, List, [], ◌∷◌, All, length, filter, arith, sym, ◌∙◌, ap, subst, Option, Some, None}
+use Rattle.std.proofs.Common.{IfSome, Ok}
 use Rattle.std.specs.Prelude.{unwrap_or}
 use Rattle.std.proofs.lemmas.List.Elements.{All-nil, All-map, All-filter}
-use Rattle.line_ends.proofs.Cited.{Accounts, AllPlain, AllSendable, AllShort, Answerer, AreOctets, AsksInOctets, Both, Carries, Chance}
-use Rattle.line_ends.proofs.Cited.{Crosses, Frame, GoingTurn, Heard, Hears, INFO, IsAllowed, IsInLimits, IsPlainSent, IsSendable, LineRun}
-use Rattle.line_ends.proofs.Cited.{Link, Lost, Nothing, OctetsAreSendable, OneIsCarried, Originator, Passed, Role, RunsOver}
-use Rattle.line_ends.proofs.Cited.{SamplesAreCarried, ScriptValue, ScriptsHaveDelays, ScriptsMayPlay, SendsShort, Sent, Spoken, Turn, Wire}
-use Rattle.line_ends.proofs.Cited.{arrival, break_line, breaks_of, delay_of, information_of, link_of, of, other, releases, said_at}
-use Rattle.line_ends.proofs.Cited.{same_role, sent-ago, sent_ago, served_at, start}
+use Rattle.line_ends.proofs.Cited.{Accounts, AllPlain, AllSendable, AllShort, Answerer, AreOctets, AsksInOctets, Both, Carries, Crosses}
+use Rattle.line_ends.proofs.Cited.{Frame, GoingTurn, Heard, Hears, INFO, IsAllowed, IsInLimits, IsPlainSent, IsSendable, LineRun, Link}
+use Rattle.line_ends.proofs.Cited.{OctetsAreSendable, OneIsCarried, Originator, Role, RunsOver, SamplesAreCarried, ScriptValue}
+use Rattle.line_ends.proofs.Cited.{ScriptsHaveDelays, ScriptsMayPlay, SendsShort, Sent, Spoken, Turn, Wire, arrival, break_line, breaks_of}
+use Rattle.line_ends.proofs.Cited.{delay_of, information_of, link_of, of, other, releases, said_at, same_role, sent-ago, sent_ago}
+use Rattle.line_ends.proofs.Cited.{served_at, start}
 use Rattle.break_signals.specs.Words.{IsSpelledBack}
-use Rattle.lapm_frames.specs.Parts.{parts_of}
 use Rattle.lapm_frames.specs.declared.sent.Sent.TheVariants as slots
 use Rattle.noise_script.specs.declared.entry.Break.{Break}
 use Rattle.link_account.specs.Speak.{Said}

@@ -2,11 +2,11 @@
 use Rattle.std.proofs.Common.{◌≡◌, ℕ, List, [], ◌∷◌, length, arith, ap, subst}
 use Rattle.line_ends.proofs.Cited.{Accounts, AllSendable, Answerer, Both, Broken, ChanceMatch, CompletesQuiet, CompletesUndisturbed}
 use Rattle.line_ends.proofs.Cited.{CompletesWithFewLosses, CompletesWithFewNamed, DisplacesNoneIsFaint, Done, DoneLeavesWhole, EachRunEnds}
-use Rattle.line_ends.proofs.Cited.{EmptyScriptDisplacesNone, EndsInTurn, FaintGoOn, Going, HasEnd, HeardIn, Hears, IsDone, IsFaint}
-use Rattle.line_ends.proofs.Cited.{IsHeardOf, IsInLimits, IsQuiet, Left, LineEnds, LineLost, LineRun, Link, LinkLost, LosesWhatIsNamed}
-use Rattle.line_ends.proofs.Cited.{NotDetected, OctetsAreSendable, Originator, Outcome, QuietRunsDeliver, Role, RunEnd, ScriptRunsTo}
-use Rattle.line_ends.proofs.Cited.{ScriptValue, ScriptsHaveDelays, ScriptsMayPlay, Turn, TurnIs, UndisplacedIsFaint, UndisturbedRunsDeliver}
-use Rattle.line_ends.proofs.Cited.{heard_turns, link_of, of, other, slots_named, wire_of}
+use Rattle.line_ends.proofs.Cited.{EmptyScriptDisplacesNone, EndsInTurn, FaintGoOn, HasEnd, HeardIn, Hears, IsDone, IsFaint, IsInLimits}
+use Rattle.line_ends.proofs.Cited.{IsQuiet, Left, LineEnds, LineLost, LineRun, Link, LinkLost, LosesWhatIsNamed, NotDetected}
+use Rattle.line_ends.proofs.Cited.{OctetsAreSendable, Originator, Outcome, QuietRunsDeliver, Role, RunEnd, ScriptRunsTo, ScriptValue}
+use Rattle.line_ends.proofs.Cited.{ScriptsHaveDelays, ScriptsMayPlay, Turn, TurnIs, UndisplacedIsFaint, heard_turns, link_of, of, other}
+use Rattle.line_ends.proofs.Cited.{slots_named, wire_of}
 use Rattle.shared_terms.specs.declared.fault.LinkFault.TheVariants as faults
 use Rattle.line_run.specs.Sampled as lines
 use Rattle.line_ends.proofs.Hearing.{HearLaws, AsNamed, heard-named}
@@ -104,6 +104,3 @@ quiet-deliver play delays whole done ends script files h f q o =
     is-whole : (role : Role) {got : List ℕ} → got ≡ (of (other role) (link_of script files)).user.file → got ≡ of (other role) files
     is-whole Originator e = e
     is-whole Answerer e = e
-
-pub undisturbed-deliver : DisplacesNoneIsFaint → QuietRunsDeliver → UndisturbedRunsDeliver
-undisturbed-deliver faint quiet script files h f losses hits noises o = quiet script files h f (is-quiet faint script losses hits noises) o

@@ -3,16 +3,14 @@ use Rattle.std.proofs.Common.{◌≡◌, ℕ, ◌<◌, ◌%◌, ◌&&◌, ◌||�
 use Rattle.std.proofs.Common.{Option, Some, None, Result, Ok, Err}
 use Rattle.std.specs.Option.{option_map}
 use Rattle.std.proofs.lemmas.List.Elements.{All-cons, All-head, All-push, All-tail}
-use Rattle.line_ends.proofs.Cited.{Account, Answerer, AreOctets, Frame, InOctets, LinkFault, Originator, Role, Seen, is_originator}
-use Rattle.line_ends.proofs.Cited.{offer_in, with_given}
-use Rattle.lapm_frames.specs.declared.frame.Frame.TheVariants.{I, Rr, Rnr, Rej, Srej, Sabme, Disc, Ua, Dm, Frmr, Ui, Xid}
+use Rattle.line_ends.proofs.Cited.{Account, AreOctets, Frame, InOctets, LinkFault, Role, Seen, is_originator, with_given}
+use Rattle.lapm_frames.specs.declared.frame.Frame.TheVariants.{I, Rr, Rnr, Rej, Srej, Sabme, Disc, Dm, Frmr, Ui}
 use Rattle.xid_params.specs.declared.offer.Offer.{Offer}
 use Rattle.lapm_sender.specs.Outgoing.{Outgoing, acknowledged, rejected, replied, selected, paused_at, resumed}
 use Rattle.break_signals.specs.declared.word.BreakWord.{BreakWord}
 use Rattle.break_signals.specs.declared.word.BreakWord.TheVariants.{Brk, Ack}
 use Rattle.break_signals.specs.declared.fault.BreakFault.{BreakFault}
 use Rattle.break_signals.specs.Words.{spelled, word_in, IsSpelledBack}
-use Rattle.lapm_frames.specs.declared.seen.Seen.TheVariants.{Odp, Adp}
 use Rattle.lapm_frames.specs.declared.arrived.Arrived.{Arrived}
 use Rattle.lapm_frames.specs.declared.arrived.Arrived.TheVariants as arrivals
 use Rattle.link_account.specs.declared.phase.Phase.{Phase}
