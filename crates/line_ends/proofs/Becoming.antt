@@ -1,12 +1,12 @@
 -- Whatever goes over a line, a slot that fits behind those before it is lost, mistaken or heard; so both slots of a turn are heard well,
 -- or the line ends the run.
-use Rattle.std.proofs.Common.{◌≡◌, ◌⊎◌, inl, inr, ℕ, ◌+◌, ◌-◌, ◌*◌, ◌<◌, ◌≤◌, List, [], ◌∷◌, ◌++◌, length, drop, refl, sym, ap, subst}
-use Rattle.std.proofs.Common.{Option, Some, None}
+use Rattle.std.proofs.Common.{arith, ◌≡◌, ◌⊎◌, inl, inr, ℕ, ◌+◌, ◌-◌, ◌*◌, ◌<◌, ◌≤◌, List, [], ◌∷◌, ◌++◌, length, drop, refl, sym, ap}
+use Rattle.std.proofs.Common.{subst, Option, Some, None}
 use Rattle.std.specs.Prelude.{is_some}
-use Rattle.line_ends.proofs.Cited.{Answerer, AreFit, Arrives, ArrivesAs, Becomes, Chance, Check, EndsLineBy, Heard, IsHeardOf, IsHeardWell}
-use Rattle.line_ends.proofs.Cited.{LineEnd, Lost, Nothing, Originator, Passed, Records, Role, ScriptValue, SentAgo, Signal}
-use Rattle.line_ends.proofs.Cited.{SlotsAreRecorded, Spoken, Turn, Wire, bits_of, delay_of, line_depth, line_trellis, loses, other}
-use Rattle.line_ends.proofs.Cited.{sent-ago, sent_ago, signal_bits, signal_of, signals, signals_before, wire_of}
+use Rattle.line_ends.proofs.Cited.{Answerer, AreFit, Arrives, ArrivesAs, Becomes, Check, EndsLineBy, Heard, IsHeardOf, IsHeardWell, LineEnd}
+use Rattle.line_ends.proofs.Cited.{Nothing, Originator, Records, Role, ScriptValue, SentAgo, Signal, SlotsAreRecorded, Spoken, Turn, Wire}
+use Rattle.line_ends.proofs.Cited.{bits_of, delay_of, line_depth, line_trellis, loses, other, sent-ago, sent_ago, signal_bits, signal_of}
+use Rattle.line_ends.proofs.Cited.{signals, signals_before, wire_of}
 use Rattle.bit_stuffing.specs.declared.slot_writer.TheConstants.{HEAD, TAIL}
 use Rattle.symbol_map.specs.declared.sample.Sample.{Sample}
 use Rattle.exact_decoder.specs.Surviving.Survivors.{LostIs}
@@ -32,10 +32,7 @@ pub record Sent_behind (c : Wire) (sender : Role) (earlier : List Turn) (t : Tur
 -- a slot that has arrived, by what is heard of it
 by-heard : (c : Wire) (sender : Role) (ts : List Turn) (hearing : Check) (heard : Heard) → IsHeardOf c sender ts hearing heard
     → Becomes c sender ts hearing
-by-heard c sender ts hearing Nothing h = becomes.Heard (record { heard = Nothing; is = h; well = λ e. absurd cc })
-by-heard c sender ts hearing (Passed s) h = becomes.Heard (record { heard = Passed s; is = h; well = λ e. absurd cc })
-by-heard c sender ts hearing (Lost s) h = becomes.Heard (record { heard = Lost s; is = h; well = λ e. absurd cc })
-by-heard c sender ts hearing Chance h = becomes.Mistaken h
+by-heard c sender ts hearing heard h = grind (arith)
 
 -- One that fits so becomes one of these three.
 pub slot-becomes : BecomeLaws → (c : Wire) (sender : Role) (ts : List Turn) (hearing : Check) → HEAD + TAIL < c.symbols

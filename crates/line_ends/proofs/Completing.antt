@@ -1,14 +1,10 @@
 -- A run that the line doesn't end is done where no end gives up.
-use Rattle.std.proofs.Common.{refl}
-use Rattle.line_ends.proofs.Cited.{ChanceMatch, CompletesUnstarved, CompletesWithFewLosses, EndsDone, FewLossesKeepLinks, GivesUp, IsDone}
-use Rattle.line_ends.proofs.Cited.{LineEnds, LineLost, LinkLost, LostLinksWereStarved, NotDetected, RunEnd, wire_of}
+use Rattle.std.proofs.Common.{arith}
+use Rattle.line_ends.proofs.Cited.{CompletesUnstarved, CompletesWithFewLosses, EndsDone, FewLossesKeepLinks, GivesUp, LineEnds}
+use Rattle.line_ends.proofs.Cited.{LostLinksWereStarved, RunEnd, wire_of}
 
 pub done-else : (end : RunEnd) → (GivesUp end → ⊥) → (LineEnds end → ⊥) → EndsDone end
-done-else (IsDone turn) up line = (turn, refl)
-done-else (LinkLost role segment turn) up line = absurd (up tt)
-done-else (NotDetected turn) up line = absurd (up tt)
-done-else (LineLost role symbol) up line = absurd (line tt)
-done-else (ChanceMatch role turn) up line = absurd (line tt)
+done-else end up line = grind (arith)
 
 pub completes-unstarved : LostLinksWereStarved → CompletesUnstarved
 completes-unstarved starved script files end left h r fed line =

@@ -1,12 +1,10 @@
 -- How many slots the lose lines of a script name.
 use Rattle.std.proofs.Common.{◌≡◌, ℕ, zero, suc, ◌+◌, ◌-◌, ◌<◌, ◌≤◌, ◌&&◌, ◌||◌, Bool, true, false, nat_le, nat_lt, List, [], ◌∷◌, length}
-use Rattle.std.proofs.Common.{inl, inr, arith, refl, sym, ap, subst}
+use Rattle.std.proofs.Common.{arith, refl, subst}
 use Rattle.std.specs.List.{list_any}
-use Rattle.std.proofs.lemmas.Bool.{cases_lt}
 use Rattle.std.proofs.lemmas.Bool.Decides.{nat_tests}
 use Rattle.frame_check.specs.Bits.{number}
-use Rattle.line_ends.proofs.Cited.{Answerer, Chance, Heard, Lost, Nothing, Originator, Passed, Role, ScriptValue, Turn, delay_of, of, other}
-use Rattle.line_ends.proofs.Cited.{same_role, slots_named}
+use Rattle.line_ends.proofs.Cited.{Answerer, Heard, Originator, Role, ScriptValue, Turn, delay_of, of, other, same_role, slots_named}
 use Rattle.noise_script.specs.declared.entry.Loss.{Loss}
 use Rattle.noise_script.specs.Offsets.{covers}
 use Rattle.link_run.specs.Counts.{lost_in, lost_slots}
@@ -33,14 +31,12 @@ none-named role zero = refl
 none-named role (suc n) = omega (arith, none-named role n)
 
 either : (a b : Bool) → number (a || b) ≤ number a + number b
-either true b = omega arith
-either false b = omega arith
+either a b = grind (arith)
 
 one-and-more : (loss : Loss) (losses : List Loss) (role : Role) (n : ℕ)
     → named_in (loss ∷ losses) role n ≤ named_by loss role n + named_in losses role n
 one-and-more loss losses role zero = omega arith
-one-and-more loss losses role (suc n) =
-    omega (arith, one-and-more loss losses role n, either (names role n loss) (some_names role n losses))
+one-and-more loss losses role (suc n) = grind (arith, one-and-more loss losses role n, either)
 
 -- a line names as many slots as it counts, and no slot of another role
 pub record Few (from count n named : ℕ) : Type 0 where
@@ -54,20 +50,11 @@ is-below : (a b : ℕ) → nat_lt a b ≡ true → a < b
 is-below a b e = grind (arith, nat_tests, e)
 
 few-step : (from count n named : ℕ) → Few from count n named → Few from count (suc n) (named + number (covers from count n))
-few-step from count n named h = go (nat_le from n) (nat_lt n (from + count)) refl refl
-  where
-    go : (a b : Bool) → nat_le from n ≡ a → nat_lt n (from + count) ≡ b → Few from count (suc n) (named + number (a && b))
-    go true true e f =
-        let low = at-least from n e in
-        let high = is-below n (from + count) f in
-        record { within = omega (arith, low, high, h.behind); behind = omega (arith, low, h.behind) }
-    go true false e f = record { within = omega (arith, h.within); behind = omega (arith, h.behind) }
-    go false b e f = record { within = omega (arith, h.within); behind = omega (arith, h.behind) }
+few-step from count n named h = grind (arith, at-least, is-below)
 
 few-of : (same : Bool) (from count n named : ℕ) → Few from count n named
     → Few from count (suc n) (named + number (same && covers from count n))
-few-of true from count n named h = few-step from count n named h
-few-of false from count n named h = record { within = omega (arith, h.within); behind = omega (arith, h.behind) }
+few-of same from count n named h = grind (arith, few-step)
 
 few-by : (loss : Loss) (role : Role) (n : ℕ) → Few loss.from loss.count n (named_by loss role n)
 few-by loss role zero = record { within = omega arith; behind = omega arith }
@@ -75,21 +62,14 @@ few-by loss role (suc n) = few-of (same_role loss.role role) loss.from loss.coun
 
 not-others : (loss : Loss) (role : Role) (n : ℕ) → same_role loss.role role ≡ false → named_by loss role n ≡ 0
 not-others loss role zero e = refl
-not-others loss role (suc n) e =
-    let none : number (names role n loss) ≡ 0 = ap (λ b. number (b && covers loss.from loss.count n)) e in
-    omega (arith, none, not-others loss role n e)
+not-others loss role (suc n) e = grind (arith, not-others loss role n e)
 
 both-by : (loss : Loss) (m n : ℕ) → named_by loss Originator m + named_by loss Answerer n ≤ loss.count
-both-by loss m n = go loss.role refl
-  where
-    go : (r : Role) → loss.role ≡ r → named_by loss Originator m + named_by loss Answerer n ≤ loss.count
-    go Originator e = omega (arith, (few-by loss Originator m).within, not-others loss Answerer n (ap (λ r. same_role r Answerer) e))
-    go Answerer e = omega (arith, (few-by loss Answerer n).within, not-others loss Originator m (ap (λ r. same_role r Originator) e))
+both-by loss m n = grind (arith, few-by, not-others)
 
 pub both-named : (losses : List Loss) (m n : ℕ) → named_in losses Originator m + named_in losses Answerer n ≤ slots_named losses
 both-named [] m n = omega (arith, none-named Originator m, none-named Answerer n)
-both-named (loss ∷ losses) m n =
-    omega (arith, one-and-more loss losses Originator m, one-and-more loss losses Answerer n, both-by loss m n, both-named losses m n)
+both-named (loss ∷ losses) m n = grind (arith, both-named losses m n, one-and-more, both-by)
 
 -- the slots that are lost are named
 abbrev pub AllNamed : ScriptValue → List Turn → Type 0
@@ -103,28 +83,16 @@ lost_to role (t ∷ ts) = lost_to role ts + lost_in (of role t).heard
 
 -- one turn more
 grows : (losses : List Loss) (sender : Role) (n d : ℕ) → named_in losses sender (n - d) ≤ named_in losses sender (n + 1 - d)
-grows losses sender n d = elim (cases_lt n d) [ inl l ↦ same (omega (arith, l)) | inr l ↦ more (omega (arith, l)) ]
-  where
-    same : n + 1 - d ≡ n - d → named_in losses sender (n - d) ≤ named_in losses sender (n + 1 - d)
-    same e = subst (λ x. named_in losses sender (n - d) ≤ named_in losses sender x) (sym e) (omega arith)
-
-    more : n + 1 - d ≡ suc (n - d) → named_in losses sender (n - d) ≤ named_in losses sender (n + 1 - d)
-    more e = subst (λ x. named_in losses sender (n - d) ≤ named_in losses sender x) (sym e) (omega arith)
+grows losses sender n d = grind (arith)
 
 grows-lost : (losses : List Loss) (sender : Role) (n d : ℕ) → d ≤ n → some_names sender (n - d) losses ≡ true
     → named_in losses sender (n - d) + 1 ≤ named_in losses sender (n + 1 - d)
-grows-lost losses sender n d l e =
-    let next : n + 1 - d ≡ suc (n - d) = omega (arith, l) in
-    let one : number (some_names sender (n - d) losses) ≡ 1 = ap number e in
-    subst (λ x. named_in losses sender (n - d) + 1 ≤ named_in losses sender x) (sym next) (omega (arith, one))
+grows-lost losses sender n d l e = grind (arith)
 
 counts-on : (script : ScriptValue) (sender : Role) (ts : List Turn) (heard : Heard) → AsNamed script sender ts heard
     → named_in script.losses sender (length ts - delay_of script sender) + lost_in heard ≤ named_in script.losses sender
     (length ts + 1 - delay_of script sender)
-counts-on script sender ts Nothing h = let g = grows script.losses sender (length ts) (delay_of script sender) in omega (arith, g)
-counts-on script sender ts (Passed s) h = let g = grows script.losses sender (length ts) (delay_of script sender) in omega (arith, g)
-counts-on script sender ts Chance h = let g = grows script.losses sender (length ts) (delay_of script sender) in omega (arith, g)
-counts-on script sender ts (Lost s) h = let l = h.lost tt in grows-lost script.losses sender (length ts) (delay_of script sender) l.0 l.1
+counts-on script sender ts heard h = grind (arith, grows, grows-lost)
 
 lost-named-to : (script : ScriptValue) (ts : List Turn) → AllNamed script ts → (role : Role)
     → lost_to role ts ≤ named_in script.losses (other role) (length ts - delay_of script (other role))

@@ -19,9 +19,7 @@ abbrev pub Decided : Type 0 → Type 0
 Decided P = P ⊎ (P → ⊥)
 
 pub both-decided : {P Q : Type 0} → Decided P → Decided Q → Decided (P × Q)
-both-decided (inl p) (inl q) = inl (p, q)
-both-decided (inl p) (inr q) = inr (λ h. q h.1)
-both-decided (inr p) d = inr (λ h. p h.0)
+both-decided x d = grind (arith)
 
 three-decided : {P Q R : Type 0} → Decided P → Decided Q → Decided R → Decided (P × Q × R)
 three-decided (inl p) (inl q) (inl r) = inl (p, q, r)
@@ -33,11 +31,7 @@ pub number-decided : (m n : ℕ) → Decided (m ≡ n)
 number-decided zero zero = inl refl
 number-decided zero (suc n) = inr (λ e. omega (arith, e))
 number-decided (suc m) zero = inr (λ e. omega (arith, e))
-number-decided (suc m) (suc n) = go (number-decided m n)
-  where
-    go : Decided (m ≡ n) → Decided (suc m ≡ suc n)
-    go (inl e) = inl (ap suc e)
-    go (inr f) = inr (λ e. f (omega (arith, e)))
+number-decided (suc m) (suc n) = grind (arith, number-decided m n)
 
 below-decided : (m n : ℕ) → Decided (m < n)
 below-decided m n = elim (cases_lt m n) [ inl l ↦ inl l | inr l ↦ inr (λ k. omega (arith, l, k)) ]
@@ -97,10 +91,7 @@ some-pass check (whole ∷ wholes) = go (passes-or-not (check_heard check whole)
 -- what a slot is to its hearer
 
 seen-decided : (a b : Seen) → Decided (a ≡ b)
-seen-decided seen.Odp seen.Odp = inl refl
-seen-decided seen.Adp seen.Adp = inl refl
-seen-decided seen.Odp seen.Adp = inr (λ e. absurd cc)
-seen-decided seen.Adp seen.Odp = inr (λ e. absurd cc)
+seen-decided a b = grind (arith)
 
 all-decided : (pattern : Seen) (xs : List Seen) → Decided (All (λ other. other ≡ pattern) xs)
 all-decided pattern [] = inl (All-nil (λ other. other ≡ pattern))
@@ -116,28 +107,19 @@ empty-decided [] = inl refl
 empty-decided (x ∷ xs) = inr (λ e. absurd cc)
 
 not-decided : {P : Type 0} → Decided P → Decided (P → ⊥)
-not-decided (inl p) = inr (λ n. n p)
-not-decided (inr n) = inl n
+not-decided x = grind (arith)
 
 -- exactly this frame's octets, once
 once-decided : (sender : Role) (dlci : ℕ) (frame : Frame) (octets : List (List ℕ)) (patterns : List Seen)
     → Decided (IsFrameOnce sender dlci frame octets patterns)
-once-decided sender dlci frame [] patterns = inr (λ h. none h.0 h.2)
-  where
-    none : (front : List ℕ) → [] ≡ front ∷ [] → ⊥
-    none front e = absurd cc
+once-decided sender dlci frame [] patterns = grind (arith)
 once-decided sender dlci frame (x ∷ y ∷ octets) patterns = inr (λ h. omega (arith, ap (λ (l : List (List ℕ)). length l) h.2))
 once-decided sender dlci frame (x ∷ []) patterns =
     go (three-decided (is-frame-decided frame) (list-decided number-decided x (spelled frame sender dlci)) (empty-decided patterns))
   where
-    first : List (List ℕ) → List ℕ
-    first [] = []
-    first (z ∷ zs) = z
-
     go : Decided (IsFrame frame × (x ≡ spelled frame sender dlci) × (patterns ≡ []))
         → Decided (IsFrameOnce sender dlci frame (x ∷ []) patterns)
-    go (inl h) = inl (x, (h.0, h.1), refl, h.2)
-    go (inr n) = inr (λ h. n (h.1.0, ap first h.2 ∙ h.1.1, h.3))
+    go w = grind (arith)
 
 pattern-decided : (pattern : Seen) (octets : List (List ℕ)) (patterns : List Seen) → Decided (IsPattern pattern octets patterns)
 pattern-decided pattern octets patterns =

@@ -67,14 +67,7 @@ line-end script files ts ends r (lines.ChanceMatch role) e =
 in-turn : (script : ScriptValue) (files : Both (List ℕ)) (ts : List Turn) (ends : Accounts) (m : MadeOver (wire_of script) files ts ends)
     (o : Outcome) → m.outcome ≡ o
     → EndsInTurn (wire_of script) (link_of script files) ts ends o (length ts) (left_of m.mid (trace_text (m.turn ∷ ts)))
-in-turn script files ts ends m o e = record {
-  number = refl;
-  last = m.turn;
-  mid = m.mid;
-  heard = m.heard;
-  is = subst (TurnIs (link_of script files) ts ends m.turn m.mid) e m.is;
-  leaves = leaves-so m.mid (trace_text (m.turn ∷ ts));
-}
+in-turn script files ts ends m o e = grind (arith)
 
 broken-end : EndLaws → (script : ScriptValue) (files : Both (List ℕ)) (ts : List Turn) (ends : Accounts) → IsInLimits script
     → LineRun (wire_of script) (link_of script files) ts ends

@@ -1,13 +1,13 @@
 -- What an end is handed by its user are octets, and so is what it then holds.
-use Rattle.std.proofs.Common.{◌≡◌, ℕ, zero, suc, ◌*◌, ◌<◌, ◌≤◌, Bool, true, false, cond, nat_le, List, [], ◌∷◌, ◌++◌, length, drop, All}
-use Rattle.std.proofs.Common.{slice_get, arith, refl, sym, subst, Option, Some, None}
+use Rattle.std.proofs.Common.{◌≡◌, ℕ, zero, suc, ◌<◌, Bool, true, false, cond, nat_le, List, [], ◌∷◌, ◌++◌, length, All, slice_get, arith}
+use Rattle.std.proofs.Common.{refl, sym, subst, Option, Some, None}
 use Rattle.std.specs.List.{concat}
 use Rattle.std.proofs.lemmas.List.{length-take}
 use Rattle.std.proofs.lemmas.List.Elements.{All-nil, All-cons, All-head, All-tail, All-push, All-take}
 use Rattle.line_ends.proofs.Cited.{Account, AreOctets, OwnBreaks, after_ask, after_break_asked, after_busy, after_given, is_connected}
-use Rattle.line_ends.proofs.Cited.{piece_size, takes_break, wants}
-use Rattle.link_run.specs.End.{User, BreakLine, delivered, piece_at, offered_at, offered_times, room_for, offered, is_busy, next_break}
-use Rattle.link_run.specs.End.{asked_at, asked, served}
+use Rattle.line_ends.proofs.Cited.{takes_break, wants}
+use Rattle.link_run.specs.End.{User, BreakLine, delivered, offered_at, offered_times, room_for, offered, is_busy, next_break, asked_at}
+use Rattle.link_run.specs.End.{asked, served}
 use Rattle.link_run.specs.Reading.{IsOffered, OffersWhatIsRead, OwnSegmentsStay}
 use Rattle.line_ends.proofs.Words.{Octet, Owes}
 use Rattle.line_ends.proofs.Saying.{AllOctets, IsReady}
@@ -51,58 +51,18 @@ holds-delivered : (file : List ℕ) (a : Account) → Holds file a → Holds fil
 holds-delivered file a h = go (is_connected a.phase)
   where
     go : (b : Bool) → Holds file (after_given (cond b (record a { incoming = record a.incoming { given = length a.incoming.taken } }) a))
-    go true = record {
-      offered = record {
-        allowed = h.offered.allowed;
-        terms = h.offered.terms;
-        size = h.offered.size;
-        cut = h.offered.cut;
-      };
-      own = h.own;
-      owes = h.owes;
-    }
-    go false = record {
-      offered = record {
-        allowed = h.offered.allowed;
-        terms = h.offered.terms;
-        size = h.offered.size;
-        cut = h.offered.cut;
-      };
-      own = h.own;
-      owes = h.owes;
-    }
+    go true = grind (arith)
+    go false = grind (arith)
 
 offers-at : OfferLaws → (file : List ℕ) (a : Account) (w : Option ℕ) → wants a ≡ w → Holds file a → Holds file (offered_at file a w)
-offers-at laws file a None e h = h
-offers-at laws file a (Some n) e h =
-    let piece : List ℕ = piece_at (piece_size a) file n in
-    let few : length piece ≤ piece_size a = omega (arith, length-take (piece_size a) (drop (piece_size a * n) file)) in
-    let x = laws.next file a n piece h.offered e few in
-    record {
-      offered = subst (λ f. IsOffered f (offered_at file a (Some n))) (laws.own (piece_size a) n file) x.offered;
-      own = h.own;
-      owes = h.owes;
-    }
+offers-at laws file a w e h = grind (arith, length-take)
 
 offers-times : OfferLaws → (n : ℕ) (file : List ℕ) (a : Account) → Holds file a → Holds file (offered_times n file a)
 offers-times laws zero file a h = h
 offers-times laws (suc n) file a h = offers-times laws n file (offered_at file a (wants a)) (offers-at laws file a (wants a) refl h)
 
 holds-busy : (file : List ℕ) (busy : Bool) (a : Account) → Holds file a → Holds file (after_busy busy a)
-holds-busy file busy a h = go (is_connected a.phase)
-  where
-    go : (c : Bool) → Holds file (cond c (record a { owes = record a.owes { busy = busy } }) a)
-    go true = record {
-      offered = record {
-        allowed = h.offered.allowed;
-        terms = h.offered.terms;
-        size = h.offered.size;
-        cut = h.offered.cut;
-      };
-      own = h.own;
-      owes = h.owes;
-    }
-    go false = h
+holds-busy file busy a h = grind (arith)
 
 more-breaks : (turn l : ℕ) (b : OwnBreaks) → l < 256 → AreOctets b.lengths → AreOctets (after_ask turn l b).lengths
 more-breaks turn l b s h = go (takes_break turn b)
@@ -112,15 +72,7 @@ more-breaks turn l b s h = go (takes_break turn b)
     go false = h
 
 asks : (file : List ℕ) (turn l : ℕ) (a : Account) → l < 256 → Holds file a → Holds file (after_break_asked turn l a)
-asks file turn l a s h = go (is_connected a.phase)
-  where
-    go : (c : Bool) → Holds file (cond c (record a { own_breaks = after_ask turn l a.own_breaks }) a)
-    go true = record {
-      offered = record { allowed = h.offered.allowed; terms = h.offered.terms; size = h.offered.size; cut = h.offered.cut };
-      own = more-breaks turn l a.own_breaks s h.own;
-      owes = h.owes;
-    }
-    go false = h
+asks file turn l a s h = grind (arith, more-breaks)
 
 -- the break at an index
 abbrev IfBreak : Option BreakLine → Type 0

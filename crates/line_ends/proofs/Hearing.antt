@@ -1,6 +1,6 @@
 -- What is heard in a script's run whose noise is faint.
-use Rattle.std.proofs.Common.{◌≡◌, ◌≢◌, ℕ, ◌+◌, ◌-◌, ◌*◌, ◌<◌, ◌≤◌, Bool, true, false, List, [], ◌∷◌, ◌++◌, length, drop, arith, refl, sym}
-use Rattle.std.proofs.Common.{◌∙◌, subst, Option, Some, None, append-nil}
+use Rattle.std.proofs.Common.{◌≡◌, ◌≢◌, ℕ, ◌+◌, ◌-◌, ◌*◌, ◌<◌, ◌≤◌, Bool, true, List, [], ◌∷◌, ◌++◌, length, drop, arith, refl, sym, ◌∙◌}
+use Rattle.std.proofs.Common.{subst, Option, Some, None, append-nil}
 use Rattle.line_ends.proofs.Cited.{Accounts, AllSendable, Answerer, AreFit, Arrives, ArrivesAs, Both, Chance, Check, FaintGoOn}
 use Rattle.line_ends.proofs.Cited.{FaintNeverLost, FaintReceivedIsSent, Frame, Heard, IsFaint, IsHeardOf, IsInLimits, IsSendable, LineRun}
 use Rattle.line_ends.proofs.Cited.{LosesLine, NeverChance, Nothing, Originator, Records, Role, RunsOver, SamplesAreCarried, ScriptValue}
@@ -33,21 +33,12 @@ pub record HearLaws : Type 0 where
 -- the line of samples as any line
 pub over : HearLaws → (script : ScriptValue) (files : Both (List ℕ)) (ts : List Turn) (ends : Accounts) → IsInLimits script
     → LineRun (wire_of script) (link_of script files) ts ends → RunsOver (link_of script files) (delay_of script) ts ends
-over laws script files ts ends h r = record {
-  may_play = laws.play script files h;
-  delays = laws.delays script h;
-  carried = laws.carried (wire_of script) ts r.heard;
-  run = r.run;
-}
+over laws script files ts ends h r = grind (arith)
 
 pub agree-on : (check hearing : Check) (s : Sent)
     → ((frame : Frame) → s ≡ slots.Frame frame → check_for check frame ≡ check_for hearing frame)
     → ChecksAgree check hearing s
-agree-on check hearing slots.Mark f = tt
-agree-on check hearing slots.Odp f = tt
-agree-on check hearing slots.Adp f = tt
-agree-on check hearing slots.Flags f = tt
-agree-on check hearing (slots.Frame frame) f = f frame refl
+agree-on check hearing s f = grind (arith)
 
 -- the slots of a script are long enough
 pub slots-long : (script : ScriptValue) → 215 < symbols_of script
@@ -81,12 +72,7 @@ pub record AsNamed (script : ScriptValue) (sender : Role) (ts : List Turn) (hear
   pub lost : IsLost heard → (delay_of script sender ≤ length ts) × (loses script sender (length ts - delay_of script sender) ≡ true)
 
 lost-named : (lose : Bool) (s : Sent) → IsLost (unhindered lose s) → lose ≡ true
-lost-named true s h = refl
-lost-named false slots.Mark h = absurd h
-lost-named false slots.Odp h = absurd h
-lost-named false slots.Adp h = absurd h
-lost-named false slots.Flags h = absurd h
-lost-named false (slots.Frame frame) h = absurd h
+lost-named lose s h = grind (arith)
 
 nothing-named : (script : ScriptValue) (sender : Role) (ts : List Turn) → AsNamed script sender ts Nothing
 nothing-named script sender ts = record { well = λ e. absurd cc; lost = λ h. absurd h }

@@ -1,8 +1,7 @@
 -- What is received of a slot is read off labels that begin a nearest code sequence.
-use Rattle.std.proofs.Common.{◌≡◌, ◌-◌, List, [], ◌∷◌, drop, Some, subst}
-use Rattle.line_ends.proofs.Cited.{Accounts, Arrives, ArrivesAs, Check, EndsBy, Heard, HeardIn, IsDone, IsHeardOver, Left, LineRun, Link}
-use Rattle.line_ends.proofs.Cited.{LinkLost, NotDetected, Role, RunEnd, Spoken, Turn, Wire, delay_of, line_trellis, of, other, sent_ago}
-use Rattle.line_ends.proofs.Cited.{turns_heard}
+use Rattle.std.proofs.Common.{arith, ◌≡◌, ◌-◌, List, [], ◌∷◌, drop, Some, subst}
+use Rattle.line_ends.proofs.Cited.{Accounts, Arrives, ArrivesAs, Check, EndsBy, Heard, HeardIn, IsHeardOver, Left, LineRun, Link, Role}
+use Rattle.line_ends.proofs.Cited.{RunEnd, Spoken, Turn, Wire, delay_of, line_trellis, of, other, sent_ago, turns_heard}
 use Rattle.exact_decoder.specs.Surviving.Laws.{ReleasedIsLeast, OfEachCode}
 use Rattle.exact_decoder.proofs.Surviving.V32.{line-has-laws}
 use Rattle.line_ends.specs.ReadOff.{IsReadOff, AreReadOff}
@@ -34,8 +33,4 @@ turns-read least c (t ∷ ts) h = (turn-read least c ts t h.0, turns-read least 
 pub run-read : OfEachCode ReleasedIsLeast → (c : Wire) (link : Link) (ts : List Turn) (ends : Accounts) (end : RunEnd) (left : Left)
     → LineRun c link ts ends → (e : EndsBy c link ts ends end left)
     → AreReadOff c (turns_heard c link ts ends end left e)
-run-read least c link ts ends (IsDone turn) left run e = (turn-read least c ts e.last e.heard, turns-read least c ts run.heard)
-run-read least c link ts ends (LinkLost role segment turn) left run e =
-    (turn-read least c ts e.1.last e.1.heard, turns-read least c ts run.heard)
-run-read least c link ts ends (NotDetected turn) left run e = (turn-read least c ts e.last e.heard, turns-read least c ts run.heard)
-run-read least c link ts ends end left run e = turns-read least c ts run.heard
+run-read least c link ts ends end left run e = grind (arith, turn-read, turns-read)

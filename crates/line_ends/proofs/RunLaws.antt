@@ -1,5 +1,5 @@
 -- The laws of runs that the promises of commands rest on.
-use Rattle.std.proofs.Common.{ℕ, List}
+use Rattle.std.proofs.Common.{arith, ℕ, List}
 use Rattle.line_ends.proofs.Cited.{Accounts, Both, DoneLeavesWhole, EndsHaveCauses, HearingsDeliver, HearsPrefixes, IsInLimits, LineRun}
 use Rattle.line_ends.proofs.Cited.{MayRun, OneIsCarried, RunsLeavePrefixes, RunsLeaveWhatPassed, RunsOver, SamplesAreCarried}
 use Rattle.line_ends.proofs.Cited.{ScriptsHaveDelays, ScriptsMayPlay, TakesPrefixes, Turn, Wire, delay_of, link_of}
@@ -26,9 +26,4 @@ may-run laws c files h = record { may_play = laws.play c.script files h; delays 
 
 pub runs-over : RunLaws → (c : Wire) (files : Both (List ℕ)) (ts : List Turn) (ends : Accounts) → IsInLimits c.script
     → LineRun c (link_of c.script files) ts ends → RunsOver (link_of c.script files) (delay_of c.script) ts ends
-runs-over laws c files ts ends h r = record {
-  may_play = laws.play c.script files h;
-  delays = laws.delays c.script h;
-  carried = laws.carried c ts r.heard;
-  run = r.run;
-}
+runs-over laws c files ts ends h r = grind (arith)

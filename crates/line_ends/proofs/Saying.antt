@@ -1,14 +1,13 @@
 -- What an end says has numbers below 128, and its words of breaks are octets; all of it are octets where its user's file is.
-use Rattle.std.proofs.Common.{◌≡◌, ℕ, zero, suc, ◌+◌, ◌*◌, ◌/◌, ◌%◌, ◌<◌, ◌&&◌, Bool, true, false, cond, nat_eq, nat_le, List, [], ◌∷◌}
+use Rattle.std.proofs.Common.{◌≡◌, ℕ, zero, suc, ◌+◌, ◌*◌, ◌/◌, ◌%◌, ◌<◌, ◌&&◌, Bool, true, false, cond, nat_le, List, [], ◌∷◌}
 use Rattle.std.proofs.Common.{slice_index_or, arith, subst, Option, Some, None, Result, Ok, Err}
 use Rattle.std.proofs.lemmas.List.Elements.{All-from_recursion, All-nil, All-cons, All-head, All-tail}
 use Rattle.line_ends.proofs.Cited.{Account, Answerer, AreOctets, Frame, IsAllowed, IsPlain, IsPlainSent, LinkFault, Originator, OwnBreaks}
-use Rattle.line_ends.proofs.Cited.{Role, Sent, information_of, is_originator, own_due, waits, written}
+use Rattle.line_ends.proofs.Cited.{Role, Sent, information_of, is_originator, own_due, written}
 use Rattle.lapm_frames.specs.declared.frame.Frame.TheVariants.{Sabme, Disc, Xid}
 use Rattle.xid_params.specs.declared.offer.Offer.{Offer}
 use Rattle.lapm_receiver.specs.Incoming.{asks}
 use Rattle.break_signals.specs.declared.word.BreakWord.{BreakWord}
-use Rattle.break_signals.specs.declared.word.BreakWord.TheVariants.{Brk}
 use Rattle.lapm_frames.specs.declared.sent.Sent.TheVariants as slots
 use Rattle.link_account.specs.declared.phase.Phase.{Phase}
 use Rattle.link_account.specs.declared.phase.Phase.TheVariants.{Detecting, Negotiating, Establishing, Connected, Releasing, Closed}
@@ -18,9 +17,8 @@ use Rattle.link_account.specs.declared.answer.Answer.TheVariants as answers
 use Rattle.link_account.specs.Hear.{trying}
 use Rattle.link_account.specs.Speak.{Said, says, says_segment, says_own, says_break, says_asking, where_says, else_says, answering}
 use Rattle.link_account.specs.Speak.{may_send, step1, step2, step3, step4, step5, step6, step7, step8, steps, speak, speak_in}
-use Rattle.link_account.specs.Speak.{speak_detecting, speak_negotiating, speak_releasing, speak_linked, speak_answer, u_try, tries_frame}
-use Rattle.link_account.specs.Speak.{trying_again, spent, on_timer, timer_expires, polling, on_break_timer, breaking, then_tries}
-use Rattle.link_account.specs.Speak.{after_timers, tells, ready_frame, nr_of, has_news}
+use Rattle.link_account.specs.Speak.{speak_detecting, speak_negotiating, speak_releasing, speak_linked, speak_answer, u_try, on_timer}
+use Rattle.link_account.specs.Speak.{on_break_timer, then_tries, after_timers, tells, has_news}
 use Rattle.line_ends.proofs.Words.{Octet, OfOctets, Owes}
 
 -- the information in a slot
@@ -51,12 +49,10 @@ with-octet x xs l h = All-cons Octet x xs l h
 
 -- an offer that may be sent is written in octets
 functions-octet : (srej : Bool) → cond srej 142 138 < 256
-functions-octet true = omega arith
-functions-octet false = omega arith
+functions-octet srej = grind (arith)
 
 check-octet : (check32 : Bool) → cond check32 1 0 < 256
-check-octet true = omega arith
-check-octet false = omega arith
+check-octet check32 = grind (arith)
 
 written-with : (f c t u r v tw rw' : ℕ) → f < 256 → c < 256 → t < 256 → u < 256 → r < 256 → v < 256 → tw < 256 → rw' < 256
     → AreOctets (130 ∷ 128 ∷ 0 ∷ 19 ∷ 3 ∷ 3 ∷ f ∷ 137 ∷ c ∷ 5 ∷ 2 ∷ t ∷ u ∷ 6 ∷ 2 ∷ r ∷ v ∷ 7 ∷ 1 ∷ tw ∷ 8 ∷ 1 ∷ rw' ∷ [])
@@ -123,14 +119,7 @@ written-octets o h =
 
 -- the break that is due is a word of octets
 own-octets : (b : OwnBreaks) → AreOctets b.lengths → OfOctets (own_due b)
-own-octets b h = go b.brk
-  where
-    go : (brk : Bool) → OfOctets (cond brk (Some (Brk (b.answered % 2) (slice_index_or b.lengths b.answered 0))) None)
-    go true =
-        with-octet 64 (b.answered % 2 ∷ slice_index_or b.lengths b.answered 0 ∷ []) (omega arith)
-        (with-octet (b.answered % 2) (slice_index_or b.lengths b.answered 0 ∷ []) (omega arith)
-        (with-octet (slice_index_or b.lengths b.answered 0) [] (octet-at b.lengths b.answered h) (All-nil Octet)))
-    go false = tt
+own-octets b h = grind (arith, with-octet, octet-at)
 
 -- what an end holds, whose user has a file
 pub record IsReady (file : List ℕ) (a : Account) : Type 0 where
@@ -162,12 +151,10 @@ module _ (file : List ℕ) where
   bare f = All-nil Octet
 
   else-says : (o : Option Said) (said : Said) → AllGood file o → IsGood file said → IsGood file (else_says o said)
-  else-says None said h k = k
-  else-says (Some first) said h k = h
+  else-says o said h k = grind (arith)
 
   where-says : (b : Bool) (said : Said) → IsGood file said → AllGood file (where_says b said)
-  where-says true said h = h
-  where-says false said h = tt
+  where-says b said h = grind (arith)
 
   -- the answer that is due
   due : (o : Option Answer) (a : Account) → IsReady file a → AllGood file (answering o a)
@@ -182,42 +169,24 @@ module _ (file : List ℕ) where
   due (Some (answers.Dm pf)) a h = record { sent = record { ns = tt; nr = tt; octets = tt }; octets = bare; owes = h.owes }
 
   segment : (turn : ℕ) (o : Option ℕ) (a : Account) → IsReady file a → AllGood file (says_segment turn o a)
-  segment turn None a h = tt
-  segment turn (Some i) a h = record {
-    sent = record { ns = omega arith; nr = omega arith; octets = tt };
-    octets = λ f. piece-at a.outgoing.pieces i (h.pieces f);
-    owes = h.owes;
-  }
+  segment turn o a h = grind (arith, piece-at)
 
   own-break : (o : Option BreakWord) (a : Account) → OfOctets o → Owes a → AllGood file (says_own o a)
-  own-break None a w h = tt
-  own-break (Some word) a w h = record { sent = record { ns = tt; nr = tt; octets = w }; octets = λ f. w; owes = h }
+  own-break o a w h = grind (arith)
 
   words : (o : Option BreakWord) (a : Account) → OfOctets o → IsReady file a → AllGood file (says_break o a)
-  words None a w h = own-break (own_due a.own_breaks) a (own-octets a.own_breaks h.own) h.owes
-  words (Some word) a w h = record { sent = record { ns = tt; nr = tt; octets = w }; octets = λ f. w; owes = (tt, h.owes.1) }
+  words o a w h = grind (arith, own-break, own-octets)
 
   -- RR or RNR
   told : (command pf : Bool) (a : Account) → Owes a → IsGood file (tells command pf a)
-  told command pf a h = let ready = go a.owes.busy in record { sent = ready.0; octets = ready.1; owes = h }
-    where
-      go : (busy : Bool) → IsPlain (ready_frame busy command (nr_of a) pf)
-          × (AreOctets file → AreOctets (information_of (ready_frame busy command (nr_of a) pf)))
-      go true = (record { ns = tt; nr = omega arith; octets = tt }, bare)
-      go false = (record { ns = tt; nr = omega arith; octets = tt }, bare)
+  told command pf a h = grind (arith, bare)
 
   asking : (srej special : Bool) (o : Option ℕ) (a : Account) → Owes a → AllGood file (says_asking srej special o a)
-  asking false special None a h = tt
-  asking true special None a h = tt
-  asking false special (Some i) a h = record { sent = record { ns = tt; nr = omega arith; octets = tt }; octets = bare; owes = h }
-  asking true true (Some i) a h = tt
-  asking true false (Some i) a h = record { sent = record { ns = tt; nr = omega arith; octets = tt }; octets = bare; owes = h }
+  asking srej special o a h = grind (arith, bare)
 
   sixth : (special news busy : Bool) (a : Account) → Owes a
       → AllGood file (cond news (Some (tells false false a)) (cond busy None (says_asking a.incoming.srej special (asks a.incoming) a)))
-  sixth special true busy a h = told false false a h
-  sixth special false true a h = tt
-  sixth special false false a h = asking a.incoming.srej special (asks a.incoming) a h
+  sixth special news busy a h = grind (arith, asking)
 
   fifth : (special : Bool) (a : Account) → IsReady file a → AllGood file (step5 special a)
   fifth true a h = tt
@@ -241,27 +210,13 @@ module _ (file : List ℕ) where
 
   -- timers change nothing of that
   timed : (turn : ℕ) (a : Account) → IsReady file a → IfReady file (on_timer turn a)
-  timed turn a h = go (timer_expires turn a a.wait.timer) (nat_eq a.outgoing.count a.outgoing.tries)
-    where
-      go : (b c : Bool) → IfReady file (cond b
-          (polling turn (cond c None (Some (record a.outgoing { count = a.outgoing.count + 1; awaited = true }))) a) (Ok a))
-      go true true = tt
-      go true false = record { offer = h.offer; pieces = h.pieces; own = h.own; owes = h.owes }
-      go false c = h
+  timed turn a h = grind (arith)
 
   broken : (turn : ℕ) (a : Account) → IsReady file a → IfReady file (on_break_timer turn a)
-  broken turn a h = go (waits a.own_breaks && nat_eq turn (a.own_breaks.set + a.setup.period)) (nat_eq a.own_breaks.count a.setup.tries)
-    where
-      go : (b c : Bool) → IfReady file (breaking turn
-          (cond b (cond c None (Some (record a.own_breaks { brk = true; set = turn; count = a.own_breaks.count + 1 }))) (Some a.own_breaks))
-          a)
-      go true true = tt
-      go true false = record { offer = h.offer; pieces = h.pieces; own = h.own; owes = h.owes }
-      go false c = record { offer = h.offer; pieces = h.pieces; own = h.own; owes = h.owes }
+  broken turn a h = grind (arith)
 
   both-timed : (turn : ℕ) (r : Result Account LinkFault) → IfReady file r → IfReady file (then_tries turn r)
-  both-timed turn (Err fault) h = tt
-  both-timed turn (Ok b) h = broken turn b h
+  both-timed turn r h = grind (arith)
 
   links : (turn : ℕ) (a : Account) → IsReady file a → IfGood file (speak_linked turn a)
   links turn a h = go (then_tries turn (on_timer turn a)) (both-timed turn (on_timer turn a) (timed turn a h))
@@ -274,17 +229,7 @@ module _ (file : List ℕ) where
   -- a U try
   u : (turn : ℕ) (frame : Frame) (a : Account) → IsPlain frame → (AreOctets file → AreOctets (information_of frame)) → Owes a
       → IfGood file (u_try turn frame a)
-  u turn frame a h o k = go (nat_eq turn (a.wait.try_set + a.setup.period)) (nat_eq a.wait.try_count a.setup.tries)
-    where
-      tried : (b : Account) → Owes b → IsGood file (tries_frame frame b)
-      tried b w = else-says (where_says b.wait.try _) _ (where-says b.wait.try _ (record { sent = h; octets = o; owes = w }))
-          (record { sent = tt; octets = bare; owes = w })
-
-      go : (b e : Bool) → IfGood file (cond b (cond e (Err (spent turn a)) (Ok (tries_frame frame (trying_again turn a))))
-          (Ok (tries_frame frame a)))
-      go true true = tt
-      go true false = tried (trying_again turn a) k
-      go false e = tried a k
+  u turn frame a h o k = grind (arith, else-says, where-says)
 
   detects : (role : Role) (turn : ℕ) (a : Account) → IsReady file a → IfGood file (speak_detecting role turn a)
   detects Originator turn a h = go (nat_le ((a.setup.tries + 1) * a.setup.period) turn)

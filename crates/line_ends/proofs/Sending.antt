@@ -1,16 +1,15 @@
 -- What the ends of a run send, all through it: what is read where it is heard, and what can be sent where their users' files are octets.
-use Rattle.std.proofs.Common.{◌≡◌, ℕ, ◌<◌, ◌≤◌, false, List, [], ◌∷◌, All, length, filter, arith, refl, sym, ◌∙◌, ap, subst, Option, Some}
-use Rattle.std.proofs.Common.{None, IfSome, Ok}
+use Rattle.std.proofs.Common.{◌≡◌, ℕ, ◌<◌, ◌≤◌, false, List, [], ◌∷◌, All, length, filter, arith, sym, ◌∙◌, ap, subst, Option, Some, None}
+use Rattle.std.proofs.Common.{IfSome, Ok}
 use Rattle.std.specs.Prelude.{unwrap_or}
 use Rattle.std.proofs.lemmas.List.Elements.{All-nil, All-map, All-filter}
-use Rattle.line_ends.proofs.Cited.{Accounts, AllPlain, AllSendable, AllShort, Answerer, AreOctets, AsksInOctets, Both, Carries, Chance}
-use Rattle.line_ends.proofs.Cited.{Crosses, Frame, GoingTurn, Heard, Hears, INFO, IsAllowed, IsInLimits, IsPlainSent, IsSendable, LineRun}
-use Rattle.line_ends.proofs.Cited.{Link, Lost, Nothing, OctetsAreSendable, OneIsCarried, Originator, Passed, Role, RunsOver}
-use Rattle.line_ends.proofs.Cited.{SamplesAreCarried, ScriptValue, ScriptsHaveDelays, ScriptsMayPlay, SendsShort, Sent, Spoken, Turn, Wire}
-use Rattle.line_ends.proofs.Cited.{arrival, break_line, breaks_of, delay_of, information_of, link_of, of, other, releases, said_at}
-use Rattle.line_ends.proofs.Cited.{same_role, sent-ago, sent_ago, served_at, start}
+use Rattle.line_ends.proofs.Cited.{Accounts, AllPlain, AllSendable, AllShort, Answerer, AreOctets, AsksInOctets, Both, Carries, Crosses}
+use Rattle.line_ends.proofs.Cited.{Frame, GoingTurn, Heard, Hears, INFO, IsAllowed, IsInLimits, IsPlainSent, IsSendable, LineRun, Link}
+use Rattle.line_ends.proofs.Cited.{OctetsAreSendable, OneIsCarried, Originator, Role, RunsOver, SamplesAreCarried, ScriptValue}
+use Rattle.line_ends.proofs.Cited.{ScriptsHaveDelays, ScriptsMayPlay, SendsShort, Sent, Spoken, Turn, Wire, arrival, break_line, breaks_of}
+use Rattle.line_ends.proofs.Cited.{delay_of, information_of, link_of, of, other, releases, said_at, same_role, sent-ago, sent_ago}
+use Rattle.line_ends.proofs.Cited.{served_at, start}
 use Rattle.break_signals.specs.Words.{IsSpelledBack}
-use Rattle.lapm_frames.specs.Parts.{parts_of}
 use Rattle.lapm_frames.specs.declared.sent.Sent.TheVariants as slots
 use Rattle.noise_script.specs.declared.entry.Break.{Break}
 use Rattle.link_account.specs.Speak.{Said}
@@ -50,37 +49,23 @@ user-octets script files o Answerer = breaks-octets script Answerer o
 -- the offer that an end may send
 offers-allowed : ScriptsMayPlay → (script : ScriptValue) (files : Both (List ℕ)) → IsInLimits script → (role : Role)
     → IsAllowed (of role (link_of script files)).setup.offer
-offers-allowed play script files h Originator = (play script files h).offer_o
-offers-allowed play script files h Answerer = (play script files h).offer_a
+offers-allowed play script files h role = grind (arith)
 
 -- what passes was sent
 passes-octets : (s : Sent) → IsPlainSent s → ArrivesInOctets (arrives s)
-passes-octets slots.Mark h = tt
-passes-octets slots.Odp h = tt
-passes-octets slots.Adp h = tt
-passes-octets slots.Flags h = tt
-passes-octets (slots.Frame frame) h = h.octets
+passes-octets s h = grind (arith)
 
 crosses-octets : (o : Option Spoken) (heard : Heard) → Crosses o heard → ((slot : Spoken) → o ≡ Some slot → IsPlainSent slot.sent)
     → ArrivesInOctets (arrival heard)
-crosses-octets o Nothing c f = tt
-crosses-octets o (Lost s) c f = tt
-crosses-octets o Chance c f = tt
-crosses-octets None (Passed s) c f = absurd c
-crosses-octets (Some slot) (Passed s) c f = subst (λ z. ArrivesInOctets (arrives z)) (sym c.0) (passes-octets slot.sent (f slot refl))
+crosses-octets o heard c f = grind (arith, passes-octets)
 
 -- a frame that is plain and short, of octets, can be sent
 short-info : (o : Option (List ℕ)) → length (unwrap_or o []) ≤ INFO → IfSome o (λ info. length info ≤ INFO)
-short-info None h = tt
-short-info (Some info) h = h
+short-info o h = grind (arith)
 
 plain-sendable : (s : Sent) → IsPlainSent s → AreOctets (information_in s)
     → ((frame : Frame) → s ≡ slots.Frame frame → length (information_of frame) ≤ INFO) → IsSendable s
-plain-sendable slots.Mark p o f = tt
-plain-sendable slots.Odp p o f = tt
-plain-sendable slots.Adp p o f = tt
-plain-sendable slots.Flags p o f = tt
-plain-sendable (slots.Frame frame) p o f = ((p.ns, p.nr, short-info (parts_of frame).info (f frame refl)), o)
+plain-sendable s p o f = grind (arith, short-info)
 
 -- what an end says as a turn's end of it
 says-good : (link : Link) (turn : ℕ) (mid : Accounts) (role : Role) (said : Said) → said_at link turn mid role ≡ Ok said → (file : List ℕ)

@@ -1,11 +1,10 @@
 -- A run that ends by a lost link was starved, and what else its end says.
-use Rattle.std.proofs.Common.{arith, ◌≡◌, ◌∙◌, ℕ, List, [], map, filter, ap}
-use Rattle.line_ends.proofs.Cited.{Accounts, Answerer, Both, DoneIsWhole, EndsHaveCauses, FewLossesKeepLinks, GivesEachBreak, GivesUp}
-use Rattle.line_ends.proofs.Cited.{GivesUpOnTime, HearingsGiveAllBreaks, IsDone, IsInLimits, Left, LineRun, LinkLost, LosesInPeriods}
-use Rattle.line_ends.proofs.Cited.{LostLinksWereStarved, NotDetected, OneIsCarried, Originator, Role, RunEnd, RunsOver, RunsTo}
-use Rattle.line_ends.proofs.Cited.{SamplesAreCarried, ScriptValue, ScriptsHaveDelays, ScriptsMayPlay, Turn, WaitsForNoBreak, Wire}
-use Rattle.line_ends.proofs.Cited.{break_line, delay_of, link_of, of, period_of, same_role, turns_heard}
-use Rattle.noise_script.specs.declared.entry.Break.{Break}
+use Rattle.std.proofs.Common.{arith, ◌≡◌, ◌∙◌, ℕ, List, []}
+use Rattle.line_ends.proofs.Cited.{Accounts, Both, DoneIsWhole, EndsHaveCauses, FewLossesKeepLinks, GivesEachBreak, GivesUp, GivesUpOnTime}
+use Rattle.line_ends.proofs.Cited.{HearingsGiveAllBreaks, IsDone, IsInLimits, Left, LineRun, LinkLost, LosesInPeriods, LostLinksWereStarved}
+use Rattle.line_ends.proofs.Cited.{NotDetected, OneIsCarried, Originator, Role, RunEnd, RunsOver, RunsTo, SamplesAreCarried, ScriptValue}
+use Rattle.line_ends.proofs.Cited.{ScriptsHaveDelays, ScriptsMayPlay, Turn, WaitsForNoBreak, Wire, delay_of, link_of, of, period_of}
+use Rattle.line_ends.proofs.Cited.{turns_heard}
 use Rattle.shared_terms.specs.declared.fault.LinkFault.TheVariants as faults
 use Rattle.turn_losses.specs.Losses.{OriginatorWantsPattern, UndetectedOnTime, StarvedLosesMany}
 use Rattle.turn_losses.specs.Tries.{GivesUpForLosses, GivesUpUnbroken}
@@ -30,8 +29,7 @@ pub record Laws : Type 0 where
 -- the line of samples as any line
 over : Laws → (c : Wire) (files : Both (List ℕ)) (ts : List Turn) (ends : Accounts) → IsInLimits c.script
     → LineRun c (link_of c.script files) ts ends → RunsOver (link_of c.script files) (delay_of c.script) ts ends
-over laws c files ts ends h r = record
-    { may_play = laws.play c.script files h; delays = laws.delays c.script h; carried = laws.carried c ts r.heard; run = r.run }
+over laws c files ts ends h r = grind (arith)
 
 pub lost-links-were-starved : Laws → LostLinksWereStarved
 lost-links-were-starved laws c files (LinkLost role segment turn) left h r g =
@@ -68,8 +66,7 @@ loses-without-break laws c files end left h r g quiet = absurd g
 
 no-breaks : (script : ScriptValue) (files : Both (List ℕ)) → script.breaks ≡ [] → (role : Role)
     → (of role (link_of script files)).user.breaks ≡ []
-no-breaks script files e Originator = ap (λ (l : List Break). map break_line (filter (λ (b : Break). same_role b.role Originator) l)) e
-no-breaks script files e Answerer = ap (λ (l : List Break). map break_line (filter (λ (b : Break). same_role b.role Answerer) l)) e
+no-breaks script files e role = grind (arith)
 
 loses-unasked : Laws → (c : Wire) (files : Both (List ℕ)) (end : RunEnd) (left : Left) → IsInLimits c.script
     → (r : RunsTo c (link_of c.script files) end left) → GivesUp end → c.script.breaks ≡ [] → LosesInPeriods c files end left r

@@ -2,11 +2,11 @@
 use Rattle.std.proofs.Common.{◌≡◌, ℕ, List, [], ◌∷◌, length, arith, ap, subst}
 use Rattle.line_ends.proofs.Cited.{Accounts, AllSendable, Answerer, Both, Broken, ChanceMatch, CompletesQuiet, CompletesUndisturbed}
 use Rattle.line_ends.proofs.Cited.{CompletesWithFewLosses, CompletesWithFewNamed, DisplacesNoneIsFaint, Done, DoneLeavesWhole, EachRunEnds}
-use Rattle.line_ends.proofs.Cited.{EmptyScriptDisplacesNone, EndsInTurn, FaintGoOn, Going, HasEnd, HeardIn, Hears, IsDone, IsFaint}
-use Rattle.line_ends.proofs.Cited.{IsHeardOf, IsInLimits, IsQuiet, Left, LineEnds, LineLost, LineRun, Link, LinkLost, LosesWhatIsNamed}
-use Rattle.line_ends.proofs.Cited.{NotDetected, OctetsAreSendable, Originator, Outcome, QuietRunsDeliver, Role, RunEnd, ScriptRunsTo}
-use Rattle.line_ends.proofs.Cited.{ScriptValue, ScriptsHaveDelays, ScriptsMayPlay, Turn, TurnIs, UndisplacedIsFaint, UndisturbedRunsDeliver}
-use Rattle.line_ends.proofs.Cited.{heard_turns, link_of, of, other, slots_named, wire_of}
+use Rattle.line_ends.proofs.Cited.{EmptyScriptDisplacesNone, EndsInTurn, FaintGoOn, HasEnd, HeardIn, Hears, IsDone, IsFaint, IsInLimits}
+use Rattle.line_ends.proofs.Cited.{IsQuiet, Left, LineEnds, LineLost, LineRun, Link, LinkLost, LosesWhatIsNamed, NotDetected}
+use Rattle.line_ends.proofs.Cited.{OctetsAreSendable, Originator, Outcome, QuietRunsDeliver, Role, RunEnd, ScriptRunsTo, ScriptValue}
+use Rattle.line_ends.proofs.Cited.{ScriptsHaveDelays, ScriptsMayPlay, Turn, TurnIs, UndisplacedIsFaint, heard_turns, link_of, of, other}
+use Rattle.line_ends.proofs.Cited.{slots_named, wire_of}
 use Rattle.shared_terms.specs.declared.fault.LinkFault.TheVariants as faults
 use Rattle.line_run.specs.Sampled as lines
 use Rattle.line_ends.proofs.Hearing.{HearLaws, AsNamed, heard-named}
@@ -14,9 +14,7 @@ use Rattle.line_ends.proofs.Counting.{AllNamed, lost-few}
 
 hearing-in : (link : Link) (ts : List Turn) (ends : Accounts) (t : Turn) (mid : Accounts) (o : Outcome) → TurnIs link ts ends t mid o
     → Hears (length ts) ends t mid
-hearing-in link ts ends t mid Going h = subst (Hears (length ts) ends t) h.2 h.1.hearing
-hearing-in link ts ends t mid Done h = h.hearing
-hearing-in link ts ends t mid (Broken role fault) h = h.hearing
+hearing-in link ts ends t mid o h = grind (arith)
 
 -- what is heard in a turn, and in all turns of a run
 turn-named : HearLaws → (script : ScriptValue) (files : Both (List ℕ)) (ts : List Turn) (ends : Accounts) (t : Turn) (mid : Accounts)
@@ -24,9 +22,7 @@ turn-named : HearLaws → (script : ScriptValue) (files : Both (List ℕ)) (ts :
     → LineRun (wire_of script) (link_of script files) ts ends → AllSendable ts → Hears (length ts) ends t mid
     → HeardIn (wire_of script) ts t
     → (role : Role) → AsNamed script (other role) ts (of role t).heard
-turn-named laws script files ts ends t mid h d r s k w role =
-    heard-named laws script files ts ends h d r s role (of role t).heard
-    (subst (λ z. IsHeardOf (wire_of script) (other role) ts z (of role t).heard) (k role).check_is (w role).heard_of)
+turn-named laws script files ts ends t mid h d r s k w role = grind (arith, heard-named)
 
 run-named : HearLaws → (script : ScriptValue) (files : Both (List ℕ)) (ts : List Turn) (ends : Accounts) → IsInLimits script
     → IsFaint script
@@ -58,8 +54,7 @@ all-named laws script files (NotDetected turn) left h d r s =
 all-named laws script files end left h d r s = run-named laws script files r.turns r.ends h d r.run s
 
 pub loses-what-is-named : HearLaws → LosesWhatIsNamed
-loses-what-is-named laws script files end left h d r s =
-    lost-few script (heard_turns script files end left r) (all-named laws script files end left h d r s)
+loses-what-is-named laws script files end left h d r s = grind (arith, lost-few, all-named)
 
 line-ends-not : FaintGoOn → (script : ScriptValue) (files : Both (List ℕ)) (end : RunEnd) (left : Left) → IsInLimits script → IsFaint script
     → (r : ScriptRunsTo script files end left) → AllSendable r.turns → LineEnds end → ⊥
@@ -85,8 +80,7 @@ pub displaces-none_is_faint : EmptyScriptDisplacesNone → UndisplacedIsFaint �
 displaces-none_is_faint empty faint script d = λ sender count. faint script sender count (empty script sender count d.no_hits d.no_noises)
 
 is-quiet : DisplacesNoneIsFaint → (script : ScriptValue) → script.losses ≡ [] → script.hits ≡ [] → script.noises ≡ [] → IsQuiet script
-is-quiet faint script losses hits noises =
-    record { no_losses = losses; faint = faint script (record { no_hits = hits; no_noises = noises }) }
+is-quiet faint script losses hits noises = grind (arith)
 
 pub completes-undisturbed : DisplacesNoneIsFaint → CompletesQuiet → CompletesUndisturbed
 completes-undisturbed faint quiet script files end left h losses hits noises o r =
@@ -110,6 +104,3 @@ quiet-deliver play delays whole done ends script files h f q o =
     is-whole : (role : Role) {got : List ℕ} → got ≡ (of (other role) (link_of script files)).user.file → got ≡ of (other role) files
     is-whole Originator e = e
     is-whole Answerer e = e
-
-pub undisturbed-deliver : DisplacesNoneIsFaint → QuietRunsDeliver → UndisturbedRunsDeliver
-undisturbed-deliver faint quiet script files h f losses hits noises o = quiet script files h f (is-quiet faint script losses hits noises) o

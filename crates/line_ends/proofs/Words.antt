@@ -3,16 +3,14 @@ use Rattle.std.proofs.Common.{◌≡◌, ℕ, ◌<◌, ◌%◌, ◌&&◌, ◌||�
 use Rattle.std.proofs.Common.{Option, Some, None, Result, Ok, Err}
 use Rattle.std.specs.Option.{option_map}
 use Rattle.std.proofs.lemmas.List.Elements.{All-cons, All-head, All-push, All-tail}
-use Rattle.line_ends.proofs.Cited.{Account, Answerer, AreOctets, Frame, InOctets, LinkFault, Originator, Role, Seen, is_originator}
-use Rattle.line_ends.proofs.Cited.{offer_in, with_given}
-use Rattle.lapm_frames.specs.declared.frame.Frame.TheVariants.{I, Rr, Rnr, Rej, Srej, Sabme, Disc, Ua, Dm, Frmr, Ui, Xid}
+use Rattle.line_ends.proofs.Cited.{Account, AreOctets, Frame, InOctets, LinkFault, Role, Seen, is_originator, with_given}
+use Rattle.lapm_frames.specs.declared.frame.Frame.TheVariants.{I, Rr, Rnr, Rej, Srej, Sabme, Disc, Dm, Frmr, Ui}
 use Rattle.xid_params.specs.declared.offer.Offer.{Offer}
 use Rattle.lapm_sender.specs.Outgoing.{Outgoing, acknowledged, rejected, replied, selected, paused_at, resumed}
 use Rattle.break_signals.specs.declared.word.BreakWord.{BreakWord}
 use Rattle.break_signals.specs.declared.word.BreakWord.TheVariants.{Brk, Ack}
 use Rattle.break_signals.specs.declared.fault.BreakFault.{BreakFault}
 use Rattle.break_signals.specs.Words.{spelled, word_in, IsSpelledBack}
-use Rattle.lapm_frames.specs.declared.seen.Seen.TheVariants.{Odp, Adp}
 use Rattle.lapm_frames.specs.declared.arrived.Arrived.{Arrived}
 use Rattle.lapm_frames.specs.declared.arrived.Arrived.TheVariants as arrivals
 use Rattle.link_account.specs.declared.phase.Phase.{Phase}
@@ -46,54 +44,37 @@ OnHeard (Err fault) = Unit {0}
 
 number-owes : (a : Account) (turn nr : ℕ) (o : Option Outgoing) (f : Account → Account) → Owes a → ((b : Account) → Owes b → Owes (f b))
     → OnHeard (then_in f (on_number turn nr o a))
-number-owes a turn nr None f h k = tt
-number-owes a turn nr (Some o) f h k = k _ h
+number-owes a turn nr o f h k = grind (arith)
 
 one-owes : (a : Account) (turn nr : ℕ) (o : Option Outgoing) → Owes a → OnHeard (on_number turn nr o a)
-one-owes a turn nr None h = tt
-one-owes a turn nr (Some o) h = h
+one-owes a turn nr o h = grind (arith)
 
 xid-owes : (a : Account) (o : Option Offer) → Owes a → Owes (on_xid_command o a)
-xid-owes a None h = h
-xid-owes a (Some o) h = h
+xid-owes a o h = grind (arith)
 
 response-owes : (a : Account) (turn : ℕ) (o : Option Offer) → Owes a → Owes (on_xid_response o turn a)
-response-owes a turn None h = h
-response-owes a turn (Some o) h = h
+response-owes a turn o h = grind (arith)
 
 detecting-owes : (a : Account) (turn : ℕ) (r : Role) (frame : Frame) → Owes a → OnHeard (on_detecting r frame turn a)
-detecting-owes a turn Originator frame h = h
-detecting-owes a turn Answerer (Xid true pf info) h = xid-owes a (offer_in info) h
-detecting-owes a turn Answerer frame h = h
+detecting-owes a turn r frame h = grind (arith, xid-owes)
 
 negotiating-owes : (a : Account) (turn : ℕ) (r : Role) (frame : Frame) → Owes a → OnHeard (on_negotiating r frame turn a)
-negotiating-owes a turn Originator (Xid false pf info) h = response-owes a turn (offer_in info) h
-negotiating-owes a turn Originator (Dm pf) h = tt
-negotiating-owes a turn Originator frame h = h
-negotiating-owes a turn Answerer (Xid true pf info) h = xid-owes a (offer_in info) h
-negotiating-owes a turn Answerer frame h = h
+negotiating-owes a turn r frame h = grind (arith, response-owes, xid-owes)
 
 establishing-owes : (a : Account) (turn : ℕ) (frame : Frame) → Owes a → OnHeard (on_establishing frame turn a)
-establishing-owes a turn (Dm true) h = tt
-establishing-owes a turn (Ua true) h = h
-establishing-owes a turn frame h = h
+establishing-owes a turn frame h = grind (arith)
 
 releasing-owes : (a : Account) (frame : Frame) → Owes a → OnHeard (on_releasing frame a)
-releasing-owes a (Ua true) h = h
-releasing-owes a (Dm true) h = h
-releasing-owes a frame h = h
+releasing-owes a frame h = grind (arith)
 
 closed-owes : (a : Account) (frame : Frame) → Owes a → OnHeard (on_closed frame a)
-closed-owes a (Disc pf) h = h
-closed-owes a frame h = h
+closed-owes a frame h = grind (arith)
 
 disc-owes : (a : Account) (pf : Bool) (r : Role) → Owes a → OnHeard (on_disc r pf a)
-disc-owes a pf Originator h = tt
-disc-owes a pf Answerer h = h
+disc-owes a pf r h = grind (arith)
 
 sabme-owes : (a : Account) (pf b : Bool) → Owes a → OnHeard (cond b (Err (peer_reset a)) (Ok (owing (answers.Ua pf) a)))
-sabme-owes a pf true h = tt
-sabme-owes a pf false h = h
+sabme-owes a pf b h = grind (arith)
 
 -- a word
 word-owes : IsSpelledBack → (a : Account) (turn : ℕ) (info : List ℕ) (w : Result BreakWord BreakFault) → word_in info ≡ w → AreOctets info
@@ -141,23 +122,13 @@ frame-owes back Releasing a turn frame i h = releasing-owes a frame h
 frame-owes back Closed a turn frame i h = closed-owes a frame h
 
 pattern-owes : (a : Account) (turn : ℕ) (r : Role) (seen : Seen) → Owes a → Owes (on_pattern r seen turn a)
-pattern-owes a turn Originator Adp h = h
-pattern-owes a turn Originator Odp h = h
-pattern-owes a turn Answerer Odp h = h
-pattern-owes a turn Answerer Adp h = h
+pattern-owes a turn r seen h = grind (arith)
 
 seen-owes : (p : Phase) (a : Account) (turn : ℕ) (seen : Seen) → Owes a → Owes (on_seen p seen turn a)
-seen-owes Detecting a turn seen h = pattern-owes a turn a.setup.role seen h
-seen-owes Negotiating a turn seen h = h
-seen-owes Establishing a turn seen h = h
-seen-owes Connected a turn seen h = h
-seen-owes Releasing a turn seen h = h
-seen-owes Closed a turn seen h = h
+seen-owes p a turn seen h = grind (arith, pattern-owes)
 
 all-owe : IsSpelledBack → (turn : ℕ) (arrived : Arrived) (a : Account) → ArrivesInOctets arrived → Owes a → OnHeard (hear turn arrived a)
-all-owe back turn arrivals.Nothing a i h = h
-all-owe back turn (arrivals.Pattern seen) a i h = seen-owes a.phase a turn seen h
-all-owe back turn (arrivals.Frame frame) a i h = frame-owes back a.phase a turn frame i h
+all-owe back turn arrived a i h = grind (arith, seen-owes, frame-owes)
 
 pub heard-owes : IsSpelledBack → (turn : ℕ) (arrived : Arrived) (a b : Account) → ArrivesInOctets arrived → Owes a
     → hear turn arrived a ≡ Ok b → Owes b
