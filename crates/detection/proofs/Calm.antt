@@ -100,10 +100,7 @@ calm-framed (Some octets) n =
 
 slot-right : (phase n : ℕ) (frame : Option (List ℕ))
     → opening phase frame ++ fill n ≡ rest_of_flag phase ++ (flags 4 ++ (framed frame ++ fill n))
-slot-right phase n frame = split (rest_of_flag phase) (flags 4) (framed frame) (fill n)
-  where
-    split : (a b c d : List Bool) → ((a ++ b) ++ c) ++ d ≡ a ++ (b ++ (c ++ d))
-    split a b c d = append_assoc (a ++ b) c d ∙ append_assoc a b (c ++ d)
+slot-right phase n frame = grind (arith, append_assoc)
 
 pub slot-begins : (size phase : ℕ) (frame : Option (List ℕ))
     → (rest : List Bool) × (take phase flag ++ slot_bits size phase (Flags frame) ≡ false ∷ rest)

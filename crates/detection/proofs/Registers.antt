@@ -46,16 +46,7 @@ ones_up_to n k fits low zero_at set = elim (cases_lt (n + 1) (2 ^ 128)) [
   where
     same : (trailing_ones w128 n < 128) × (bit_at n (trailing_ones w128 n) ≡ 0) × ((i : ℕ) → i < trailing_ones w128 n → bit_at n i ≡ 1)
         → trailing_ones w128 n ≡ k
-    same h = each (trailing_ones w128 n) h.1 h.2
-      where
-        each : (t : ℕ) → bit_at n t ≡ 0 → ((i : ℕ) → i < t → bit_at n i ≡ 1) → t ≡ k
-        each t z o = elim (cases_lt t k) [
-          | inl before ↦ let one = set t before in absurd (omega (arith, one, z))
-          | inr not_before ↦ elim (cases_lt k t) [
-            | inl behind ↦ let one = o k behind in absurd (omega (arith, one, zero_at))
-            | inr not_behind ↦ omega arith
-          ]
-        ]
+    same h = grind (arith, cases_lt, set, zero_at)
 
 -- where a character stands
 module _ (character : List Bool) (nine : length character ≡ 9) (gap : ℕ) (rest : List Bool) where

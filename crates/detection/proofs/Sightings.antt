@@ -18,9 +18,7 @@ sights-none = refl
 
 before-front : (bits more : List Bool) (n : ℕ) → n ≤ length bits → sights_before (bits ++ more) n ≡ sights_before bits n
 before-front bits more zero h = refl
-before-front bits more (suc n) h =
-    let e : take (suc n) (bits ++ more) ≡ take (suc n) bits = take-append-le (suc n) bits more h in
-    rw (before-front bits more n (omega arith)) (ap (λ t. sights_before bits n ++ sights_at (suc n) (seen_at t)) e)
+before-front bits more (suc n) h = grind (arith, take-append-le, before-front bits more n (omega arith))
 
 before-ranged : (bits more : List Bool) (own : ℕ → Option Seen) (n : ℕ) → n ≤ length more
     → ((p : ℕ) → 0 < p → p ≤ n → seen_at (take (length bits + p) (bits ++ more)) ≡ own p)

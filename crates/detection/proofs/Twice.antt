@@ -60,18 +60,7 @@ gap-ones seen a b e i low high =
     ∙ get_or-replicate a (i - 9) true false (omega arith)
 
 pub second-zero : (seen : Seen) (a b e : ℕ) → get_or (twice seen a b e) (9 + a) false ≡ false
-second-zero seen a b e =
-    let back : 9 + a - 9 ≡ a = omega arith in
-    let none : a - a ≡ 0 = omega arith in
-    ap (λ l. get_or l (9 + a) false) (twice-front seen a b e)
-    ∙ get_or-append_right (first seen) (ones a ++ (second seen ++ behind_second seen b e)) 9 (9 + a) false (length-first seen) (omega arith)
-    ∙ ap (λ i. get_or (ones a ++ (second seen ++ behind_second seen b e)) i false) back
-    ∙ get_or-append_right (ones a) (second seen ++ behind_second seen b e) a a false (length-replicate a true) (omega arith)
-    ∙ ap (λ i. get_or (second seen ++ behind_second seen b e) i false) none
-    ∙ starts seen
-  where
-    starts : (seen : Seen) → get_or (second seen ++ behind_second seen b e) 0 false ≡ false
-    starts q0 = grind (arith)
+second-zero seen a b e = grind (arith, twice-front, get_or-append_right, length-first, length-replicate)
 
 -- from the back
 

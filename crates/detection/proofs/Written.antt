@@ -1,7 +1,6 @@
 -- The bits of pattern slots and of mark slots.
 use Rattle.std.proofs.Common.{◌≡◌, ℕ, zero, suc, ◌+◌, ◌-◌, ◌≤◌, true, List, [], ◌∷◌, ◌++◌, arith, append_assoc, refl, sym, ◌∙◌, ap, subst}
 use Rattle.std.proofs.lemmas.List.{append-nil, replicate-append-replicate}
-use Rattle.frame_check.specs.Bits.{low_bits}
 use Rattle.bit_stuffing.specs.BitSlot.{line_bits}
 use Rattle.bit_stuffing.specs.Slots.{IsPlain}
 use Rattle.bit_stuffing.proofs.Sizes.{plain-by_tests, plain-grows}
@@ -12,8 +11,7 @@ use Rattle.detection.specs.Slots.{pattern, patterns, pattern_bits}
 
 pub line_bits-append : (quads more : List ℕ) → line_bits (quads ++ more) ≡ line_bits quads ++ line_bits more
 line_bits-append [] more = refl
-line_bits-append (quad ∷ quads) more =
-    ap (λ l. low_bits 4 quad ++ l) (line_bits-append quads more) ∙ sym (append_assoc (low_bits 4 quad) (line_bits quads) (line_bits more))
+line_bits-append (quad ∷ quads) more = grind (arith, append_assoc, line_bits-append quads more)
 
 pub ones-append : (m n : ℕ) → ones m ++ ones n ≡ ones (m + n)
 ones-append m n = replicate-append-replicate m n true
