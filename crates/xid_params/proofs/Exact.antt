@@ -9,7 +9,6 @@ use Rattle.frame_check.specs.declared.sizes.TheConstants.{INFO}
 use Rattle.std.specs.List.{flat_map}
 use Rattle.std.specs.Result.{result_ok}
 use Rattle.xid_params.specs.declared.fault.XidFault.{XidFault}
-use Rattle.xid_params.specs.declared.fault.XidFault.TheVariants.{Format, Group, Length, Value, Repeated}
 use Rattle.xid_params.specs.declared.offer.Offer.{Offer}
 use Rattle.xid_params.specs.declared.parameter.Parameter.TheVariants.{TxLength, RxLength, TxWindow, RxWindow}
 use Rattle.xid_params.specs.Parts.{Part, group_octets, named, number_of}

@@ -8,6 +8,7 @@ use Rattle.std.proofs.lemmas.Bool.Decides.{nat_tests}
 use Rattle.std.proofs.lemmas.List.{take-append-drop, length-take-le}
 use Rattle.std.proofs.lemmas.Grind.{common_steps}
 use Rattle.std.proofs.Math.Seq.{take-append_seam, drop-append_seam}
+use Rattle.std.proofs.lemmas.Option.{cond_some}
 use Rattle.xid_params.specs.declared.offer.Offer.{Offer}
 use Rattle.xid_params.specs.declared.parameter.Parameter.{Parameter}
 use Rattle.xid_params.specs.declared.parameter.Parameter.TheVariants.{Functions, TxLength, RxLength, TxWindow, RxWindow}
@@ -117,17 +118,9 @@ spelled-groups (group ∷ []) offer s = spelled-with group.value offer s
 spelled-groups (group ∷ again ∷ groups) offer h = absurd h
 
 pub spelled-is-found : (octets : List ℕ) (offer : Offer) → OfferSpelling octets offer → offer_in octets ≡ Some offer
-spelled-is-found octets offer s =
-    ap offer_in s.passes.whole
-    ∙ ap (option_and_then (λ groups. offer_of_groups (named 128 groups)))
-    (groups-found (length (flat_map group_octets s.groups ++ s.rest)) s.groups s.rest s.passes.none_ends s.ends (omega arith))
-    ∙ spelled-groups (named 128 s.groups) offer s.offers
+spelled-is-found octets offer s = grind (arith, groups-found, spelled-groups)
 
 -- and back
-
-chosen-some : {A : Type 0} (b : Bool) (x y : A) → cond b (Some x) None ≡ Some y → (b ≡ true) × (x ≡ y)
-chosen-some true x y e = (refl, cc)
-chosen-some false x y e = cc
 
 -- the octets are these parts, and then so
 pub record Begins (octets : List ℕ) (groups : List Part) : Type 0 where
@@ -199,8 +192,8 @@ groups-back zero [] groups are fits e = let empty : [] ≡ groups = cc in
 groups-back zero (x ∷ octets) groups are fits e = absurd (omega arith)
 groups-back (suc room) [] groups are fits e = let empty : [] ≡ groups = cc in
     subst (Begins []) empty (record { rest = []; whole = refl; none_ends = refl; ends = tt })
-groups-back (suc room) (g ∷ []) groups are fits e = let p = chosen-some (nat_eq g 255) [] groups e in at-end g [] groups p.0 (ap Some p.1)
-groups-back (suc room) (g ∷ high ∷ []) groups are fits e = let p = chosen-some (nat_eq g 255) [] groups e in
+groups-back (suc room) (g ∷ []) groups are fits e = let p = cond_some (nat_eq g 255) [] groups e in at-end g [] groups p.0 (ap Some p.1)
+groups-back (suc room) (g ∷ high ∷ []) groups are fits e = let p = cond_some (nat_eq g 255) [] groups e in
     at-end g (high ∷ []) groups p.0 (ap Some p.1)
 groups-back (suc room) (g ∷ high ∷ low ∷ tail) groups are fits e =
     let n : ℕ = 256 * high + low in
@@ -260,7 +253,7 @@ found-with : (content : List ℕ) (found : Option (List Part)) (offer : Offer)
     → ParametersSpell content offer
 found-with content None offer back e = cc
 found-with content (Some parts) offer back e =
-    let p = chosen-some (all_well parts) (offer_of parts) offer e in
+    let p = cond_some (all_well parts) (offer_of parts) offer e in
     record { parts = parts; whole = back parts refl; well = all-each parts p.0; offer_is = sym p.1 }
 
 found-groups : (groups : List Part) (offer : Offer) → offer_of_groups groups ≡ Some offer → GroupsSpell groups offer

@@ -1,5 +1,5 @@
 -- Lists of parts as octets.
-use Rattle.std.proofs.Common.{◌≡◌, ℕ, ◌/◌, ◌%◌, ◌⊎◌, inl, inr, Bool, true, false, List, [], ◌∷◌, ◌++◌, length, nat_eq, cond, append_assoc}
+use Rattle.std.proofs.Common.{◌≡◌, ℕ, ◌/◌, ◌%◌, ◌⊎◌, inl, inr, Bool, List, [], ◌∷◌, ◌++◌, length, cond, append_assoc}
 use Rattle.std.proofs.Common.{arith, refl, sym, ◌∙◌, ap}
 use Rattle.std.specs.List.{flat_map}
 use Rattle.xid_params.specs.Parts.{Part, group_octets, parameter_octets, named}
@@ -87,6 +87,4 @@ one-more q0 a xs ys zs e = grind (arith)
 
 pub named-append : (identifier : ℕ) (xs ys : List Part) → named identifier (xs ++ ys) ≡ named identifier xs ++ named identifier ys
 named-append identifier [] ys = refl
-named-append identifier (a ∷ xs) ys =
-    one-more (nat_eq a.identifier identifier) a (named identifier xs) (named identifier ys) (named identifier (xs ++ ys))
-    (named-append identifier xs ys)
+named-append identifier (a ∷ xs) ys = grind (arith, one-more, named-append identifier xs ys)
