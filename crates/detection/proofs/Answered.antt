@@ -1,10 +1,14 @@
 -- The answer at each bit, as a relation and as a function.
-use Rattle.detection.proofs.Names.{◌≡◌, ℕ, zero, suc, ◌+◌, ◌-◌, ◌<◌, inl, inr, Bool, true, false, ◌||◌, if◌then◌else◌, List, [], ◌∷◌, ◌++◌}
-use Rattle.detection.proofs.Names.{length, get_or, take, drop, reverse, Option, Some, None, arith, length-append, refl, sym, ◌∙◌, ap}
-use Rattle.detection.proofs.Names.{false≢true, cases_lt, take-append-drop, beq, pointwise, ends_with, twice, EndsPattern, IsGap, IsSeen}
-use Rattle.detection.proofs.Names.{Seen, Odp, Adp}
-use Rattle.std.proofs.lemmas.List.{drop_at}
-use Rattle.detection.specs.Patterns.{some_below, some_gap, ends_pattern, seen_at}
+use Rattle.std.proofs.Common.{◌≡◌, ℕ, zero, suc, ◌+◌, ◌-◌, ◌<◌, inl, inr, Bool, true, false, ◌||◌, if◌then◌else◌, List, [], ◌∷◌, ◌++◌}
+use Rattle.std.proofs.Common.{length, get_or, take, drop, reverse, Option, Some, None, arith, length-append, refl, sym, ◌∙◌, ap}
+use Rattle.std.specs.Bool.{beq}
+use Rattle.std.specs.List.{ends_with}
+use Rattle.std.specs.Cmp.Lexicographic.{pointwise}
+use Rattle.std.proofs.lemmas.Bool.{false≢true, cases_lt, or_left, or_right}
+use Rattle.std.proofs.lemmas.List.{drop_at, take-append-drop}
+use Rattle.lapm_frames.specs.declared.seen.Seen.{Seen}
+use Rattle.lapm_frames.specs.declared.seen.Seen.TheVariants.{Odp, Adp}
+use Rattle.detection.specs.Patterns.{twice, EndsPattern, IsGap, IsSeen, some_below, some_gap, ends_pattern, seen_at}
 use Rattle.detection.proofs.Readings.{backwards, reverse-twice}
 
 -- a test of the last bits
@@ -37,12 +41,6 @@ either : (a b : Bool) → (a || b) ≡ true → (P : Type 0) → (a ≡ true →
 either true b e P f g = f refl
 either false b e P f g = g e
 
-or-left : (a b : Bool) → a ≡ true → (a || b) ≡ true
-or-left q0 b e = grind (arith)
-
-or-right : (a b : Bool) → b ≡ true → (a || b) ≡ true
-or-right q0 b e = grind (arith)
-
 below-found : (n : ℕ) (test : ℕ → Bool) → some_below n test ≡ true → (i : ℕ) × (i < n) × (test i ≡ true)
 below-found zero test e = absurd (false≢true e)
 below-found (suc n) test e = either (test n) (some_below n test) e ((i : ℕ) × (i < suc n) × (test i ≡ true))
@@ -52,8 +50,8 @@ below-found (suc n) test e = either (test n) (some_below n test) e ((i : ℕ) ×
 below-at : (n : ℕ) (test : ℕ → Bool) (i : ℕ) → i < n → test i ≡ true → some_below n test ≡ true
 below-at zero test i h e = absurd (omega arith)
 below-at (suc n) test i h e = elim (cases_lt i n) [
-  | inl lower ↦ or-right (test n) (some_below n test) (below-at n test i lower e)
-  | inr here ↦ let same : i ≡ n = omega arith in or-left (test n) (some_below n test) (ap test (sym same) ∙ e)
+  | inl lower ↦ or_right (test n) (some_below n test) (below-at n test i lower e)
+  | inr here ↦ let same : i ≡ n = omega arith in or_left (test n) (some_below n test) (ap test (sym same) ∙ e)
 ]
 
 gap-found : (test : ℕ → Bool) → some_gap test ≡ true → (gap : ℕ) × IsGap gap × (test gap ≡ true)

@@ -1,12 +1,17 @@
 -- Where patterns end in a pattern slot.
-use Rattle.detection.proofs.Names.{◌≡◌, inl, inr, ℕ, zero, suc, ◌+◌, ◌-◌, ◌*◌, ◌/◌, ◌%◌, ◌<◌, ◌≤◌, Bool, true, false, ◌||◌, if◌then◌else◌}
-use Rattle.detection.proofs.Names.{nat_eq, List, ◌++◌, length, get_or, take, Option, Some, None, lit≤, arith, append_assoc, length-append}
-use Rattle.detection.proofs.Names.{refl, sym, ◌∙◌, ap, cases_lt, false≢true, eqb-true, take-append-le, length-take-le, length-replicate}
-use Rattle.detection.proofs.Names.{get_or-take, get_or-replicate, get_or-append_right, get_or-append-add, beq, pointwise, ends_with, second}
-use Rattle.detection.proofs.Names.{ones, twice, EndsPattern, IsGap, patterns, pattern_bits, Seen, Odp, Adp}
-use Rattle.std.proofs.Common.{not, ◌&&◌}
-use Rattle.std.proofs.Common.{nat_lt}
-use Rattle.std.proofs.lemmas.Bool.Decides.{nat_tests}
+use Rattle.std.proofs.Common.{◌≡◌, inl, inr, ℕ, zero, suc, ◌+◌, ◌-◌, ◌*◌, ◌/◌, ◌%◌, ◌<◌, ◌≤◌, Bool, true, false, not, ◌&&◌, ◌||◌}
+use Rattle.std.proofs.Common.{if◌then◌else◌, nat_eq, nat_lt, List, ◌++◌, length, get_or, take, Option, Some, None, lit≤, arith}
+use Rattle.std.proofs.Common.{append_assoc, length-append, refl, sym, ◌∙◌, ap}
+use Rattle.std.specs.Bool.{beq}
+use Rattle.std.specs.List.{ends_with}
+use Rattle.std.specs.Cmp.Lexicographic.{pointwise}
+use Rattle.std.proofs.lemmas.Bool.{cases_lt, false≢true, eqb-true, and_parts, le-ltb, ltb-true}
+use Rattle.std.proofs.lemmas.List.{take-append-le, length-take-le, length-replicate, get_or-take, get_or-replicate, get_or-append_right}
+use Rattle.std.proofs.lemmas.List.{get_or-append-add}
+use Rattle.lapm_frames.specs.declared.seen.Seen.{Seen}
+use Rattle.lapm_frames.specs.declared.seen.Seen.TheVariants.{Odp, Adp}
+use Rattle.detection.specs.Patterns.{second, ones, twice, EndsPattern, IsGap}
+use Rattle.detection.specs.Slots.{patterns, pattern_bits}
 use Rattle.detection.specs.Sights.{sights_from}
 use Rattle.detection.proofs.Answered.{same-bits, text-ends}
 use Rattle.detection.proofs.Written.{ones-append}
@@ -31,14 +36,11 @@ abbrev pub each_below : ℕ → (ℕ → Bool) → Bool
 each_below zero test = true
 each_below (suc n) test = test n && each_below n test
 
-both : (a b : Bool) → (a && b) ≡ true → (a ≡ true) × (b ≡ true)
-both q0 b e = grind (arith)
-
 pub at_each : (n : ℕ) (test : ℕ → Bool) → each_below n test ≡ true → (i : ℕ) → i < n → test i ≡ true
 at_each zero test e i l = absurd (omega arith)
 at_each (suc n) test e i l = elim (cases_lt i n) [
-  | inl lower ↦ at_each n test (both (test n) (each_below n test) e).1 i lower
-  | inr here ↦ let same : i ≡ n = omega arith in ap test same ∙ (both (test n) (each_below n test) e).0
+  | inl lower ↦ at_each n test (and_parts (test n) (each_below n test) e).1 i lower
+  | inr here ↦ let same : i ≡ n = omega arith in ap test same ∙ (and_parts (test n) (each_below n test) e).0
 ]
 
 -- Where the bits of a pattern slot end with a second character and eight ones, some bits from its start, a pattern ends, if it is not too
@@ -98,12 +100,6 @@ kinds q0 q1 e = grind (arith)
 rest_of : (a b c : Bool) → (not a || (b || c)) ≡ true → a ≡ true → b ≡ false → c ≡ true
 rest_of q0 b c e x y = grind (arith)
 
-not_below : (m n : ℕ) → n ≤ m → nat_lt m n ≡ false
-not_below m n h = grind (arith, nat_tests)
-
-below_of : (m n : ℕ) → nat_lt m n ≡ true → m < n
-below_of m n e = grind (arith, nat_tests)
-
 pub placed : (size : ℕ) (kind seen : Seen) (p : ℕ) → 552 < size → p ≤ size → EndsPattern seen (take p (pattern_bits size kind))
     → (is_end p ≡ true) × (kind ≡ seen)
 placed size kind seen p long high x = elim (cases_lt p 368) [ inl early ↦ in_patterns early | inr late ↦ absurd (behind late) ]
@@ -131,10 +127,10 @@ placed size kind seen p long high x = elim (cases_lt p 368) [ inl early ↦ in_p
     in_patterns early =
         let ends = text-ends (take p (patterns 10 kind ++ ones 8)) (x.before ++ before_last seen x.a x.b x.e) (second seen ++ ones 8)
         (sym (first-part size kind p (omega arith) (omega arith)) ∙ split) in
-        let r = both (is_end p) (same_kind kind seen)
+        let r = and_parts (is_end p) (same_kind kind seen)
         (rest_of (ends_with beq (take p (patterns 10 kind ++ ones 8)) (second seen ++ ones 8)) (nat_lt p 68)
         (is_end p && same_kind kind seen) (at_each 368 (place_test kind seen) (all_places kind seen) p early) ends
-        (not_below p 68 many)) in
+        (le-ltb p 68 many)) in
         (r.0, kinds kind seen r.1)
 
     behind : 368 ≤ p → ⊥
@@ -179,23 +175,17 @@ ends-there size kind k low = record { before = patterns k kind; a = 9; b = 9; e 
 
 pub end-place : (p : ℕ) → is_end p ≡ true → (k : ℕ) × (k < 9) × (p ≡ 71 + 36 * k)
 end-place p e =
-    let r = both (nat_lt 70 p) (nat_lt p 360 && nat_eq (p % 36) 35) e in
-    let s = both (nat_lt p 360) (nat_eq (p % 36) 35) r.1 in
-    let low : 70 < p = below_of 70 p r.0 in
-    let high : p < 360 = below_of p 360 s.0 in
+    let r = and_parts (nat_lt 70 p) (nat_lt p 360 && nat_eq (p % 36) 35) e in
+    let s = and_parts (nat_lt p 360) (nat_eq (p % 36) 35) r.1 in
+    let low : 70 < p = ltb-true 70 p r.0 in
+    let high : p < 360 = ltb-true p 360 s.0 in
     let rem : p % 36 ≡ 35 = eqb-true (p % 36) 35 s.1 in
     ((p - 71) / 36, omega arith, omega arith)
 
 -- as a list
 
 own-late : (kind : Seen) (p : ℕ) → 368 < p → own kind p ≡ None
-own-late kind p h = each (nat_lt 70 p)
-  where
-    late : nat_lt p 360 ≡ false
-    late = not_below p 360 (omega arith)
-
-    each : (b : Bool) → (if b && (nat_lt p 360 && nat_eq (p % 36) 35) then Some kind else None) ≡ None
-    each q0 = grind (arith)
+own-late kind p h = grind (arith, le-ltb)
 
 nine-sights : (start : ℕ) (kind : Seen) → ranged (own kind) start 368 ≡ sights_from 9 start 71 kind
 nine-sights start q1 = grind (arith)

@@ -1,4 +1,3 @@
-mod Names
 mod Registers
 mod Quiet
 mod Readings

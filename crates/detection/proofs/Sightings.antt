@@ -1,8 +1,9 @@
 -- The patterns of a stream of bits, place by place.
-use Rattle.detection.proofs.Names.{◌≡◌, ℕ, zero, suc, ◌+◌, ◌<◌, ◌≤◌, Bool, List, [], ◌∷◌, ◌++◌, All, length, take, Option, Some, None}
-use Rattle.detection.proofs.Names.{arith, append_assoc, length-append, refl, sym, ◌∙◌, ap, subst, append-nil, take-append-le, Seen}
-use Rattle.std.proofs.lemmas.List.{take_all}
+use Rattle.std.proofs.Common.{◌≡◌, ℕ, zero, suc, ◌+◌, ◌<◌, ◌≤◌, Bool, List, [], ◌∷◌, ◌++◌, All, length, take, Option, Some, None, arith}
+use Rattle.std.proofs.Common.{append_assoc, length-append, refl, sym, ◌∙◌, ap, subst}
+use Rattle.std.proofs.lemmas.List.{append-nil, take_all, take-append-le}
 use Rattle.std.proofs.lemmas.List.Elements.{All-append, All-cons, All-nil}
+use Rattle.lapm_frames.specs.declared.seen.Seen.{Seen}
 use Rattle.detection.specs.Patterns.{seen_at}
 use Rattle.detection.specs.Sights.{Sight, sights_at, sights_before, sights_of, SightsAdded}
 
@@ -17,9 +18,7 @@ sights-none = refl
 
 before-front : (bits more : List Bool) (n : ℕ) → n ≤ length bits → sights_before (bits ++ more) n ≡ sights_before bits n
 before-front bits more zero h = refl
-before-front bits more (suc n) h =
-    let e : take (suc n) (bits ++ more) ≡ take (suc n) bits = take-append-le (suc n) bits more h in
-    rw (before-front bits more n (omega arith)) (ap (λ t. sights_before bits n ++ sights_at (suc n) (seen_at t)) e)
+before-front bits more (suc n) h = grind (arith, take-append-le, before-front bits more n (omega arith))
 
 before-ranged : (bits more : List Bool) (own : ℕ → Option Seen) (n : ℕ) → n ≤ length more
     → ((p : ℕ) → 0 < p → p ≤ n → seen_at (take (length bits + p) (bits ++ more)) ≡ own p)

@@ -1,7 +1,10 @@
 -- The bits of two whole patterns, by place.
-use Rattle.detection.proofs.Names.{◌≡◌, ◌⊎◌, inl, inr, ℕ, ◌+◌, ◌-◌, ◌*◌, ◌<◌, ◌≤◌, Bool, true, false, List, [], ◌∷◌, ◌++◌, length, get_or}
-use Rattle.detection.proofs.Names.{drop, arith, append_assoc, length-append, refl, sym, ◌∙◌, ap, length-replicate, get_or-replicate}
-use Rattle.detection.proofs.Names.{get_or_append_left, get_or-append_right, first, second, ones, twice, Seen, Odp, Adp}
+use Rattle.std.proofs.Common.{◌≡◌, ◌⊎◌, inl, inr, ℕ, ◌+◌, ◌-◌, ◌*◌, ◌<◌, ◌≤◌, Bool, true, false, List, [], ◌∷◌, ◌++◌, length, get_or, drop}
+use Rattle.std.proofs.Common.{arith, append_assoc, length-append, refl, sym, ◌∙◌, ap}
+use Rattle.std.proofs.lemmas.List.{length-replicate, get_or-replicate, get_or_append_left, get_or-append_right}
+use Rattle.lapm_frames.specs.declared.seen.Seen.{Seen}
+use Rattle.lapm_frames.specs.declared.seen.Seen.TheVariants.{Odp, Adp}
+use Rattle.detection.specs.Patterns.{first, second, ones, twice}
 
 pub length-first : (seen : Seen) → length (first seen) ≡ 9
 length-first q0 = grind (arith)
@@ -57,18 +60,7 @@ gap-ones seen a b e i low high =
     ∙ get_or-replicate a (i - 9) true false (omega arith)
 
 pub second-zero : (seen : Seen) (a b e : ℕ) → get_or (twice seen a b e) (9 + a) false ≡ false
-second-zero seen a b e =
-    let back : 9 + a - 9 ≡ a = omega arith in
-    let none : a - a ≡ 0 = omega arith in
-    ap (λ l. get_or l (9 + a) false) (twice-front seen a b e)
-    ∙ get_or-append_right (first seen) (ones a ++ (second seen ++ behind_second seen b e)) 9 (9 + a) false (length-first seen) (omega arith)
-    ∙ ap (λ i. get_or (ones a ++ (second seen ++ behind_second seen b e)) i false) back
-    ∙ get_or-append_right (ones a) (second seen ++ behind_second seen b e) a a false (length-replicate a true) (omega arith)
-    ∙ ap (λ i. get_or (second seen ++ behind_second seen b e) i false) none
-    ∙ starts seen
-  where
-    starts : (seen : Seen) → get_or (second seen ++ behind_second seen b e) 0 false ≡ false
-    starts q0 = grind (arith)
+second-zero seen a b e = grind (arith, twice-front, get_or-append_right, length-first, length-replicate)
 
 -- from the back
 

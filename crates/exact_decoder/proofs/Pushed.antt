@@ -243,4 +243,4 @@ stands-stays table points depth starts more d samples taken symbol e h = record 
     was = subst (LostIs c depth samples) e h.lost
 
     same : heard d.lost (samples ++ more) ≡ heard d.lost samples
-    same = grind (arith, take-append-le, was)
+    same = grind (arith, take-append-le)

@@ -11,10 +11,7 @@ earlier-some bits i k l = let no : nat_lt i k ≡ false = grind (arith, nat_test
 
 -- the bits before a place are those of the whole line
 earlier-drop : (line : List Bool) (m i k : ℕ) → k ≤ i → earlier (drop m line) i k ≡ earlier line (m + i) k
-earlier-drop line m i k l =
-    let place : m + (i - k) ≡ m + i - k = omega arith in
-    earlier-some (drop m line) i k l ∙ get_or-drop m line (i - k) false ∙ ap (λ n. get_or line n false) place
-    ∙ sym (earlier-some line (m + i) k (omega arith))
+earlier-drop line m i k l = grind (arith, earlier-some, get_or-drop)
 
 pub late : (tap m : ℕ) (line all sent : List Bool) → tap ≤ 23 → Descrambles tap line sent → Descrambles tap (drop m line) all
     → drop 23 all ≡ drop (m + 23) sent

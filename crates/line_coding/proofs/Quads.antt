@@ -1,15 +1,13 @@
 -- Quads behind the first one don't depend on what stood before, nor on a turn.
-use Rattle.std.proofs.Common.{◌≡◌, ◌∙◌, ℕ, zero, suc, ◌+◌, ◌-◌, ◌*◌, ◌%◌, ◌<◌, ◌≤◌, List, [], ◌∷◌, length, map, drop, get_or, nat_eq, false}
+use Rattle.std.proofs.Common.{◌≡◌, ◌∙◌, ℕ, zero, suc, ◌+◌, ◌-◌, ◌*◌, ◌<◌, ◌≤◌, List, [], ◌∷◌, length, map, drop, get_or, nat_eq, false}
 use Rattle.std.proofs.Common.{refl, sym, ap, arith}
 use Rattle.std.specs.List.{flat_map}
 use Rattle.std.proofs.Math.Seq.{drop-nil}
 use Rattle.std.proofs.lemmas.Bool.Decides.{nat_tests}
 use Rattle.std.proofs.lemmas.List.{ext_get_or, get_or-drop, length-drop, length-map}
 use Rattle.frame_check.specs.Bits.{low_bits}
-use Rattle.trellis_tables.specs.Differential.Turned.{unturned_at, before}
-use Rattle.symbol_map.specs.Labels.{y_of, q3q4_of}
+use Rattle.trellis_tables.specs.Differential.Turned.{before}
 use Rattle.symbol_map.specs.Laws.{turned_label}
-use Rattle.trellis_tables.specs.Quads.{quad_of}
 use Rattle.trellis_tables.specs.LabelReader.{quad_at, quads_of}
 use Rattle.trellis_tables.proofs.Readings.{length-quads_of, get_or-quads_of, get_or-map, quads_of-turned}
 
@@ -42,21 +40,7 @@ before-some y n l = let no : nat_eq n 0 ≡ false = grind (arith, nat_tests) in 
 
 -- the quad at a place behind the first
 quad-behind : (labels : List ℕ) (n i : ℕ) → n + (i + 1) < length labels → quad_at (drop n labels) (i + 1) ≡ quad_at labels (n + (i + 1))
-quad-behind labels n i l =
-    let more : i + 1 < length (drop n labels) = omega (arith, length-drop n labels) in
-    let less : i < length (drop n labels) = omega (arith, length-drop n labels) in
-    let here : get_or (map y_of (drop n labels)) (i + 1) 0 ≡ get_or (map y_of labels) (n + (i + 1)) 0 =
-    get_or-map y_of (drop n labels) (i + 1) more ∙ ap y_of (get_or-drop n labels (i + 1) 0)
-    ∙ sym (get_or-map y_of labels (n + (i + 1)) l) in
-    let one : i + 1 - 1 ≡ i = omega arith in
-    let other : n + (i + 1) - 1 ≡ n + i = omega arith in
-    let last : before (map y_of (drop n labels)) (i + 1) ≡ before (map y_of labels) (n + (i + 1)) =
-    before-some (map y_of (drop n labels)) (i + 1) (omega arith) ∙ ap (λ k. get_or (map y_of (drop n labels)) k 0) one
-    ∙ get_or-map y_of (drop n labels) i less ∙ ap y_of (get_or-drop n labels i 0) ∙ sym (get_or-map y_of labels (n + i) (omega arith))
-    ∙ ap (λ k. get_or (map y_of labels) k 0) (sym other) ∙ sym (before-some (map y_of labels) (n + (i + 1)) (omega arith)) in
-    ap (λ a. quad_of ((a + 4 - before (map y_of (drop n labels)) (i + 1)) % 4) (q3q4_of (get_or (drop n labels) (i + 1) 0))) here
-    ∙ ap (λ b. quad_of ((get_or (map y_of labels) (n + (i + 1)) 0 + 4 - b) % 4) (q3q4_of (get_or (drop n labels) (i + 1) 0))) last
-    ∙ ap (λ q. quad_of (unturned_at (map y_of labels) (n + (i + 1))) (q3q4_of q)) (get_or-drop n labels (i + 1) 0)
+quad-behind labels n i l = grind (arith, length-drop, get_or-map, get_or-drop, before-some)
 
 -- the quads of the last labels, but for the first of them
 pub quads-drop : (labels : List ℕ) (n : ℕ) → drop 1 (quads_of (drop n labels)) ≡ drop (n + 1) (quads_of labels)

@@ -4,7 +4,6 @@ use Rattle.std.specs.List.{range_with_len}
 use Rattle.std.proofs.lemmas.List.FromFn.{length-map-range_with_len, get_or-map-range_with_len}
 use Rattle.frame_check.specs.Xor.{xor}
 use Rattle.scramblers.specs.declared.mode.Mode.{Mode}
-use Rattle.scramblers.specs.declared.mode.Mode.TheVariants.{Call, Answer}
 use Rattle.scramblers.specs.Mode.{tap_of}
 use Rattle.scramblers.specs.Stream.{bit_at_place, earlier}
 use Rattle.scramblers.specs.Scrambles.{Descrambles}
@@ -30,8 +29,7 @@ descrambles tap line = record {
 }
 
 tap-low : (mode : Mode) → tap_of mode ≤ 23
-tap-low Call = omega arith
-tap-low Answer = omega arith
+tap-low q0 = grind (arith)
 
 pub readers_pick_up : ReadersPickUp
 readers_pick_up mode depth m samples bits h =

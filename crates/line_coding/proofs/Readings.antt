@@ -13,11 +13,7 @@ use Rattle.line_coding.specs.Demodulates.{line_of, Demodulates}
 
 pub length-fours : (quads : List ℕ) → length (flat_map (low_bits 4) quads) ≡ 4 * length quads
 length-fours [] = refl
-length-fours (quad ∷ quads) =
-    let here : length (flat_map (low_bits 4) (quad ∷ quads)) ≡ suc (suc (suc (suc (length (flat_map (low_bits 4) quads))))) = refl in
-    let below : length (flat_map (low_bits 4) quads) ≡ 4 * length quads = length-fours quads in
-    let count : length (quad ∷ quads) ≡ suc (length quads) = refl in
-    omega (arith, here, below, count)
+length-fours (quad ∷ quads) = grind (arith, length-fours quads)
 
 pub four-each : (tap : ℕ) (labels : List ℕ) (bits : List Bool) → Demodulates tap labels bits → length bits ≡ 4 * length labels
 four-each tap labels bits d = d.lengths ∙ length-fours (quads_of labels) ∙ ap (λ n. 4 * n) (length-quads_of labels)

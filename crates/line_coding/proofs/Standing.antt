@@ -1,33 +1,24 @@
 -- What a modulator and a demodulator of either mode have made.
-use Rattle.std.proofs.Common.{ℕ, Bool, List}
+use Rattle.std.proofs.Common.{arith, ℕ, Bool, List}
 use Rattle.scramblers.specs.declared.mode.Mode.{Mode}
-use Rattle.scramblers.specs.declared.mode.Mode.TheVariants.{Call, Answer}
 use Rattle.scramblers.specs.Mode.{tap_of}
 use Rattle.scramblers.specs.Scrambles.{Scrambles, Descrambles}
 use Rattle.symbol_map.specs.declared.sample.Sample.{Sample}
 use Rattle.line_coding.specs.declared.modulator.Modulator.{Modulator}
 use Rattle.line_coding.specs.declared.demodulator.Demodulator.{Demodulator}
 use Rattle.line_coding.specs.declared.scrambling.ModeScrambler.{ModeScrambler}
-use Rattle.line_coding.specs.declared.scrambling.ModeScrambler.TheVariants as scramblers
 use Rattle.line_coding.specs.declared.scrambling.ModeDescrambler.{ModeDescrambler}
-use Rattle.line_coding.specs.declared.scrambling.ModeDescrambler.TheVariants as descramblers
 use Rattle.line_coding.specs.Modes.{ScramblesAs, DescramblesAs}
 use Rattle.line_coding.specs.Modulates.{Modulates, ModulatorStands}
 use Rattle.line_coding.specs.Demodulates.{Demodulates, DemodulatorStands}
 
 scrambled-as : (mode : Mode) (s : ModeScrambler) (input line : List Bool) → ScramblesAs mode s input line
     → Scrambles (tap_of mode) input line
-scrambled-as Call (scramblers.Call s) input line h = h.scrambled
-scrambled-as Answer (scramblers.Answer s) input line h = h.scrambled
-scrambled-as Call (scramblers.Answer s) input line h = absurd h
-scrambled-as Answer (scramblers.Call s) input line h = absurd h
+scrambled-as q0 q1 input line h = grind (arith)
 
 descrambled-as : (mode : Mode) (d : ModeDescrambler) (line output : List Bool) → DescramblesAs mode d line output
     → Descrambles (tap_of mode) line output
-descrambled-as Call (descramblers.Call d) line output h = h.descrambled
-descrambled-as Answer (descramblers.Answer d) line output h = h.descrambled
-descrambled-as Call (descramblers.Answer d) line output h = absurd h
-descrambled-as Answer (descramblers.Call d) line output h = absurd h
+descrambled-as q0 q1 line output h = grind (arith)
 
 -- a modulator's samples are those of its bits
 pub modulated : (mode : Mode) (m : Modulator) (bits : List Bool) (samples : List Sample) → ModulatorStands mode m bits samples

@@ -26,8 +26,7 @@ labels_come_back label h = eqb-true (turned_label (turned_back label)) label (at
 -- the labels of branches are labels, and they lead to states
 pub labels-small : (from to : ℕ) (labels : List ℕ) → Leads next_state from labels to → All (λ label. label < 32) labels
 labels-small from to [] l = λ k d within. absurd (omega arith)
-labels-small from to (label ∷ labels) (mid, b, l) =
-    All-cons (λ n. n < 32) label labels (v32_bounded from label mid b).1 (labels-small mid to labels l)
+labels-small from to (label ∷ labels) (mid, b, l) = grind (arith, All-cons, labels-small mid to labels l)
 
 pub leads-within : (from to : ℕ) (labels : List ℕ) → from < 8 → Leads next_state from labels to → to < 8
 leads-within from to [] in_from e = subst (λ s. s < 8) e in_from
@@ -48,6 +47,4 @@ turned-small label = omega arith
 
 pub back-small : (labels : List ℕ) → All (λ label. label < 32) (map turned_back labels)
 back-small [] = λ k d within. absurd (omega arith)
-back-small (label ∷ labels) =
-    All-cons (λ n. n < 32) (turned_back label) (map turned_back labels) (turned-small (turned_label (turned_label label)))
-    (back-small labels)
+back-small (label ∷ labels) = grind (arith, All-cons, turned-small, back-small labels)

@@ -37,8 +37,7 @@ sequences_turn starts turned_starts samples labels end turn in_end small = (
 -- a sequence ends in a state
 ends-within : (starts : ℕ → Bool) (samples : List Sample) (labels : List ℕ) (end : ℕ) → ((state : ℕ) → starts state ≡ true → state < 8)
     → IsSequence (v32_code starts) samples labels end → end < 8
-ends-within starts samples labels end within s =
-    leads-within s.code_sequence.from end labels (within s.code_sequence.from s.code_sequence.starts_there) s.code_sequence.leads
+ends-within starts samples labels end within s = grind (arith, leads-within)
 
 -- the state that turns to this one
 abbrev state_back : ℕ → ℕ

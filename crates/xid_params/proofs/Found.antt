@@ -1,16 +1,21 @@
 -- The offer that is found is the one that is spelled.
-use Rattle.xid_params.proofs.Names.{◌≡◌, ℕ, zero, suc, ◌+◌, ◌*◌, ◌/◌, ◌%◌, ◌<◌, ◌≤◌, Bool, true, false, IsTrue, ◌&&◌, List, [], ◌∷◌, ◌++◌}
-use Rattle.xid_params.proofs.Names.{length, take, nat_eq, cond, Option, Some, None, append_assoc, length-append, arith, refl, sym, ◌∙◌, ap}
-use Rattle.xid_params.proofs.Names.{subst, nat_tests, flat_map, option_and_then, IsEnd, GroupsSpell, OfferSpelling, groups_in}
-use Rattle.xid_params.proofs.Names.{parameters_in, all_well, offer_with, offer_of_groups, offer_in, identifier_of, stands_well, offer_of}
-use Rattle.xid_params.proofs.Names.{AreWell, ParametersSpell, Part, group_octets, parameter_octets, named, Offer, Parameter, Functions}
-use Rattle.xid_params.proofs.Names.{TxLength, RxLength, TxWindow, RxWindow}
-use Rattle.std.proofs.Common.{drop, nat_le, length-drop}
+use Rattle.std.proofs.Common.{◌≡◌, ℕ, zero, suc, ◌+◌, ◌*◌, ◌/◌, ◌%◌, ◌<◌, ◌≤◌, Bool, true, false, IsTrue, ◌&&◌, List, [], ◌∷◌, ◌++◌, length}
+use Rattle.std.proofs.Common.{take, drop, nat_eq, nat_le, cond, Option, Some, None, append_assoc, length-append, length-drop, arith, refl}
+use Rattle.std.proofs.Common.{sym, ◌∙◌, ap, subst}
+use Rattle.std.specs.List.{flat_map}
+use Rattle.std.specs.Option.{option_and_then}
+use Rattle.std.proofs.lemmas.Bool.Decides.{nat_tests}
 use Rattle.std.proofs.lemmas.List.{take-append-drop, length-take-le}
 use Rattle.std.proofs.lemmas.Grind.{common_steps}
 use Rattle.std.proofs.Math.Seq.{take-append_seam, drop-append_seam}
-use Rattle.xid_params.specs.Offers.{before}
-use Rattle.xid_params.specs.Offers.{SpellingIsFound}
+use Rattle.std.proofs.lemmas.Option.{cond_some}
+use Rattle.xid_params.specs.declared.offer.Offer.{Offer}
+use Rattle.xid_params.specs.declared.parameter.Parameter.{Parameter}
+use Rattle.xid_params.specs.declared.parameter.Parameter.TheVariants.{Functions, TxLength, RxLength, TxWindow, RxWindow}
+use Rattle.xid_params.specs.Parts.{Part, group_octets, parameter_octets, named}
+use Rattle.xid_params.specs.Parameters.{identifier_of, stands_well, offer_of, AreWell, ParametersSpell}
+use Rattle.xid_params.specs.Offers.{IsEnd, GroupsSpell, OfferSpelling, before, groups_in, parameters_in, all_well, offer_with}
+use Rattle.xid_params.specs.Offers.{offer_of_groups, offer_in, SpellingIsFound}
 use Rattle.xid_params.proofs.Tables.{and-left, and-right, and-both}
 use Rattle.xid_params.proofs.Small.{AreSmall, small}
 
@@ -113,17 +118,9 @@ spelled-groups (group ∷ []) offer s = spelled-with group.value offer s
 spelled-groups (group ∷ again ∷ groups) offer h = absurd h
 
 pub spelled-is-found : (octets : List ℕ) (offer : Offer) → OfferSpelling octets offer → offer_in octets ≡ Some offer
-spelled-is-found octets offer s =
-    ap offer_in s.passes.whole
-    ∙ ap (option_and_then (λ groups. offer_of_groups (named 128 groups)))
-    (groups-found (length (flat_map group_octets s.groups ++ s.rest)) s.groups s.rest s.passes.none_ends s.ends (omega arith))
-    ∙ spelled-groups (named 128 s.groups) offer s.offers
+spelled-is-found octets offer s = grind (arith, groups-found, spelled-groups)
 
 -- and back
-
-chosen-some : {A : Type 0} (b : Bool) (x y : A) → cond b (Some x) None ≡ Some y → (b ≡ true) × (x ≡ y)
-chosen-some true x y e = (refl, cc)
-chosen-some false x y e = cc
 
 -- the octets are these parts, and then so
 pub record Begins (octets : List ℕ) (groups : List Part) : Type 0 where
@@ -195,8 +192,8 @@ groups-back zero [] groups are fits e = let empty : [] ≡ groups = cc in
 groups-back zero (x ∷ octets) groups are fits e = absurd (omega arith)
 groups-back (suc room) [] groups are fits e = let empty : [] ≡ groups = cc in
     subst (Begins []) empty (record { rest = []; whole = refl; none_ends = refl; ends = tt })
-groups-back (suc room) (g ∷ []) groups are fits e = let p = chosen-some (nat_eq g 255) [] groups e in at-end g [] groups p.0 (ap Some p.1)
-groups-back (suc room) (g ∷ high ∷ []) groups are fits e = let p = chosen-some (nat_eq g 255) [] groups e in
+groups-back (suc room) (g ∷ []) groups are fits e = let p = cond_some (nat_eq g 255) [] groups e in at-end g [] groups p.0 (ap Some p.1)
+groups-back (suc room) (g ∷ high ∷ []) groups are fits e = let p = cond_some (nat_eq g 255) [] groups e in
     at-end g (high ∷ []) groups p.0 (ap Some p.1)
 groups-back (suc room) (g ∷ high ∷ low ∷ tail) groups are fits e =
     let n : ℕ = 256 * high + low in
@@ -256,7 +253,7 @@ found-with : (content : List ℕ) (found : Option (List Part)) (offer : Offer)
     → ParametersSpell content offer
 found-with content None offer back e = cc
 found-with content (Some parts) offer back e =
-    let p = chosen-some (all_well parts) (offer_of parts) offer e in
+    let p = cond_some (all_well parts) (offer_of parts) offer e in
     record { parts = parts; whole = back parts refl; well = all-each parts p.0; offer_is = sym p.1 }
 
 found-groups : (groups : List Part) (offer : Offer) → offer_of_groups groups ≡ Some offer → GroupsSpell groups offer

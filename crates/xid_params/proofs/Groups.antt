@@ -1,12 +1,19 @@
 -- Groups as they are passed, the faults of a field, and the first of these.
-use Rattle.xid_params.proofs.Names.{◌≡◌, ◌≢◌, ℕ, suc, ◌+◌, ◌-◌, ◌/◌, ◌%◌, ◌<◌, ◌≤◌, ◌⊎◌, inl, inr, true, false, List, [], ◌∷◌, ◌++◌, length}
-use Rattle.xid_params.proofs.Names.{nat_eq, cond, Option, Some, None, append_assoc, length-append, arith, refl, sym, ◌∙◌, ap, subst}
-use Rattle.xid_params.proofs.Names.{nat_tests, append-nil, flat_map-append, flat_map, place_of, place_behind, IsGroupWrong, GroupHas}
-use Rattle.xid_params.proofs.Names.{InnerHas, Has, IsFirst, FirstFault, ParameterHas, Offers, ParametersSpell, Part, group_octets, named}
-use Rattle.xid_params.proofs.Names.{XidFault, Format, Group, Length, Value, Repeated, Offer}
+use Rattle.std.proofs.Common.{◌≡◌, ◌≢◌, ℕ, suc, ◌+◌, ◌-◌, ◌/◌, ◌%◌, ◌<◌, ◌≤◌, ◌⊎◌, inl, inr, true, false, List, [], ◌∷◌, ◌++◌, length}
+use Rattle.std.proofs.Common.{nat_eq, Option, Some, None, append_assoc, length-append, arith, refl, sym, ◌∙◌, ap, subst}
+use Rattle.std.specs.List.{flat_map}
+use Rattle.std.proofs.lemmas.Bool.Decides.{nat_tests}
+use Rattle.std.proofs.lemmas.List.{append-nil}
+use Rattle.std.proofs.lemmas.List.Concat.{flat_map-append}
+use Rattle.xid_params.specs.declared.fault.XidFault.{XidFault}
+use Rattle.xid_params.specs.declared.fault.XidFault.TheVariants.{Format, Group, Length, Value, Repeated}
+use Rattle.xid_params.specs.declared.offer.Offer.{Offer}
+use Rattle.xid_params.specs.Parts.{Part, group_octets, named}
+use Rattle.xid_params.specs.Parameters.{ParametersSpell}
 use Rattle.xid_params.specs.Offers.{Passes}
-use Rattle.xid_params.specs.Faults.{IsGroupCut, FormatHas}
-use Rattle.xid_params.specs.Gathered.{IsOffered}
+use Rattle.xid_params.specs.Faults.{place_of, place_behind, IsGroupCut, IsGroupWrong, GroupHas, InnerHas, FormatHas, Has, IsFirst}
+use Rattle.xid_params.specs.Faults.{FirstFault, ParameterHas}
+use Rattle.xid_params.specs.Gathered.{IsOffered, Offers}
 use Rattle.xid_params.proofs.Lists.{group-free, compare, named-append}
 use Rattle.xid_params.proofs.Tables.{named-other, named-first}
 use Rattle.xid_params.proofs.Parameters.{le-before, no-fault, within, fault-from}
@@ -46,10 +53,7 @@ none-first (x ∷ xs) ys part e = cc
 
 named-among : (groups before more : List Part) (part : Part) → groups ≡ before ++ part ∷ more → part.identifier ≡ 128
     → named 128 groups ≡ named 128 before ++ part ∷ named 128 more
-named-among groups before more part e is =
-    let same : nat_eq part.identifier 128 ≡ true = grind (arith, nat_tests) in
-    ap (named 128) e ∙ named-append 128 before (part ∷ more)
-    ∙ ap (λ b. named 128 before ++ cond b (part ∷ named 128 more) (named 128 more)) same
+named-among groups before more part e is = grind (arith, nat_tests, named-append)
 
 is-spelled : (offered : Option Offer) (groups before more : List Part) (part : Part) → Offers offered groups
     → groups ≡ before ++ part ∷ more → part.identifier ≡ 128 → IsSpelled before part
@@ -63,7 +67,7 @@ is-spelled (Some offer) groups before more part o e is =
 pub whole-group : (tail value rest : List ℕ) → tail ≡ (length value / 256) ∷ (length value % 256) ∷ (value ++ rest) → IsGroupCut tail → ⊥
 whole-group [] value rest e h = cc
 whole-group (high ∷ []) value rest e h = let bad : [] ≡ (length value % 256) ∷ (value ++ rest) = cc in cc
-whole-group (high ∷ low ∷ more) value rest e h = grind (arith, more, length-append)
+whole-group (high ∷ low ∷ more) value rest e h = grind (arith, length-append)
 
 -- nothing is wrong with the groups that were passed
 group-none-wrong : (offered : Option Offer) (groups before more : List Part) (part : Part) (identifier : ℕ) (tail rest : List ℕ) (at : ℕ)
@@ -73,7 +77,7 @@ group-none-wrong : (offered : Option Offer) (groups before more : List Part) (pa
 group-none-wrong offered groups before more part identifier tail rest at (Group place) o e f (p, is, again) =
     let same : part.identifier ≡ 128 = cc in
     again (is-spelled offered groups before more part o e same).first
-group-none-wrong offered groups before more part identifier tail rest at (Length place) o e f (p, cut) = grind (arith, tail, whole-group)
+group-none-wrong offered groups before more part identifier tail rest at (Length place) o e f (p, cut) = grind (arith, whole-group)
 group-none-wrong offered groups before more part identifier tail rest at (Value place) o e f h = h
 group-none-wrong offered groups before more part identifier tail rest at (Repeated place) o e f h = h
 group-none-wrong offered groups before more part identifier tail rest at Format o e f h = h
@@ -105,14 +109,14 @@ tail-same x xs ys e = cc
 
 -- the places behind groups and more groups
 pub place-more : (groups more : List Part) → place_behind (groups ++ more) ≡ place_behind groups + length (flat_map group_octets more)
-place-more groups more = grind (arith, flat_map-append, groups, more, length-append)
+place-more groups more = grind (arith, flat_map-append, length-append)
 
 append-empty : (xs ys : List Part) → xs ++ ys ≡ [] → ys ≡ []
 append-empty [] ys e = e
 append-empty (x ∷ xs) ys e = cc
 
 ends-more : (groups more all : List Part) → all ≡ groups ++ more → named 255 all ≡ [] → named 255 more ≡ []
-ends-more groups more all e none = grind (arith, append-empty, groups, more, named-append)
+ends-more groups more all e none = grind (arith, append-empty, named-append)
 
 -- faults of groups stand behind the groups that were passed
 group-further : (octets rest : List ℕ) (groups : List Part) (offered : Option Offer) (q : ℕ) (fault : XidFault) → Passes octets groups rest
@@ -253,12 +257,7 @@ beyond : (more : List Part) (tail content after rest : List ℕ) (at q : ℕ) (f
     → 128 ∷ tail ≡ group_octets (record { identifier = 128; value = content }) ++ after
     → 128 ∷ tail ≡ flat_map group_octets (first ∷ more) ++ rest
     → at + length (flat_map group_octets (first ∷ more)) ≤ q → at + 3 + length content ≤ q
-beyond more tail content after rest at q first e f room =
-    let part : Part = record { identifier = 128; value = content } in
-    let same = group-free.free first part (flat_map group_octets more ++ rest) after
-    (sym (append_assoc (group_octets first) (flat_map group_octets more) rest) ∙ sym f ∙ e) in
-    let size : length first.value ≡ length content = ap (λ g. length g.value) same.0 in
-    omega (arith, length-append first.value (flat_map group_octets more))
+beyond more tail content after rest at q first e f room = grind (arith, append_assoc, length-append)
 
 -- what the first fault of the parameters comes before
 inner-before-group : (groups more : List Part) (tail content after other_tail : List ℕ) (at other_identifier q : ℕ) (fault other : XidFault)

@@ -1,6 +1,8 @@
 -- Lists of parts as octets.
-use Rattle.xid_params.proofs.Names.{◌≡◌, ℕ, ◌/◌, ◌%◌, ◌⊎◌, inl, inr, Bool, List, [], ◌∷◌, ◌++◌, length, nat_eq, cond}
-use Rattle.xid_params.proofs.Names.{append_assoc, arith, refl, sym, ◌∙◌, ap, flat_map, Part, group_octets, parameter_octets, named}
+use Rattle.std.proofs.Common.{◌≡◌, ℕ, ◌/◌, ◌%◌, ◌⊎◌, inl, inr, Bool, List, [], ◌∷◌, ◌++◌, length, cond, append_assoc}
+use Rattle.std.proofs.Common.{arith, refl, sym, ◌∙◌, ap}
+use Rattle.std.specs.List.{flat_map}
+use Rattle.xid_params.specs.Parts.{Part, group_octets, parameter_octets, named}
 
 -- A part is known by the octets in front.
 pub record IsFree (spell : Part → List ℕ) : Type 0 where
@@ -85,6 +87,4 @@ one-more q0 a xs ys zs e = grind (arith)
 
 pub named-append : (identifier : ℕ) (xs ys : List Part) → named identifier (xs ++ ys) ≡ named identifier xs ++ named identifier ys
 named-append identifier [] ys = refl
-named-append identifier (a ∷ xs) ys =
-    one-more (nat_eq a.identifier identifier) a (named identifier xs) (named identifier ys) (named identifier (xs ++ ys))
-    (named-append identifier xs ys)
+named-append identifier (a ∷ xs) ys = grind (arith, one-more, named-append identifier xs ys)

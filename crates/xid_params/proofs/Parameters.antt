@@ -1,11 +1,20 @@
 -- Group 80: its parameters as they are passed, their faults, and the first of these.
-use Rattle.xid_params.proofs.Names.{◌≡◌, ℕ, suc, ◌+◌, ◌-◌, ◌<◌, ◌≤◌, ◌⊎◌, inl, inr, Bool, not, IsTrue, List, [], ◌∷◌, ◌++◌}
-use Rattle.xid_params.proofs.Names.{length, append_assoc, length-append, arith, refl, sym, ◌∙◌, ap, subst, append-nil}
-use Rattle.xid_params.proofs.Names.{flat_map-append, flat_map, place_of, IsRepeated, IsParameterWrong, ParameterHas, IsFirst, Stands}
-use Rattle.xid_params.proofs.Names.{identifier_of, accepts, is_low, AreWell, ParametersSpell, Part, parameter_octets, named, XidFault}
-use Rattle.xid_params.proofs.Names.{Format, Group, Length, Value, Repeated, Given, Offer, Parameter}
+use Rattle.std.proofs.Common.{◌≡◌, ℕ, suc, ◌+◌, ◌-◌, ◌<◌, ◌≤◌, ◌⊎◌, inl, inr, Bool, not, IsTrue, List, [], ◌∷◌, ◌++◌, length}
+use Rattle.std.proofs.Common.{append_assoc, length-append, arith, refl, sym, ◌∙◌, ap, subst}
+use Rattle.std.specs.List.{flat_map}
 use Rattle.std.proofs.lemmas.Bool.{cases_lt}
-use Rattle.xid_params.specs.Faults.{IsParameterCut, HasWrongLength, IsIdentifiedWrong}
+use Rattle.std.proofs.lemmas.List.{append-nil}
+use Rattle.std.proofs.lemmas.List.Concat.{flat_map-append}
+use Rattle.xid_params.specs.declared.fault.XidFault.{XidFault}
+use Rattle.xid_params.specs.declared.fault.XidFault.TheVariants.{Format, Group, Length, Value, Repeated}
+use Rattle.xid_params.specs.declared.given.Given.{Given}
+use Rattle.xid_params.specs.declared.offer.Offer.{Offer}
+use Rattle.xid_params.specs.declared.parameter.Parameter.{Parameter}
+use Rattle.xid_params.specs.Parts.{Part, parameter_octets, named}
+use Rattle.xid_params.specs.Parameters.{identifier_of, accepts, is_low, AreWell, ParametersSpell}
+use Rattle.xid_params.specs.Faults.{place_of, IsParameterCut, IsRepeated, HasWrongLength, IsIdentifiedWrong, IsParameterWrong, ParameterHas}
+use Rattle.xid_params.specs.Faults.{IsFirst}
+use Rattle.xid_params.specs.Gathered.{Stands}
 use Rattle.xid_params.proofs.Lists.{parameter-free, cut-append, compare}
 use Rattle.xid_params.proofs.Tables.{same-parameter, stands-alone}
 
@@ -31,7 +40,7 @@ fault-to parts identifier tail at q4 w = grind (arith)
 -- a cut parameter isn't whole
 whole-not-cut : (tail value rest : List ℕ) → tail ≡ length value ∷ (value ++ rest) → IsParameterCut tail → ⊥
 whole-not-cut [] value rest e h = cc
-whole-not-cut (count ∷ more) value rest e h = grind (arith, more, length-append)
+whole-not-cut (count ∷ more) value rest e h = grind (arith, length-append)
 
 -- its length is that of the value
 measured : (tail value rest : List ℕ) (identifier : ℕ) (q : Parameter) → tail ≡ length value ∷ (value ++ rest)
@@ -46,7 +55,7 @@ none-wrong parts before more part identifier tail rest at (Repeated place) w e f
     let is : identifier ≡ part.identifier = cc in
     let alone = stands-alone parts before more part r.parameter w e (sym is ∙ r.identifier_is) in
     r.again (ap (λ k. named k before) r.identifier_is ∙ alone.first)
-none-wrong parts before more part identifier tail rest at (Length place) w e f (p, inl cut) = grind (arith, tail, whole-not-cut)
+none-wrong parts before more part identifier tail rest at (Length place) w e f (p, inl cut) = grind (arith, whole-not-cut)
 none-wrong parts before more part identifier tail rest at (Length place) w e f (p, inr m) =
     let is : identifier ≡ part.identifier = cc in
     let t : tail ≡ length part.value ∷ (part.value ++ rest) = cc in
@@ -146,8 +155,8 @@ least-value : (parts : List Part) (identifier : ℕ) (tail value rest : List ℕ
     → tail ≡ length value ∷ (value ++ rest) → identifier ≡ identifier_of q → IsTrue (accepts q (length value))
     → (other : XidFault) → IsParameterWrong parts identifier tail at other → at + 2 ≤ place_of other
 least-value parts identifier tail value rest q at new e is accepted (Repeated place) (p, r) = absurd (new r)
-least-value parts identifier tail value rest q at new e is accepted (Length place) (p, inl cut) = grind (arith, whole-not-cut, tail)
-least-value parts identifier tail value rest q at new e is accepted (Length place) (p, inr m) = grind (arith, measured, tail, identifier)
+least-value parts identifier tail value rest q at new e is accepted (Length place) (p, inl cut) = grind (arith, whole-not-cut)
+least-value parts identifier tail value rest q at new e is accepted (Length place) (p, inr m) = grind (arith, measured)
 least-value parts identifier tail value rest q at new e is accepted (Value place) (p, w) = omega arith
 least-value parts identifier tail value rest q at new e is accepted (Group place) w = absurd w
 least-value parts identifier tail value rest q at new e is accepted Format w = absurd w

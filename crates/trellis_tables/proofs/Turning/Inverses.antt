@@ -27,14 +27,10 @@ both_mod a b k small small_now = omega arith
 -- what stands before a place of what was turned is the sum up to it
 before-turned : (q : List ℕ) (n : ℕ) → n ≤ length q → before (turned q) n ≡ sum (take n q) % 4
 before-turned q zero within = omega arith
-before-turned q (suc n) within =
-    let e : suc n ≡ n + 1 = sym (add-one n) in
-    rw e (before-suc (turned q) n ∙ get_or-turned q n (omega arith))
+before-turned q (suc n) within = grind (arith, add-one, before-suc, get_or-turned)
 
 pub goes_on : (q : List ℕ) (n : ℕ) → n < length q → get_or (turned q) n 0 ≡ (before (turned q) n + get_or q n 0) % 4
-goes_on q n within =
-    get_or-turned q n within ∙ ap (λ s. s % 4) (sum-take_more q n within) ∙ more_mod (sum (take n q)) (get_or q n 0)
-    ∙ ap (λ b. (b + get_or q n 0) % 4) (sym (before-turned q n (omega arith)))
+goes_on q n within = grind (arith, get_or-turned, sum-take_more, more_mod, before-turned)
 
 pub unturned-turned : (q : List ℕ) → AreTurns q → unturned (turned q) ≡ q
 unturned-turned q small = ext_get_or 0 (unturned (turned q)) q (length-unturned (turned q) ∙ length-turned q) each

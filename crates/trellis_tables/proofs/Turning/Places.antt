@@ -36,9 +36,7 @@ before-append : (y : List ℕ) (last n : ℕ) → n ≤ length y → before (y +
 before-append y last n within = grind (arith, common_steps, nat_tests)
 
 unturned_at-append : (y : List ℕ) (last n : ℕ) → n < length y → unturned_at (y ++ last ∷ []) n ≡ unturned_at y n
-unturned_at-append y last n within =
-    let here : get_or (y ++ last ∷ []) n 0 ≡ get_or y n 0 = grind (arith, common_steps) in
-    rw (here, before-append y last n (omega arith)) refl
+unturned_at-append y last n within = grind (arith, common_steps, before-append)
 
 -- what stands at a place of a list with one number more
 front : (xs : List ℕ) (x n : ℕ) → n < length xs → get_or (xs ++ x ∷ []) n 0 ≡ get_or xs n 0

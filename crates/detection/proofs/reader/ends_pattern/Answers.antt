@@ -1,4 +1,5 @@
-use Rattle.detection.proofs.Names.{lit≤, false≢true}
+use Rattle.std.proofs.Common.{lit≤}
+use Rattle.std.proofs.lemmas.Bool.{false≢true}
 use Rattle.detection.proofs.Readings.{none-twice, some-twice}
 use Rattle.detection.proofs.reader.ends_pattern.Goals as goal
 
