@@ -1,5 +1,5 @@
 -- Both ends speak, and a turn is made.
-use Rattle.std.proofs.Common.{◌≡◌, ◌≢◌, ℕ, ◌+◌, true, false, List, ◌∷◌, ◌++◌, length, arith, refl, sym, ◌∙◌, subst, Option, Some, None, Ok}
+use Rattle.std.proofs.Common.{◌≡◌, ◌≢◌, ℕ, ◌+◌, true, List, ◌∷◌, ◌++◌, length, arith, refl, sym, ◌∙◌, subst, Option, Some, None, Ok}
 use Rattle.std.specs.Option.{option_map}
 use Rattle.outside_calls.specs.Folder.{FolderState, Appended, PartlyAppended, CountsStand}
 use Rattle.frame_check.specs.declared.check.Check.{Check}
@@ -40,7 +40,8 @@ use Rattle.line_run.specs.declared.fault.RunFault.TheVariants as run_faults
 use Rattle.line_world.specs.Tally.{Tallies}
 use Rattle.line_world.specs.Texts.{lines_of}
 use Rattle.line_world.specs.Turn.{IsWriting, FaultCounts}
-use Rattle.line_world.specs.Mid.{HearsThese, Overhears, TalliesHeard, HasGone, AddsPart, SpeaksLast, served, side_of, turn_in}
+use Rattle.line_world.specs.Modems.{IsWireOf}
+use Rattle.line_world.specs.Mid.{HearsThese, IsToSpeak, Overhears, TalliesHeard, HasGone, AddsPart, SpeaksLast, served, side_of, turn_in}
 use Rattle.line_world.proofs.Hearing.{heard-in, none-sent, runs-over}
 use Rattle.line_world.proofs.Serving.{hears-in, served-is}
 use Rattle.line_world.specs.Faults.{fault_named}
@@ -64,32 +65,31 @@ pub record SpokenTurn (c : Wire) (files : Both (List ℕ)) (ts : List Turn) (end
   pub heard_in : HeardIn c ts (turn_in heard ends mid (spoken_by orig answ))
   pub stands : LinkStands l files (ends_of orig answ)
 
-pub spoken-turn : (c : Wire) (files : Both (List ℕ)) (ts : List Turn) (ends : Accounts) (heard : Both Heard) (mid : Accounts)
-    (from_orig from_answ : Sent) (l : Link) (turn : ℕ)
-    → turn ≡ length ts → Overhears c files ts ends heard mid → is_closed mid.orig.phase ≡ false
-    → SaysBoth l files (link_of c.script files) turn (served c.script files (length ts) mid) from_orig from_answ
+pub spoken-turn : {script : ScriptValue} {dlci : ℕ} {m : Modems} {c : Wire} {files : Both (List ℕ)} {ts : List Turn} {ends : Accounts}
+    {heard : Both Heard} {mid : Accounts} (from_orig from_answ : Sent) (l : Link)
+    → IsWireOf c script dlci → IsToSpeak m c files ts ends heard mid
+    → SaysBoth l files (link_of script files) m.turn (served c.script files (length ts) mid) from_orig from_answ
     → SpokenTurn c files ts ends heard mid from_orig from_answ l
-spoken-turn c files ts ends heard mid from_orig from_answ l turn number o open-still s = record {
+spoken-turn {script} {dlci} {m} {c} {files} {ts} {ends} {heard} {mid} from_orig from_answ l is h s = record {
   orig = s.orig;
   answ = s.answ;
   orig_sent = s.orig_sent;
   answ_sent = s.answ_sent;
   going = record {
     mid = mid;
-    hearing = hears-in c files ts ends mid heard (spoken_by s.orig s.answ) o;
-    going = open-still;
+    hearing = hears-in c files ts ends mid heard (spoken_by s.orig s.answ) h.stands.overhears;
+    going = h.going;
     speaking = says;
   };
   mid_is = refl;
-  heard_in = heard-in c files ts ends heard mid (spoken_by s.orig s.answ) o;
+  heard_in = heard-in c files ts ends heard mid (spoken_by s.orig s.answ) h.stands.overhears;
   stands = s.stands;
 }
   where
-    on-says : (role : Role) (said : Said) → says_at (link_of c.script files) turn (served c.script files (length ts) mid) role ≡ Ok said
+    on-says : (role : Role) (said : Said) → says_at (link_of script files) m.turn (served c.script files (length ts) mid) role ≡ Ok said
         → said_at (link_of c.script files) (length ts) mid role ≡ Ok said
-    on-says role said h = subst (λ (e : Accounts). says_at (link_of c.script files) (length ts) e role ≡ Ok said)
-        (served-is c.script files (length ts) mid)
-        (subst (λ t. says_at (link_of c.script files) t (served c.script files (length ts) mid) role ≡ Ok said) number h)
+    on-says role said e = subst (λ (x : Accounts). says_at (link_of c.script files) (length ts) x role ≡ Ok said)
+        (served-is c.script files (length ts) mid) (rw (is.script_is, ← h.stands.turn) e)
 
     says : (role : Role) → SpeaksAt (said_at (link_of c.script files) (length ts) mid role)
         (of role (turn_in heard ends mid (spoken_by s.orig s.answ))) (of role (ends_of s.orig s.answ))
@@ -108,15 +108,15 @@ silent : (heard : Both Heard) (ends mid : Accounts) (role : Role) → (of role (
 silent heard ends mid Originator = refl
 silent heard ends mid Answerer = refl
 
-pub broken-turn : (c : Wire) (files : Both (List ℕ)) (ts : List Turn) (ends : Accounts) (heard : Both Heard) (mid : Accounts) (turn : ℕ)
-    (role : Role) (fault : LinkFault)
-    → turn ≡ length ts → Overhears c files ts ends heard mid → is_closed mid.orig.phase ≡ false
-    → BreaksAt (link_of c.script files) turn (served c.script files (length ts) mid) role fault
+pub broken-turn : {script : ScriptValue} {dlci : ℕ} {m : Modems} {c : Wire} {files : Both (List ℕ)} {ts : List Turn} {ends : Accounts}
+    {heard : Both Heard} {mid : Accounts} (role : Role) (fault : LinkFault)
+    → IsWireOf c script dlci → IsToSpeak m c files ts ends heard mid
+    → BreaksAt (link_of script files) m.turn (served c.script files (length ts) mid) role fault
     → BrokenTurn (link_of c.script files) ts ends (turn_in heard ends mid none-sent) mid role fault
-broken-turn c files ts ends heard mid turn role fault number o open-still b = record {
-  hearing = hears-in c files ts ends mid heard none-sent o;
-  going = open-still;
-  broken = broken-so c files (length ts) turn mid role fault number b;
+broken-turn {c = c} {files = files} {ts = ts} {ends = ends} {heard = heard} {mid = mid} role fault is h b = record {
+  hearing = hears-in c files ts ends mid heard none-sent h.stands.overhears;
+  going = h.going;
+  broken = broken-so c files (length ts) _ mid role fault h.stands.turn (rw is.script_is b);
   silent = silent heard ends mid;
 }
 
