@@ -237,9 +237,7 @@ handing-ends start now name s new file a h e end breaks =
               incoming = cond l (record h.after.incoming { given = h.after.incoming.given + 1 }) h.after.incoming;
             })
             h.after ≡ h.after
-        go true true z = absurd (false≢true (sym z))
-        go true false z = refl
-        go false l z = refl
+        go q0 l z = grind (arith)
 
 pub handing-stops : (start now next : FolderState) (name segment : List ℕ) (s : Station) (file : List ℕ) (a : Account) → GoesOn start now
     → (h : Handing start now name s file a)

@@ -62,8 +62,7 @@ runs-over play delays carried c files ts ends limits run = record {
 
 pub heard-in : (c : Wire) (files : Both (List ℕ)) (ts : List Turn) (ends : Accounts) (heard : Both Heard) (mid : Accounts)
     (sent : Both (Option Spoken)) → Overhears c files ts ends heard mid → HeardIn c ts (turn_in heard ends mid sent)
-heard-in c files ts ends heard mid sent o Originator = record { heard_of = o.heard_of Originator; well = o.well Originator }
-heard-in c files ts ends heard mid sent o Answerer = record { heard_of = o.heard_of Answerer; well = o.well Answerer }
+heard-in c files ts ends heard mid sent o q8 = grind (arith)
 
 abbrev pub none-sent : Both (Option Spoken)
 none-sent = record { orig = None; answ = None }
@@ -103,8 +102,7 @@ hears-well laws c files ts ends heard limits run h = record { orig = well Origin
 both-of : (ends : Accounts) (turn : ℕ) (heard : Both Heard) (mid : Accounts) (number : ℕ) → number ≡ turn
     → hear number (arrival heard.orig) ends.orig ≡ Ok mid.orig → hear number (arrival heard.answ) ends.answ ≡ Ok mid.answ
     → (role : Role) → hear turn (arrival (of role heard)) (of role ends) ≡ Ok (of role mid)
-both-of ends turn heard mid number n ho ha Originator = rw (← n) ho
-both-of ends turn heard mid number n ho ha Answerer = rw (← n) ha
+both-of ends turn heard mid number n ho ha q8 = grind (arith)
 
 pub record Hearing (m : Modems) (files : Both (List ℕ)) (ends : Accounts) (heard : Both Heard) (turn : ℕ) : Type 0 where
   pub hears : HearsBoth m.link files ends turn (arrival heard.orig) (arrival heard.answ)

@@ -1,5 +1,5 @@
 -- What happens to both ends between hearing and speaking.
-use Rattle.std.proofs.Common.{◌≡◌, ℕ, zero, suc, Bool, true, false, cond, List, length, refl, sym, ◌∙◌, ap, subst, Option, Some}
+use Rattle.std.proofs.Common.{arith, ◌≡◌, ℕ, zero, suc, Bool, true, false, cond, List, length, refl, sym, ◌∙◌, ap, subst, Option, Some}
 use Rattle.std.proofs.Common.{None, Err, IsErrOf, inl, inr}
 use Rattle.outside_calls.specs.Folder.{FolderState, FaultsStand, HasCause}
 use Rattle.outside_calls.specs.declared.folder.FolderFault.{FolderFault}
@@ -36,8 +36,7 @@ given-delivered a = go _
 pub hears-in : (c : Wire) (files : Both (List ℕ)) (ts : List Turn) (ends mid : Accounts) (heard : Both Heard)
     (sent : Both (Option Spoken))
     → Overhears c files ts ends heard mid → Hears (length ts) ends (turn_in heard ends mid sent) mid
-hears-in c files ts ends mid heard sent o Originator = record { hears = o.hears Originator; check_is = refl; given_is = refl }
-hears-in c files ts ends mid heard sent o Answerer = record { hears = o.hears Answerer; check_is = refl; given_is = refl }
+hears-in c files ts ends mid heard sent o q8 = grind (arith)
 
 -- a run is one of the files as far as they are read now
 pub over-others : RunsByWhatIsReadOn

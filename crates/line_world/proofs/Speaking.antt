@@ -9,7 +9,7 @@ use Rattle.shared_terms.specs.Both.{Both, of}
 use Rattle.noise_script.specs.Script.{IsInLimits, delay_of}
 use Rattle.lapm_frames.specs.declared.sent.Sent.{Sent}
 use Rattle.lapm_frames.specs.declared.heard.Heard.{Heard}
-use Rattle.lapm_frames.specs.declared.heard.Heard.TheVariants.{Nothing, Passed, Lost, Chance}
+use Rattle.lapm_frames.specs.declared.heard.Heard.TheVariants.{Chance}
 use Rattle.lapm_frames.specs.Sendable.{IsSendable}
 use Rattle.line_texts.specs.LineText.{line_of, trace_line}
 use Rattle.sample_line.specs.Signals.{IsCodable}
@@ -36,7 +36,6 @@ use Rattle.line_world.specs.Lines.{LinesWait, HaveArrived, AreCodable, ArePut, a
 use Rattle.line_world.specs.declared.modems.Modems.{Modems}
 use Rattle.line_world.specs.declared.tally.Counts.{Counts}
 use Rattle.line_run.specs.declared.fault.RunFault.{RunFault}
-use Rattle.line_run.specs.declared.fault.RunFault.TheVariants as run_faults
 use Rattle.line_world.specs.Tally.{Tallies}
 use Rattle.line_world.specs.Texts.{lines_of}
 use Rattle.line_world.specs.Turn.{IsWriting, FaultCounts}
@@ -105,8 +104,7 @@ broken-so c files number turn mid role fault e h =
     (subst (λ t. BreaksAt (link_of c.script files) t (served c.script files number mid) role fault) e h)
 
 silent : (heard : Both Heard) (ends mid : Accounts) (role : Role) → (of role (turn_in heard ends mid none-sent)).sent ≡ None
-silent heard ends mid Originator = refl
-silent heard ends mid Answerer = refl
+silent heard ends mid q3 = grind (arith)
 
 pub broken-turn : {script : ScriptValue} {dlci : ℕ} {m : Modems} {c : Wire} {files : Both (List ℕ)} {ts : List Turn} {ends : Accounts}
     {heard : Both Heard} {mid : Accounts} (role : Role) (fault : LinkFault)
@@ -122,8 +120,7 @@ broken-turn {c = c} {files = files} {ts = ts} {ends = ends} {heard = heard} {mid
 
 -- both ends hear in it what was heard
 pub hears-these : (heard : Both Heard) (ends mid : Accounts) (sent : Both (Option Spoken)) → HearsThese heard (turn_in heard ends mid sent)
-hears-these heard ends mid sent Originator = refl
-hears-these heard ends mid sent Answerer = refl
+hears-these heard ends mid sent q4 = grind (arith)
 
 -- ---- its text
 
@@ -134,10 +131,7 @@ line-of turn t role heard sent given s well n h x g =
     plain heard well ∙ (λ k. trace_line (n k) role (h k) (x k) (g k))
   where
     plain : (heard : Heard) → heard ≢ Chance → line_of turn role heard sent given ≡ trace_line turn role heard sent given
-    plain Nothing well = refl
-    plain (Passed s) well = refl
-    plain (Lost s) well = refl
-    plain Chance well = absurd (well refl)
+    plain q0 well = grind (arith)
 
 pub text-is : (number : ℕ) (ts : List Turn) (ends mid : Accounts) (heard : Both Heard) (given : Both (Option ℕ))
     (sent : Option (Both Sent)) (sents : Both (Option Spoken))
@@ -186,8 +180,7 @@ put_by dlci orig answ = record { orig = record { dlci = dlci; spoken = spoken or
 
 pub are-put : (dlci : ℕ) (orig answ : Said) (sent : Both Sent) (checks : Both Check) → orig.sent ≡ sent.orig → answ.sent ≡ sent.answ
     → check_of orig.account ≡ checks.orig → check_of answ.account ≡ checks.answ → ArePut (put_by dlci orig answ) sent checks dlci
-are-put dlci orig answ sent checks so sa co ca Originator = record { dlci_is = refl; sent_is = so; check_is = co }
-are-put dlci orig answ sent checks so sa co ca Answerer = record { dlci_is = refl; sent_is = sa; check_is = ca }
+are-put dlci orig answ sent checks so sa co ca q9 = grind (arith)
 
 -- ---- the run goes on
 
@@ -301,18 +294,14 @@ ends-so c f new n files ts ends heard mid turn role other number named o b trace
 -- such an end is no fault of the folder
 pub counts-so : (f new : FolderState) (n : Written) (turn : ℕ) (role : Role) (fault : LinkFault) → IsNamed role fault → CountsStand f new
     → FaultCounts f new n (fault_named turn role fault)
-counts-so f new n turn role faults.NotDetected named stand = stand
-counts-so f new n turn role (faults.Spent segment since) named stand = stand
-counts-so f new n turn role other named stand = absurd named
+counts-so f new n turn role other named stand = grind (arith)
 
 -- ---- the folder doesn't take the lines
 
 pub stops-so : (c : Wire) (f new : FolderState) (n : Written) (files : Both (List ℕ)) (ts : List Turn) (ends : Accounts)
     (heard : Both Heard) (mid : Accounts) (fault : RunFault) → IsWriting fault
     → AddsPart c f new n files ts ends heard mid → SpeaksLast c f new n files ts ends heard mid fault
-stops-so c f new n files ts ends heard mid run_faults.WriteFault w h = h
-stops-so c f new n files ts ends heard mid run_faults.NoMemory w h = h
-stops-so c f new n files ts ends heard mid fault w h = absurd w
+stops-so c f new n files ts ends heard mid fault w h = grind (arith)
 
 pub adds-part : (c : Wire) (f new : FolderState) (n : Written) (files : Both (List ℕ)) (ts : List Turn) (ends : Accounts)
     (heard : Both Heard) (mid : Accounts) (sents : Both (Option Spoken))

@@ -373,19 +373,16 @@ hears-both left c ts checks to_orig to_answ ho ha wo wa lines = record { heard_o
 pub room-both : (orig answ : DelayedLine) (c : Wire) (links : ℕ) (streams : Both (List Carried))
     → HasRoom orig c Originator links streams.orig
     → HasRoom answ c Answerer links streams.answ → HaveRoom (record { from_orig = orig; from_answ = answ }) c links streams
-room-both orig answ c links streams ho ha Originator = ho
-room-both orig answ c links streams ho ha Answerer = ha
+room-both orig answ c links streams ho ha q7 = grind (arith)
 
 pub waits-both : (orig answ : DelayedLine) (c : Wire) (links : ℕ) (streams : Both (List Carried)) (more : Both Carried)
     → WaitsFor orig c Originator links (streams.orig ++ more.orig ∷ []) → WaitsFor answ c Answerer links (streams.answ ++ more.answ ∷ [])
     → AreWaiting (record { from_orig = orig; from_answ = answ }) c links (and_more streams more)
-waits-both orig answ c links streams more ho ha Originator = ho
-waits-both orig answ c links streams more ho ha Answerer = ha
+waits-both orig answ c links streams more ho ha q8 = grind (arith)
 
 pub waits-none : (orig answ : DelayedLine) (c : Wire) (links : ℕ) → WaitsFor orig c Originator links [] → WaitsFor answ c Answerer links []
     → AreWaiting (record { from_orig = orig; from_answ = answ }) c links none_sent
-waits-none orig answ c links ho ha Originator = ho
-waits-none orig answ c links ho ha Answerer = ha
+waits-none orig answ c links ho ha q6 = grind (arith)
 
 -- what arrives leaves the line so, and then otherwise
 pub arrives-left : (old new : Type 0) (c : Wire) (ts : List Turn) (checks : Both Check) (r : Result (Both Heard) LineEnd) → (old → new)

@@ -1,7 +1,7 @@
 -- What is heard, one more bit at a time.
 use Rattle.std.proofs.Common.{◌≡◌, inl, inr, ◌∙◌, ℕ, ◌+◌, ◌-◌, ◌/◌, ◌^◌, ◌<◌, ◌≤◌, Bool, false, List, [], ◌∷◌, ◌++◌, length, take, get_or}
 use Rattle.std.proofs.Common.{nat_eq, bit_and}
-use Rattle.std.proofs.Common.{Option, None, Some, replicate, refl, sym, ap, subst, arith, append_assoc, append-nil, length-append}
+use Rattle.std.proofs.Common.{Option, None, replicate, refl, sym, ap, subst, arith, append_assoc, append-nil, length-append}
 use Rattle.std.specs.Option.{option_map_or}
 use Rattle.std.proofs.lemmas.List.{take_more, take_all, take-append-le, length-replicate}
 use Rattle.std.proofs.lemmas.Bool.{cases_lt}
@@ -91,12 +91,10 @@ empty [] e = refl
 empty (x ∷ xs) e = absurd (omega (arith, e))
 
 none-listed : (o : Option Found) → listed o ≡ [] → o ≡ None
-none-listed None e = refl
-none-listed (Some found) e = absurd cc
+none-listed q0 e = grind (arith)
 
 none-seen : (place : ℕ) (o : Option Seen) → sights_at place o ≡ [] → o ≡ None
-none-seen place None e = refl
-none-seen place (Some seen) e = absurd cc
+none-seen place q1 e = grind (arith)
 
 -- where a list with two more behind it is as it was, neither has anything
 neither : {A : Type 0} (front one two : List A) → (front ++ one) ++ two ≡ front → (one ≡ []) × (two ≡ [])
