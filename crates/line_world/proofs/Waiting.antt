@@ -4,6 +4,7 @@ use Rattle.std.proofs.Common.{arith, length-append, refl, sym, ◌∙◌, ap, su
 use Rattle.std.specs.Prelude.{is_some, Result}
 use Rattle.std.proofs.lemmas.List.{map-append, length-drop, length-map, length-take, take-append-drop}
 use Rattle.std.proofs.Math.Nat.{one-le-mul}
+use Rattle.std.proofs.lemmas.List.{take-append-le, drop-append-le}
 use Rattle.frame_check.specs.declared.check.Check.{Check}
 use Rattle.exact_decoder.specs.declared.decoder.Lost.{Lost}
 use Rattle.shared_terms.specs.declared.role.Role.{Role}
@@ -234,16 +235,6 @@ arrives-as d new c role links ts stream turn hearing r h due-links number m a = 
     by (Due x rest way-is full passes) = late x rest way-is full passes
 
 -- and one more slot is put behind the stream
-take-front : (n : ℕ) (xs ys : List Carried) → n ≤ length xs → take n (xs ++ ys) ≡ take n xs
-take-front zero xs ys h = refl
-take-front (suc n) [] ys h = absurd (omega (arith, h))
-take-front (suc n) (x ∷ xs) ys h = ap (λ l. x ∷ l) (take-front n xs ys (omega (arith, h)))
-
-drop-front : (n : ℕ) (xs ys : List Carried) → n ≤ length xs → drop n (xs ++ ys) ≡ drop n xs ++ ys
-drop-front zero xs ys h = refl
-drop-front (suc n) [] ys h = absurd (omega (arith, h))
-drop-front (suc n) (x ∷ xs) ys h = drop-front n xs ys (omega (arith, h))
-
 pub sends-behind : (d new : DelayedLine) (c : Wire) (role : Role) (links : ℕ) (stream : List Carried) (x : Carried)
     → HasRoom d c role links stream → Moved d new
     → Stands new c.script (map (carried_signal d.sender) (take (length stream - (d.lag - 1)) stream))
@@ -254,8 +245,8 @@ sends-behind d new c role links stream x h m stands =
     let few : k ≤ length stream = omega arith in
     let same : k ≡ length (stream ++ x ∷ []) - new.lag = omega (arith, h.lag_some, m.lag, length-append {A = Carried} stream (x ∷ [])) in
     let there : Stands new c.script (map (carried_signal d.sender) (take k (stream ++ x ∷ []))) (drop k (stream ++ x ∷ [])) =
-    subst (λ l. Stands new c.script (map (carried_signal d.sender) (take k (stream ++ x ∷ []))) l) (sym (drop-front k stream (x ∷ []) few))
-    (subst (λ l. Stands new c.script (map (carried_signal d.sender) l) (drop k stream ++ x ∷ [])) (sym (take-front k stream (x ∷ []) few))
+    subst (λ l. Stands new c.script (map (carried_signal d.sender) (take k (stream ++ x ∷ []))) l) (sym (drop-append-le k stream (x ∷ []) few))
+    (subst (λ l. Stands new c.script (map (carried_signal d.sender) l) (drop k stream ++ x ∷ [])) (sym (take-append-le k stream (x ∷ []) few))
     stands)
     in
     let n : ℕ = length (stream ++ x ∷ []) - new.lag in

@@ -6,6 +6,7 @@ use Rattle.std.specs.Option.{option_map_or}
 use Rattle.std.proofs.lemmas.List.{take_more, take_all, take-append-le, length-replicate}
 use Rattle.std.proofs.lemmas.Bool.{cases_lt}
 use Rattle.std.proofs.lemmas.Nat.{and_mask}
+use Rattle.std.proofs.lemmas.List.{nil_from_length}
 use Rattle.frame_check.specs.Bits.{octet_bits, bits_of}
 use Rattle.frame_check.proofs.BitLists.{length-low_bits, get_or-low_bits, bits_of-snoc}
 use Rattle.frame_check.specs.declared.check.Check.TheVariants.{Sixteen}
@@ -86,10 +87,6 @@ heard-before peer earlier bits bit (arrivals.Frame frame) some h = first-more pe
 
 -- ---- what is heard of bits with which nothing ends
 
-empty : {A : Type 0} (xs : List A) → length xs ≡ 0 → xs ≡ []
-empty [] e = refl
-empty (x ∷ xs) e = absurd (omega (arith, e))
-
 none-listed : (o : Option Found) → listed o ≡ [] → o ≡ None
 none-listed q0 e = grind (arith)
 
@@ -102,7 +99,7 @@ neither front one two e =
     let long = ap length e in
     let all = length-append (front ++ one) two in
     let before = length-append front one in
-    (empty one (omega (arith, long, all, before)), empty two (omega (arith, long, all, before)))
+    (nil_from_length one (omega (arith, long, all, before)), nil_from_length two (omega (arith, long, all, before)))
 
 -- no piece is found at the first of these bits, nor behind it
 no-piece : (past : List Bool) (bit : Bool) (more : List Bool) → pieces_of (past ++ bit ∷ more) ≡ pieces_of past
