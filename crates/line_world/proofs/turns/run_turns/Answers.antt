@@ -19,8 +19,10 @@ use Rattle.line_world.proofs.turns.run_turns.Goals as goal
 
 pub loop-tapes-init : goal.loop-tapes-init
 unfolding reached-start
-loop-tapes-init g c = assumption (reached-start c.args.world.now (written c.args.names.now) (tape_names c.args.tapes.now) (g.F.Folder.state c.args.folder.now) c.requires.first c.requires.created,
-    g.met.F.Folder.came_none _)
+loop-tapes-init g c = assumption (
+  reached-start c.args.world.now (written c.args.names.now) (tape_names c.args.tapes.now) (g.F.Folder.state c.args.folder.now) c.requires.first c.requires.created,
+  g.met.F.Folder.came_none _,
+)
 
 pub record_turn-requires : goal.record_turn-requires
 record_turn-requires g c = record {
