@@ -69,4 +69,5 @@ pub both-coded : (l : Lines) (c : Wire) (streams : Both (List Carried)) → HasC
 both-coded l c streams ho ha q5 = grind (arith)
 
 pub nothing-newest : (front : List Carried) (x : Carried) → [] ≡ front ++ x ∷ [] → ⊥
-nothing-newest q0 x e = grind (arith)
+nothing-newest [] x e = absurd cc
+nothing-newest (y ∷ front) x e = absurd cc

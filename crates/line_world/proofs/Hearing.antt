@@ -62,7 +62,8 @@ runs-over play delays carried c files ts ends limits run = record {
 
 pub heard-in : (c : Wire) (files : Both (List ℕ)) (ts : List Turn) (ends : Accounts) (heard : Both Heard) (mid : Accounts)
     (sent : Both (Option Spoken)) → Overhears c files ts ends heard mid → HeardIn c ts (turn_in heard ends mid sent)
-heard-in c files ts ends heard mid sent o q8 = grind (arith)
+heard-in c files ts ends heard mid sent o Originator = record { heard_of = o.heard_of Originator; well = o.well Originator }
+heard-in c files ts ends heard mid sent o Answerer = record { heard_of = o.heard_of Answerer; well = o.well Answerer }
 
 abbrev pub none-sent : Both (Option Spoken)
 none-sent = record { orig = None; answ = None }

@@ -78,7 +78,17 @@ knows-later a b n files apart only k = (stay-known a b n files apart only k.with
 -- of a world that has made a turn, over its script
 abbrev over : (w v : World) (script : ScriptValue) (n : Written) (tapes : Tapes) (old now : FolderState) → Reached w script n tapes old now
     → script_of v ≡ script_of w → Reached w (script_of v) n tapes old now
-over w v script n tapes old now r same = assumption (sym same)
+over w v script n tapes old now r same = record {
+  script_is = sym same;
+  files = r.files;
+  knows = r.knows;
+  turns = r.turns;
+  ends = r.ends;
+  world = r.world;
+  holds = r.holds;
+  only = r.only;
+  stand = r.stand;
+}
 
 -- before the first turn
 unfoldable pub reached-start : (w : World) (n : Written) (tapes : Tapes) (s : FolderState)
@@ -192,7 +202,14 @@ module _ (delivers : HearingsDeliver) (w v : World) (n : Written) (tapes : Tapes
       (link_of (script_of v) e.others) r.turns r.ends outcome number (left_of e.mid (trace_text (e.turn ∷ r.turns))) × HoldEach next
       (outputs_of n) (held_of (left_of e.mid (trace_text (e.turn ∷ r.turns))))
   ended-turn outcome number e = (
-    assumption (e.number_is, e.turn, leaves-so e.mid (trace_text (e.turn ∷ r.turns))),
+    record {
+      number = e.number_is;
+      last = e.turn;
+      mid = e.mid;
+      heard = e.makes.heard;
+      is = e.makes.is;
+      leaves = leaves-so e.mid (trace_text (e.turn ∷ r.turns));
+    },
     held-turn delivers (link_of (script_of w) r.files) r.turns r.ends e.turn e.mid now next n r.world.modems.run.run
         (hearing-in (link_of (script_of v) e.others) r.turns r.ends e.turn e.mid outcome e.makes.is) only.goes_on r.holds e.writes,
   )

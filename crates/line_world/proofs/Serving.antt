@@ -44,7 +44,9 @@ pub over-others : RunsByWhatIsReadOn
     (n : Written)
     → IsInLimits c.script → Overhears c files ts ends heard mid → ReadsBoth f n files (handed mid) others
     → Overhears c others ts ends heard mid
-over-others law c files others ts ends mid heard f n limits o r = assumption (law (link_of c.script files) files others ts ends (turn_in heard ends mid (record { orig = None; answ = None })) mid allowed o.run.run (hears-in c files ts ends mid heard (record { orig = None; answ = None }) o) same)
+over-others law c files others ts ends mid heard f n limits o r = assumption (law (link_of c.script files) files others ts ends
+    (turn_in heard ends mid (record { orig = None; answ = None })) mid allowed o.run.run (hears-in c files ts ends mid heard
+    (record { orig = None; answ = None }) o) same)
   where
     allowed : (role : Role) → IsAllowed (of role (link_of c.script files)).setup.offer
     allowed Originator = limits.offer_orig_allowed

@@ -6,7 +6,7 @@ use Rattle.frame_check.specs.declared.check.Check.{Check}
 use Rattle.shared_terms.specs.declared.role.Role.{Role}
 use Rattle.shared_terms.specs.declared.role.Role.TheVariants.{Originator, Answerer}
 use Rattle.shared_terms.specs.Both.{Both, of}
-use Rattle.noise_script.specs.Script.{IsInLimits, delay_of}
+use Rattle.noise_script.specs.Script.{IsInLimits, ScriptValue, delay_of}
 use Rattle.lapm_frames.specs.declared.sent.Sent.{Sent}
 use Rattle.lapm_frames.specs.declared.heard.Heard.{Heard}
 use Rattle.lapm_frames.specs.declared.heard.Heard.TheVariants.{Chance}
@@ -88,7 +88,9 @@ spoken-turn {script} {dlci} {m} {c} {files} {ts} {ends} {heard} {mid} from_orig 
     on-says : (role : Role) (said : Said) → says_at (link_of script files) m.turn (served c.script files (length ts) mid) role ≡ Ok said
         → said_at (link_of c.script files) (length ts) mid role ≡ Ok said
     on-says role said e = subst (λ (x : Accounts). says_at (link_of c.script files) (length ts) x role ≡ Ok said)
-        (served-is c.script files (length ts) mid) (rw (is.script_is, ← h.stands.turn) e)
+        (served-is c.script files (length ts) mid)
+        (subst (λ t. says_at (link_of c.script files) t (served c.script files (length ts) mid) role ≡ Ok said) h.stands.turn
+        (subst (λ x. says_at (link_of x files) m.turn (served c.script files (length ts) mid) role ≡ Ok said) (sym is.script_is) e))
 
     says : (role : Role) → SpeaksAt (said_at (link_of c.script files) (length ts) mid role)
         (of role (turn_in heard ends mid (spoken_by s.orig s.answ))) (of role (ends_of s.orig s.answ))
@@ -111,10 +113,11 @@ pub broken-turn : {script : ScriptValue} {dlci : ℕ} {m : Modems} {c : Wire} {f
     → IsWireOf c script dlci → IsToSpeak m c files ts ends heard mid
     → BreaksAt (link_of script files) m.turn (served c.script files (length ts) mid) role fault
     → BrokenTurn (link_of c.script files) ts ends (turn_in heard ends mid none-sent) mid role fault
-broken-turn {c = c} {files = files} {ts = ts} {ends = ends} {heard = heard} {mid = mid} role fault is h b = record {
+broken-turn {m = m} {c = c} {files = files} {ts = ts} {ends = ends} {heard = heard} {mid = mid} role fault is h b = record {
   hearing = hears-in c files ts ends mid heard none-sent h.stands.overhears;
   going = h.going;
-  broken = broken-so c files (length ts) _ mid role fault h.stands.turn (rw is.script_is b);
+  broken = broken-so c files (length ts) m.turn mid role fault h.stands.turn
+      (subst (λ x. BreaksAt (link_of x files) m.turn (served c.script files (length ts) mid) role fault) (sym is.script_is) b);
   silent = silent heard ends mid;
 }
 

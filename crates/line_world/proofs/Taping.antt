@@ -103,7 +103,11 @@ keep-holds (Some tapes) f c ts k = (keeps-holds tapes.orig f c Originator ts k.0
 -- as other names are written it is kept
 pub keeps-later : (tape : Tape) (a b : FolderState) (c : Wire) (role : Role) (ts : List Turn) → GoesOn a b
     → KeepsName a b tape.name.now → KeepsTape tape a c role ts → KeepsTape tape b c role ts
-keeps-later tape a b c role ts on kept k = assumption (Holds-kept a b tape.name.now (header_of (mode_of role) ++ k.body) on k.holds kept)
+keeps-later tape a b c role ts on kept k = record {
+  body = k.body;
+  stands = k.stands;
+  holds = Holds-kept a b tape.name.now (header_of (mode_of role) ++ k.body) on k.holds kept;
+}
 
 pub keep-later : (tapes : Option (Both Tape)) (a b : FolderState) (c : Wire) (ts : List Turn) → GoesOn a b
     → KeepsEach a b (tapes_of (tape_names tapes)) → KeepTapes tapes a c ts → KeepTapes tapes b c ts

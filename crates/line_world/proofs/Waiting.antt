@@ -245,8 +245,10 @@ sends-behind d new c role links stream x h m stands =
     let few : k ≤ length stream = omega arith in
     let same : k ≡ length (stream ++ x ∷ []) - new.lag = omega (arith, h.lag_some, m.lag, length-append {A = Carried} stream (x ∷ [])) in
     let there : Stands new c.script (map (carried_signal d.sender) (take k (stream ++ x ∷ []))) (drop k (stream ++ x ∷ [])) =
-    subst (λ l. Stands new c.script (map (carried_signal d.sender) (take k (stream ++ x ∷ []))) l) (sym (drop-append-le k stream (x ∷ []) few))
-    (subst (λ l. Stands new c.script (map (carried_signal d.sender) l) (drop k stream ++ x ∷ [])) (sym (take-append-le k stream (x ∷ []) few))
+    subst (λ l. Stands new c.script (map (carried_signal d.sender) (take k (stream ++ x ∷ []))) l) (sym (drop-append-le k stream
+    (x ∷ []) few))
+    (subst (λ l. Stands new c.script (map (carried_signal d.sender) l) (drop k stream ++ x ∷ [])) (sym (take-append-le k stream
+    (x ∷ []) few))
     stands)
     in
     let n : ℕ = length (stream ++ x ∷ []) - new.lag in

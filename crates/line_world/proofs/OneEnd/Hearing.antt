@@ -64,10 +64,14 @@ quiet-more peer earlier bits bit before now n low = elim (cases_lt n (length bit
 
 first-more : (peer : Role) (earlier bits : List Bool) (bit : Bool) (a : Arrived) → IsFirst peer earlier bits a
     → IsFirst peer earlier (bits ++ bit ∷ []) a
-first-more peer earlier bits bit a f = assumption (
-  f.rest ++ bit ∷ [],
-  ap (λ (b : List Bool). b ++ bit ∷ []) f.bits_are ∙ append_assoc f.quiet (f.last ∷ f.rest) (bit ∷ []),
-)
+first-more peer earlier bits bit a f = record {
+  quiet = f.quiet;
+  last = f.last;
+  rest = f.rest ++ bit ∷ [];
+  bits_are = ap (λ (b : List Bool). b ++ bit ∷ []) f.bits_are ∙ append_assoc f.quiet (f.last ∷ f.rest) (bit ∷ []);
+  before = f.before;
+  ends = f.ends;
+}
 
 pub first-now : (peer : Role) (earlier bits : List Bool) (bit : Bool) (a : Arrived) → AreQuiet peer earlier bits
     → EndsWith peer (earlier ++ bits ++ bit ∷ []) a → IsFirst peer earlier (bits ++ bit ∷ []) a

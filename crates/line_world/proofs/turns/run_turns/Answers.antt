@@ -1,6 +1,7 @@
 use Rattle.std.proofs.Common.{◌∙◌, [], ◌∷◌, ◌++◌, sym, refl, subst, rules}
 use Rattle.outside_calls.proofs.Steps.{CountsStand-trans}
 use Rattle.outside_calls.proofs.Putting.{OnlyPuts-trans}
+use Rattle.outside_calls.specs.Folder.{FolderState}
 use Rattle.outside_calls.specs.Outputs.{AreApart, KeepsEach, OnlyPuts}
 use Rattle.noise_script.specs.Script.{ScriptValue}
 use Rattle.line_run.specs.Scripted.{wire_of}
@@ -19,10 +20,14 @@ use Rattle.line_world.proofs.turns.run_turns.Goals as goal
 
 pub loop-tapes-init : goal.loop-tapes-init
 unfolding reached-start
-loop-tapes-init g c = assumption (
-  reached-start c.args.world.now (written c.args.names.now) (tape_names c.args.tapes.now) (g.F.Folder.state c.args.folder.now) c.requires.first c.requires.created,
-  g.met.F.Folder.came_none _,
-)
+loop-tapes-init g c = record {
+  reached = reached-start c.args.world.now (written c.args.names.now) (tape_names c.args.tapes.now)
+      (g.F.Folder.state c.args.folder.now) c.requires.first c.requires.created;
+  named = refl;
+  taped = c.requires.taped;
+  ready = c.requires.ready;
+  came = g.met.F.Folder.came_none _;
+}
 
 pub record_turn-requires : goal.record_turn-requires
 record_turn-requires g c = record {
@@ -43,25 +48,28 @@ loop-tapes-smaller g c =
 pub loop-tapes-preserved : goal.loop-tapes-preserved
 unfolding reached-going reached-put
 loop-tapes-preserved g c =
+    let now : FolderState = g.F.Folder.state c.loop-tapes.folder in
+    let next : FolderState = g.F.Folder.state c.turn.new.folder in
     let n : Written = written c.args.names.now in
     let tapes : Tapes = tape_names c.args.tapes.now in
     let script : ScriptValue = script_of c.args.world.now in
     let r = c.loop-tapes.invariant.reached in
+    let last : FolderState = g.F.Folder.state c.record_turn.new.folder in
     let going = (rw c.in-Ok-Going.field-0-is at c.in-Ok-Going.ensures.turn) r.files r.turns r.ends r.world r.knows.within in
-    let puts : OnlyPuts _ _ (tapes_of tapes) =
-    subst (λ (names : Tapes). OnlyPuts _ _ (tapes_of names)) c.loop-tapes.invariant.named c.in-Ok.ensures.only in
-    let kept : KeepTapes c.loop-tapes.tapes _ (wire_of (script_of c.turn.new.self)) r.turns =
-    subst (λ (s : ScriptValue). KeepTapes c.loop-tapes.tapes _ (wire_of s) r.turns) (sym (c.in-Ok-Going.ensures.script ∙ r.script_is))
-    (keep-later c.loop-tapes.tapes _ _ (wire_of script) r.turns c.in-Ok-Going.ensures.only.goes_on
-    (subst (λ (names : Tapes). KeepsEach _ _ (tapes_of names)) (sym c.loop-tapes.invariant.named)
-    (tapes-kept _ _ n tapes c.requires.apart c.in-Ok-Going.ensures.only)) c.loop-tapes.invariant.taped) in
+    let puts : OnlyPuts next last (tapes_of tapes) =
+    subst (λ (names : Tapes). OnlyPuts next last (tapes_of names)) c.loop-tapes.invariant.named c.in-Ok.ensures.only in
+    let kept : KeepTapes c.loop-tapes.tapes next (wire_of (script_of c.turn.new.self)) r.turns =
+    subst (λ (s : ScriptValue). KeepTapes c.loop-tapes.tapes next (wire_of s) r.turns) (sym (c.in-Ok-Going.ensures.script ∙ r.script_is))
+    (keep-later c.loop-tapes.tapes now next (wire_of script) r.turns c.in-Ok-Going.ensures.only.goes_on
+    (subst (λ (names : Tapes). KeepsEach now next (tapes_of names)) (sym c.loop-tapes.invariant.named)
+    (tapes-kept now next n tapes c.requires.apart c.in-Ok-Going.ensures.only)) c.loop-tapes.invariant.taped) in
     record {
-      reached = reached-put c.turn.new.self script n tapes _ _ _ c.requires.apart
+      reached = reached-put c.turn.new.self script n tapes _ next last c.requires.apart
           (reached-going c.turns_deliver_what_came.ensures.hearing c.turns_deliver_what_came.ensures.speaking c.loop-tapes.world
-          c.turn.new.self script n tapes _ _ _ r c.in-Ok-Going.ensures.script going c.in-Ok-Going.ensures.only
+          c.turn.new.self script n tapes _ now next r c.in-Ok-Going.ensures.script going c.in-Ok-Going.ensures.only
           c.in-Ok-Going.ensures.counts) puts c.in-Ok.ensures.counts;
       named = c.in-Ok.ensures.names ∙ c.loop-tapes.invariant.named;
-      taped = subst (λ (s : ScriptValue). KeepTapes c.record_turn.new.tapes _ (wire_of s) (going.turn ∷ r.turns))
+      taped = subst (λ (s : ScriptValue). KeepTapes c.record_turn.new.tapes last (wire_of s) (going.turn ∷ r.turns))
           (c.in-Ok-Going.ensures.script ∙ r.script_is)
           (c.in-Ok.ensures.records going.others r.turns going.turn going.after (record { modems = going.modems; lines = going.lines })
           kept);
@@ -72,39 +80,42 @@ loop-tapes-preserved g c =
 
 pub returns-in-Err-record_turn : goal.returns-in-Err-record_turn
 returns-in-Err-record_turn g c =
+    let now : FolderState = g.F.Folder.state c.loop-tapes.folder in
+    let next : FolderState = g.F.Folder.state c.turn.new.folder in
     let n : Written = written c.args.names.now in
     let tapes : Tapes = tape_names c.args.tapes.now in
     let script : ScriptValue = script_of c.args.world.now in
     let r = c.loop-tapes.invariant.reached in
-    let puts : OnlyPuts _ _ (tapes_of tapes) =
-    subst (λ (names : Tapes). OnlyPuts _ _ (tapes_of names)) c.loop-tapes.invariant.named c.in-Err-record_turn.ensures.only in
+    let last : FolderState = g.F.Folder.state c.record_turn.new.folder in
+    let puts : OnlyPuts next last (tapes_of tapes) =
+    subst (λ (names : Tapes). OnlyPuts next last (tapes_of names)) c.loop-tapes.invariant.named c.in-Err-record_turn.ensures.only in
     record {
       run =
           let going = (rw c.in-Ok-Going.field-0-is at c.in-Ok-Going.ensures.turn) r.files r.turns r.ends r.world r.knows.within in
-          let kept : KeepTapes c.loop-tapes.tapes _ (wire_of (script_of c.turn.new.self)) r.turns =
-          subst (λ (s : ScriptValue). KeepTapes c.loop-tapes.tapes _ (wire_of s) r.turns)
+          let kept : KeepTapes c.loop-tapes.tapes next (wire_of (script_of c.turn.new.self)) r.turns =
+          subst (λ (s : ScriptValue). KeepTapes c.loop-tapes.tapes next (wire_of s) r.turns)
           (sym (c.in-Ok-Going.ensures.script ∙ r.script_is))
-          (keep-later c.loop-tapes.tapes _ _ (wire_of script) r.turns c.in-Ok-Going.ensures.only.goes_on
-          (subst (λ (names : Tapes). KeepsEach _ _ (tapes_of names)) (sym c.loop-tapes.invariant.named)
-          (tapes-kept _ _ n tapes c.requires.apart c.in-Ok-Going.ensures.only)) c.loop-tapes.invariant.taped) in
-          let partly : HoldTapesPartly _ tapes (wire_of (script_of c.turn.new.self)) r.turns going.turn =
-          subst (λ (names : Tapes). HoldTapesPartly _ names (wire_of (script_of c.turn.new.self)) r.turns going.turn)
+          (keep-later c.loop-tapes.tapes now next (wire_of script) r.turns c.in-Ok-Going.ensures.only.goes_on
+          (subst (λ (names : Tapes). KeepsEach now next (tapes_of names)) (sym c.loop-tapes.invariant.named)
+          (tapes-kept now next n tapes c.requires.apart c.in-Ok-Going.ensures.only)) c.loop-tapes.invariant.taped) in
+          let partly : HoldTapesPartly last tapes (wire_of (script_of c.turn.new.self)) r.turns going.turn =
+          subst (λ (names : Tapes). HoldTapesPartly last names (wire_of (script_of c.turn.new.self)) r.turns going.turn)
           (c.in-Err-record_turn.ensures.names ∙ c.loop-tapes.invariant.named)
           (c.in-Err-record_turn.ensures.records going.others r.turns going.turn going.after
           (record { modems = going.modems; lines = going.lines }) kept) in
-          reached-taping c.loop-tapes.world c.turn.new.self script n tapes _ _ _ _ c.in-Err-record_turn.fault r c.requires.apart
+          reached-taping c.loop-tapes.world c.turn.new.self script n tapes _ now next last c.in-Err-record_turn.fault r c.requires.apart
           c.in-Ok-Going.ensures.script going c.in-Ok-Going.ensures.only puts c.in-Err-record_turn.ensures.write partly;
       tally = search rules;
       only =
-          OnlyPuts-trans _ _ _ (outputs_of n ++ tapes_of tapes)
-          (OnlyPuts-trans _ _ _ (outputs_of n ++ tapes_of tapes) r.only
-          (puts-front _ _ (outputs_of n) (tapes_of tapes) c.in-Ok-Going.ensures.only))
-          (puts-behind _ _ (outputs_of n) (tapes_of tapes) puts);
+          OnlyPuts-trans _ next last (outputs_of n ++ tapes_of tapes)
+          (OnlyPuts-trans _ now next (outputs_of n ++ tapes_of tapes) r.only
+          (puts-front now next (outputs_of n) (tapes_of tapes) c.in-Ok-Going.ensures.only))
+          (puts-behind next last (outputs_of n) (tapes_of tapes) puts);
       counts =
-          counts-behind _ _ _ (inputs_of n) (outputs_of n) (tapes_of tapes) c.in-Err-record_turn.fault
+          counts-behind _ next last (inputs_of n) (outputs_of n) (tapes_of tapes) c.in-Err-record_turn.fault
           c.in-Err-record_turn.ensures.write
           (CountsStand-trans r.stand c.in-Ok-Going.ensures.counts)
-          (subst (λ (names : Tapes). FaultCountsOver _ _ [] (tapes_of names) c.in-Err-record_turn.fault) c.loop-tapes.invariant.named
+          (subst (λ (names : Tapes). FaultCountsOver next last [] (tapes_of names) c.in-Err-record_turn.fault) c.loop-tapes.invariant.named
           c.in-Err-record_turn.ensures.counts);
       came =
           g.met.F.Folder.came_on _ _ _ (g.met.F.Folder.came_on _ _ _ c.loop-tapes.invariant.came c.in-Ok-Going.ensures.came)
@@ -113,53 +124,58 @@ returns-in-Err-record_turn g c =
 
 pub returns-in-Ok-Done : goal.returns-in-Ok-Done
 returns-in-Ok-Done g c =
+    let now : FolderState = g.F.Folder.state c.loop-tapes.folder in
+    let next : FolderState = g.F.Folder.state c.turn.new.folder in
     let n : Written = written c.args.names.now in
     let tapes : Tapes = tape_names c.args.tapes.now in
     let script : ScriptValue = script_of c.args.world.now in
     let r = c.loop-tapes.invariant.reached in
-    let held : HoldTapes _ tapes (wire_of script) r.turns =
-    hold-later tapes _ _ (wire_of script) r.turns c.in-Ok-Done.ensures.only.goes_on
-    (tapes-kept _ _ n tapes c.requires.apart c.in-Ok-Done.ensures.only)
-    (subst (λ (names : Tapes). HoldTapes _ names (wire_of script) r.turns) c.loop-tapes.invariant.named
-    (keep-holds c.loop-tapes.tapes _ (wire_of script) r.turns c.loop-tapes.invariant.taped)) in
+    let held : HoldTapes next tapes (wire_of script) r.turns =
+    hold-later tapes now next (wire_of script) r.turns c.in-Ok-Done.ensures.only.goes_on
+    (tapes-kept now next n tapes c.requires.apart c.in-Ok-Done.ensures.only)
+    (subst (λ (names : Tapes). HoldTapes now names (wire_of script) r.turns) c.loop-tapes.invariant.named
+    (keep-holds c.loop-tapes.tapes now (wire_of script) r.turns c.loop-tapes.invariant.taped)) in
     record {
       run =
-          reached-done c.turns_deliver_what_came.ensures.hearing c.loop-tapes.world c.turn.new.self script n tapes _ _ _ r
+          reached-done c.turns_deliver_what_came.ensures.hearing c.loop-tapes.world c.turn.new.self script n tapes _ now next r
           c.in-Ok-Done.ensures.script c.in-Ok-Done.ensures.only held c.in-Ok-Done.turn
           ((rw c.in-Ok-Done.field-0-is at c.in-Ok-Done.ensures.turn) r.files r.turns r.ends r.world r.knows.within);
       tally =
-          reached-counts c.turns_deliver_what_came.ensures.hearing c.loop-tapes.world c.turn.new.self script n tapes _ _ _ r
+          reached-counts c.turns_deliver_what_came.ensures.hearing c.loop-tapes.world c.turn.new.self script n tapes _ now next r
           c.in-Ok-Done.ensures.script c.in-Ok-Done.ensures.only held c.in-Ok-Done.turn
           ((rw c.in-Ok-Done.field-0-is at c.in-Ok-Done.ensures.turn) r.files r.turns r.ends r.world r.knows.within);
       only =
-          OnlyPuts-trans _ _ _ (outputs_of n ++ tapes_of tapes) r.only
-          (puts-front _ _ (outputs_of n) (tapes_of tapes) c.in-Ok-Done.ensures.only);
+          OnlyPuts-trans _ now next (outputs_of n ++ tapes_of tapes) r.only
+          (puts-front now next (outputs_of n) (tapes_of tapes) c.in-Ok-Done.ensures.only);
       counts = CountsStand-trans c.loop-tapes.invariant.reached.stand c.in-Ok-Done.ensures.counts;
       came = g.met.F.Folder.came_on _ _ _ c.loop-tapes.invariant.came c.in-Ok-Done.ensures.came;
     }
 
 pub returns-in-Err : goal.returns-in-Err
 returns-in-Err g c =
+    let now : FolderState = g.F.Folder.state c.loop-tapes.folder in
+    let next : FolderState = g.F.Folder.state c.turn.new.folder in
     let n : Written = written c.args.names.now in
     let tapes : Tapes = tape_names c.args.tapes.now in
     let script : ScriptValue = script_of c.args.world.now in
     let r = c.loop-tapes.invariant.reached in
+    let old : FolderState = g.F.Folder.state c.args.folder.now in
     record {
       run =
-          let held : HoldTapes _ tapes (wire_of script) r.turns =
-          hold-later tapes _ _ (wire_of script) r.turns c.in-Err.ensures.only.goes_on
-          (tapes-kept _ _ n tapes c.requires.apart c.in-Err.ensures.only)
-          (subst (λ (names : Tapes). HoldTapes _ names (wire_of script) r.turns) c.loop-tapes.invariant.named
-          (keep-holds c.loop-tapes.tapes _ (wire_of script) r.turns c.loop-tapes.invariant.taped)) in
-          reached-fault c.turns_deliver_what_came.ensures.hearing c.loop-tapes.world c.turn.new.self script n tapes _ _ _ r
+          let held : HoldTapes next tapes (wire_of script) r.turns =
+          hold-later tapes now next (wire_of script) r.turns c.in-Err.ensures.only.goes_on
+          (tapes-kept now next n tapes c.requires.apart c.in-Err.ensures.only)
+          (subst (λ (names : Tapes). HoldTapes now names (wire_of script) r.turns) c.loop-tapes.invariant.named
+          (keep-holds c.loop-tapes.tapes now (wire_of script) r.turns c.loop-tapes.invariant.taped)) in
+          reached-fault c.turns_deliver_what_came.ensures.hearing c.loop-tapes.world c.turn.new.self script n tapes old now next r
           c.in-Err.ensures.script c.in-Err.ensures.only held c.in-Err.fault (apart-outputs n tapes c.requires.apart)
           (c.in-Err.ensures.turn r.files r.turns r.ends r.world r.knows.within);
       tally = search rules;
       only =
-          OnlyPuts-trans _ _ _ (outputs_of n ++ tapes_of tapes) r.only
-          (puts-front _ _ (outputs_of n) (tapes_of tapes) c.in-Err.ensures.only);
+          OnlyPuts-trans old now next (outputs_of n ++ tapes_of tapes) r.only
+          (puts-front now next (outputs_of n) (tapes_of tapes) c.in-Err.ensures.only);
       counts =
-          counts-front _ _ (inputs_of n) (outputs_of n) (tapes_of tapes) c.in-Err.fault
-          (counts-later _ _ _ n c.in-Err.fault r.stand c.in-Err.ensures.counts);
+          counts-front old next (inputs_of n) (outputs_of n) (tapes_of tapes) c.in-Err.fault
+          (counts-later old now next n c.in-Err.fault r.stand c.in-Err.ensures.counts);
       came = g.met.F.Folder.came_on _ _ _ c.loop-tapes.invariant.came c.in-Err.ensures.came;
     }

@@ -6,7 +6,8 @@ use Rattle.lapm_receiver.specs.Taking.{Taking}
 use Rattle.link_account.specs.Account.{Account}
 use Rattle.lapm_link.specs.declared.any_end.AnyEnd.{AnyEnd}
 use Rattle.lapm_link.specs.Stands.{StandsFor, Links, undelivered_of}
-use Rattle.lapm_link.proofs.Unconnected.{same-number, delivers-next, links-delivered, delivers-none, nothing-delivered, undelivered-none, takes-none}
+use Rattle.lapm_link.proofs.Unconnected.{same-number, delivers-next, links-delivered, delivers-none, nothing-delivered, undelivered-none}
+use Rattle.lapm_link.proofs.Unconnected.{takes-none}
 use Rattle.lapm_link.proofs.any_end.AnyEnd.deliver.Goals as goal
 
 -- one less is ready, where any is

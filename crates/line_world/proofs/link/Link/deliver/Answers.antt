@@ -11,18 +11,23 @@ use Rattle.line_world.proofs.link.Link.deliver.Goals as goal
 
 pub returns-in-Err-clause-err : goal.returns-in-Err-clause-err
 returns-in-Err-clause-err g c = λ files ends h.
+    let start = g.F.Folder.state c.args.folder.now in
+    let mid = g.F.Folder.state c.deliver.new.folder in
     let n = written c.args.names.now in
-    AddPart-longer _ _ (outputs_of n) (concat (deliveries ends.orig) ∷ []) (concat (deliveries ends.answ) ∷ [])
-    (AddPart-next _ _ _ [] n.got_o (n.got_a ∷ n.trace ∷ []) [] (concat (deliveries ends.orig)) tt c.requires.apart
-    (GoesOn-refl _) (KeepsEach-refl _ (outputs_of n)) c.deliver.ensures.only (c.in-Err.ensures.err files.orig ends.orig h.orig))
+    AddPart-longer start mid (outputs_of n) (concat (deliveries ends.orig) ∷ []) (concat (deliveries ends.answ) ∷ [])
+    (AddPart-next start start mid [] n.got_o (n.got_a ∷ n.trace ∷ []) [] (concat (deliveries ends.orig)) tt c.requires.apart
+    (GoesOn-refl start) (KeepsEach-refl start (outputs_of n)) c.deliver.ensures.only (c.in-Err.ensures.err files.orig ends.orig h.orig))
 
 pub returns-in-Err-deliver-clause-err : goal.returns-in-Err-deliver-clause-err
 returns-in-Err-deliver-clause-err g c = λ files ends h.
+    let start = g.F.Folder.state c.args.folder.now in
+    let mid = g.F.Folder.state c.deliver.new.folder in
+    let end = g.F.Folder.state c.deliver-2.new.folder in
     let n = written c.args.names.now in
-    AddPart-next _ _ _ (n.got_o ∷ []) n.got_a (n.trace ∷ []) (concat (deliveries ends.orig) ∷ []) (concat (deliveries ends.answ))
+    AddPart-next start mid end (n.got_o ∷ []) n.got_a (n.trace ∷ []) (concat (deliveries ends.orig) ∷ []) (concat (deliveries ends.answ))
     tt c.requires.apart c.deliver.ensures.only.goes_on
-    (AddEach-next _ _ _ [] n.got_o (n.got_a ∷ n.trace ∷ []) [] (concat (deliveries ends.orig)) tt c.requires.apart
-    (GoesOn-refl _) (KeepsEach-refl _ (outputs_of n)) c.deliver.ensures.only (c.in-Ok.ensures.ok files.orig ends.orig h.orig))
+    (AddEach-next start start mid [] n.got_o (n.got_a ∷ n.trace ∷ []) [] (concat (deliveries ends.orig)) tt c.requires.apart
+    (GoesOn-refl start) (KeepsEach-refl start (outputs_of n)) c.deliver.ensures.only (c.in-Ok.ensures.ok files.orig ends.orig h.orig))
     c.deliver-2.ensures.only (c.in-Err-deliver.ensures.err files.answ ends.answ h.answ)
 
 pub returns-in-Err-clause-only : goal.returns-in-Err-clause-only
@@ -74,10 +79,13 @@ returns-in-Ok-deliver g c =
             answ = counted-on _ _ c.deliver-2.ensures.takes_nothing c.deliver-2.ensures.breaks heard asked h.answ;
           };
       ok = λ files ends h.
-          AddEach-next _ _ _ (n.got_o ∷ []) n.got_a (n.trace ∷ []) (concat (deliveries ends.orig) ∷ [])
+          let start = g.F.Folder.state c.args.folder.now in
+          let mid = g.F.Folder.state c.deliver.new.folder in
+          let end = g.F.Folder.state c.deliver-2.new.folder in
+          AddEach-next start mid end (n.got_o ∷ []) n.got_a (n.trace ∷ []) (concat (deliveries ends.orig) ∷ [])
           (concat (deliveries ends.answ)) tt c.requires.apart c.deliver.ensures.only.goes_on
-          (AddEach-next _ _ _ [] n.got_o (n.got_a ∷ n.trace ∷ []) [] (concat (deliveries ends.orig)) tt c.requires.apart
-          (GoesOn-refl _) (KeepsEach-refl _ (outputs_of n)) c.deliver.ensures.only (c.in-Ok.ensures.ok files.orig ends.orig h.orig))
+          (AddEach-next start start mid [] n.got_o (n.got_a ∷ n.trace ∷ []) [] (concat (deliveries ends.orig)) tt c.requires.apart
+          (GoesOn-refl start) (KeepsEach-refl start (outputs_of n)) c.deliver.ensures.only (c.in-Ok.ensures.ok files.orig ends.orig h.orig))
           c.deliver-2.ensures.only (c.in-Ok-deliver.ensures.ok files.answ ends.answ h.answ);
       err = search rules;
       only =

@@ -17,14 +17,16 @@ pub returns-in-Err-write_turn-clause-speaks : goal.returns-in-Err-write_turn-cla
 returns-in-Err-write_turn-clause-speaks g c = λ channel links streams files ts ends mid is h arrived go ga.
     let o = h.stands.overhears in
     let n = written c.args.names.now in
+    let f = g.F.Folder.state c.args.folder.now in
+    let new = g.F.Folder.state c.write_turn.new.folder in
     let t = spoken-turn c.in-Ok.sent.orig c.in-Ok.sent.answ c.speak.new.self is h (c.in-Ok.ensures.speaks files _ h.stands.link) in
     let sents = spoken_by t.orig t.answ in
     let text = text-is c.args.self.now.turn ts ends mid c.args.heard.now c.args.given.now
     (Some c.in-Ok.sent) sents
     (o.well Originator) (o.well Answerer) h.stands.turn go ga (λ k. Some (t.orig_sent k)) (λ k. Some (t.answ_sent k)) in
-    stops-so channel _ _ n files ts ends c.args.heard.now mid c.in-Err-write_turn.fault c.in-Err-write_turn.ensures.write
-    (adds-part channel _ _ n files ts ends c.args.heard.now mid sents Going o (ends_of t.orig t.answ, t.going, t.mid_is)
-    (subst (PartlyAppended _ _ n.trace) text c.in-Err-write_turn.ensures.err))
+    stops-so channel f new n files ts ends c.args.heard.now mid c.in-Err-write_turn.fault c.in-Err-write_turn.ensures.write
+    (adds-part channel f new n files ts ends c.args.heard.now mid sents Going o (ends_of t.orig t.answ, t.going, t.mid_is)
+    (subst (PartlyAppended f new n.trace) text c.in-Err-write_turn.ensures.err))
 
 pub link_fault-requires : goal.link_fault-requires
 link_fault-requires g c =
@@ -45,6 +47,8 @@ pub returns-in-Ok-write_turn-clause-speaks : goal.returns-in-Ok-write_turn-claus
 returns-in-Ok-write_turn-clause-speaks g c = λ channel links streams files ts ends mid is h arrived go ga.
     let o = h.stands.overhears in
     let n = written c.args.names.now in
+    let f = g.F.Folder.state c.args.folder.now in
+    let new = g.F.Folder.state c.write_turn.new.folder in
     let t = spoken-turn c.in-Ok.sent.orig c.in-Ok.sent.answ c.speak.new.self is h (c.in-Ok.ensures.speaks files _ h.stands.link) in
     let sents = spoken_by t.orig t.answ in
     let text = text-is c.args.self.now.turn ts ends mid c.args.heard.now c.args.given.now
@@ -57,7 +61,7 @@ returns-in-Ok-write_turn-clause-speaks g c = λ channel links streams files ts e
       one = c.samples_are_carried.ensures.turn;
       counted = c.segments_are_counted_by_their_numbers.ensures.turn;
     } in
-    goes-on laws channel c.args.self.now.tally _ c.send-in-Ok.new.self links streams _ _ n files ts ends c.args.heard.now mid
+    goes-on laws channel c.args.self.now.tally _ c.send-in-Ok.new.self links streams f new n files ts ends c.args.heard.now mid
     c.in-Ok.sent.orig
     c.in-Ok.sent.answ (subst IsInLimits (sym is.script_is) c.requires.limits) (λ k. h.stands.turn k + 1) refl o t h.stands.tally
     (record { lost = c.send.ensures.lost; again = c.send.ensures.again; orig = c.send.ensures.orig; answ = c.send.ensures.answ })
@@ -66,7 +70,7 @@ returns-in-Ok-write_turn-clause-speaks g c = λ channel links streams files ts e
     (are-put channel.dlci t.orig t.answ c.in-Ok.sent c.checks-checks.result (sym t.orig_sent) (sym t.answ_sent)
     (sym (c.checks-checks.ensures files (ends_of t.orig t.answ) t.stands Originator))
     (sym (c.checks-checks.ensures files (ends_of t.orig t.answ) t.stands Answerer)))))
-    (subst (Appended _ _ n.trace) text c.in-Ok-write_turn.ensures.ok)
+    (subst (Appended f new n.trace) text c.in-Ok-write_turn.ensures.ok)
 
 pub returns-in-Ok-write_turn-clause-few : goal.returns-in-Ok-write_turn-clause-few
 returns-in-Ok-write_turn-clause-few g c = c.send.ensures.few (c.args.self.now.turn + 1) c.args.self.now.turn c.requires.few
@@ -75,6 +79,8 @@ pub returns-in-Ok-write_turn-2-clause-speaks : goal.returns-in-Ok-write_turn-2-c
 returns-in-Ok-write_turn-2-clause-speaks g c = λ channel links streams files ts ends mid is h arrived go ga.
     let o = h.stands.overhears in
     let n = written c.args.names.now in
+    let f = g.F.Folder.state c.args.folder.now in
+    let new = g.F.Folder.state c.write_turn-in-Err.new.folder in
     let role = c.in-Err.breaking.role in
     let fault = c.in-Err.breaking.fault in
     let b = broken-turn role fault is h (c.in-Err.ensures.speaks files _ h.stands.link) in
@@ -83,9 +89,9 @@ returns-in-Ok-write_turn-2-clause-speaks g c = λ channel links streams files ts
     let text = text-is c.args.self.now.turn ts ends mid c.args.heard.now c.args.given.now
     None none-sent
     (o.well Originator) (o.well Answerer) h.stands.turn go ga refl refl in
-    rw c.link_fault.ensures (ends-so channel _ _ n files ts ends c.args.heard.now mid c.args.self.now.turn role fault h.stands.turn named
+    rw c.link_fault.ensures (ends-so channel f new n files ts ends c.args.heard.now mid c.args.self.now.turn role fault h.stands.turn named
     o b
-    (subst (Appended _ _ n.trace) text c.in-Ok-write_turn-2.ensures.ok))
+    (subst (Appended f new n.trace) text c.in-Ok-write_turn-2.ensures.ok))
 
 pub returns-in-Ok-write_turn-2-clause-counts : goal.returns-in-Ok-write_turn-2-clause-counts
 returns-in-Ok-write_turn-2-clause-counts g c =
@@ -109,15 +115,17 @@ pub returns-in-Err-write_turn-2-clause-speaks : goal.returns-in-Err-write_turn-2
 returns-in-Err-write_turn-2-clause-speaks g c = λ channel links streams files ts ends mid is h arrived go ga.
     let o = h.stands.overhears in
     let n = written c.args.names.now in
+    let f = g.F.Folder.state c.args.folder.now in
+    let new = g.F.Folder.state c.write_turn-in-Err.new.folder in
     let role = c.in-Err.breaking.role in
     let fault = c.in-Err.breaking.fault in
     let b = broken-turn role fault is h (c.in-Err.ensures.speaks files _ h.stands.link) in
     let text = text-is c.args.self.now.turn ts ends mid c.args.heard.now c.args.given.now
     None none-sent
     (o.well Originator) (o.well Answerer) h.stands.turn go ga refl refl in
-    stops-so channel _ _ n files ts ends c.args.heard.now mid c.in-Err-write_turn-2.fault c.in-Err-write_turn-2.ensures.write
-    (adds-part channel _ _ n files ts ends c.args.heard.now mid none-sent (Broken role fault) o b
-    (subst (PartlyAppended _ _ n.trace) text c.in-Err-write_turn-2.ensures.err))
+    stops-so channel f new n files ts ends c.args.heard.now mid c.in-Err-write_turn-2.fault c.in-Err-write_turn-2.ensures.write
+    (adds-part channel f new n files ts ends c.args.heard.now mid none-sent (Broken role fault) o b
+    (subst (PartlyAppended f new n.trace) text c.in-Err-write_turn-2.ensures.err))
 
 pub returns-in-Ok-write_turn-clause-idle : goal.returns-in-Ok-write_turn-clause-idle
 returns-in-Ok-write_turn-clause-idle g c = c.in-Ok.ensures.idle

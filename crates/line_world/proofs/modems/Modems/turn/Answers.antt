@@ -145,8 +145,11 @@ returns-in-Ok-finish g c =
 
 pub returns-in-Err-finish : goal.returns-in-Err-finish
 returns-in-Err-finish g c =
+    let a = g.F.Folder.state c.args.folder.now in
+    let b = g.F.Folder.state c.hand_over.new.folder in
+    let d = g.F.Folder.state c.finish.new.folder in
     let n = written c.args.names.now in
-    let only = OnlyPuts-trans _ _ _ (outputs_of n) c.hand_over.ensures.only (lines-only _ _ n c.finish.ensures.only) in
+    let only = OnlyPuts-trans a b d (outputs_of n) c.hand_over.ensures.only (lines-only b d n c.finish.ensures.only) in
     record {
       turn = λ beside links streams files ts ends h within waits due.
           let channel = wire_at c.args.script.now c.args.self.now.dlci beside in
@@ -155,9 +158,9 @@ returns-in-Err-finish g c =
           let hands = c.in-Ok-hand_over.ensures.hands channel files ts ends c.in-Ok.heard has.mid has.stands in
           let closed = sym (ap is_closed (phase-delivered has.mid.orig)) ∙ sym
           (c.is_closed.ensures files (handed has.mid) hands.stands.link) ∙ c.if-is_closed.true in
-          writing-ends w c.hear.new.lines channel links streams _ _ n files ts ends c.in-Err-finish.fault c.in-Err-finish.ensures.write
-          (stops-writing w c.hear.new.lines channel links streams _ _ _ n files files ts ends c.in-Ok.heard has.mid c.requires.apart
-          (stay-known _ _ n files c.requires.apart
+          writing-ends w c.hear.new.lines channel links streams a d n files ts ends c.in-Err-finish.fault c.in-Err-finish.ensures.write
+          (stops-writing w c.hear.new.lines channel links streams a b d n files files ts ends c.in-Ok.heard has.mid c.requires.apart
+          (stay-known a d n files c.requires.apart
           only within)
           c.hand_over.ensures.only hands.delivered c.finish.ensures.only
           (halts-so w w c.hear.new.lines channel links streams files ts ends c.in-Ok.heard has.mid (handed has.mid) hands.stands has.lines
@@ -170,29 +173,32 @@ returns-in-Err-finish g c =
       only = only;
       came = g.met.F.Folder.came_on _ _ _ c.hand_over.ensures.came c.finish.ensures.came;
       counts =
-          counts-later _ _ _ n c.in-Err-finish.fault c.in-Ok-hand_over.ensures.counts c.in-Err-finish.ensures.counts;
+          counts-later a b d n c.in-Err-finish.fault c.in-Ok-hand_over.ensures.counts c.in-Err-finish.ensures.counts;
     }
 
 pub returns-in-Err-serve : goal.returns-in-Err-serve
 returns-in-Err-serve g c =
+    let a = g.F.Folder.state c.args.folder.now in
+    let b = g.F.Folder.state c.hand_over.new.folder in
+    let d = g.F.Folder.state c.serve.new.folder in
     let n = written c.args.names.now in
-    let only = OnlyPuts-trans _ _ _ (outputs_of n) c.hand_over.ensures.only (OnlyPuts-reads _ _ (outputs_of n) c.serve.ensures.only) in
+    let only = OnlyPuts-trans a b d (outputs_of n) c.hand_over.ensures.only (OnlyPuts-reads b d (outputs_of n) c.serve.ensures.only) in
     record {
       turn = λ beside links streams files ts ends h within waits due.
           let channel = wire_at c.args.script.now c.args.self.now.dlci beside in
           let w = c.serve.new.self in
           let has = c.in-Ok.ensures.hears channel links streams files ts ends refl refl h waits due in
           let hands = c.in-Ok-hand_over.ensures.hands channel files ts ends c.in-Ok.heard has.mid has.stands in
-          reading-ends w c.hear.new.lines channel links streams _ _ n files ts ends c.in-Err-serve.fault c.in-Err-serve.ensures.read
+          reading-ends w c.hear.new.lines channel links streams a d n files ts ends c.in-Err-serve.fault c.in-Err-serve.ensures.read
           (stops-reading (making-laws g (goal.at.returns-in-Err-serve g c).After-line_runs_end_soon) w c.hear.new.lines channel links
-          streams _ _ n files ts ends c.in-Ok.heard has.mid c.requires.ready.limits c.requires.apart within
+          streams a d n files ts ends c.in-Ok.heard has.mid c.requires.ready.limits c.requires.apart within
           only
           hands.stands.overhears
           (halts-so c.hand_over.new.self w c.hear.new.lines channel links streams files ts ends c.in-Ok.heard has.mid (handed has.mid)
           hands.stands
           has.lines c.serve.ensures.beside)
-          (AddEach-kept _ _ _ (outputs_of n) (octets_of has.mid) c.hand_over.ensures.only.goes_on hands.delivered
-          (KeepsEach-reads _ _ (outputs_of n) c.serve.ensures.only)));
+          (AddEach-kept a b d (outputs_of n) (octets_of has.mid) c.hand_over.ensures.only.goes_on hands.delivered
+          (KeepsEach-reads b d (outputs_of n) c.serve.ensures.only)));
       kept = λ e. no-step e;
       number = c.serve.ensures.beside.turn ∙ c.hand_over.ensures.beside.turn ∙ c.hear.ensures.turn;
       channel = c.serve.ensures.beside.dlci ∙ c.hand_over.ensures.beside.dlci ∙ c.hear.ensures.dlci;
@@ -200,7 +206,7 @@ returns-in-Err-serve g c =
       only = only;
       came = g.met.F.Folder.came_on _ _ _ c.hand_over.ensures.came c.serve.ensures.came;
       counts =
-          counts-later _ _ _ n c.in-Err-serve.fault c.in-Ok-hand_over.ensures.counts c.in-Err-serve.ensures.counts;
+          counts-later a b d n c.in-Err-serve.fault c.in-Ok-hand_over.ensures.counts c.in-Err-serve.ensures.counts;
     }
 
 pub speak-requires : goal.speak-requires
@@ -249,9 +255,13 @@ speak-requires g c = record {
 pub returns-in-Ok-speak : goal.returns-in-Ok-speak
 returns-in-Ok-speak g c =
     let n = written c.args.names.now in
-    let only-d = OnlyPuts-trans _ _ _ (outputs_of n) c.hand_over.ensures.only
-    (OnlyPuts-reads _ _ (outputs_of n) c.serve.ensures.only) in
-    let only-z = OnlyPuts-trans _ _ _ (outputs_of n) only-d (lines-only _ _ n c.speak.ensures.only) in
+    let a = g.F.Folder.state c.args.folder.now in
+    let b = g.F.Folder.state c.hand_over.new.folder in
+    let d = g.F.Folder.state c.serve.new.folder in
+    let z = g.F.Folder.state c.speak.new.folder in
+    let only-d = OnlyPuts-trans a b d (outputs_of n) c.hand_over.ensures.only
+    (OnlyPuts-reads b d (outputs_of n) c.serve.ensures.only) in
+    let only-z = OnlyPuts-trans a d z (outputs_of n) only-d (lines-only d z n c.speak.ensures.only) in
     let dlci = c.serve.ensures.beside.dlci ∙ c.hand_over.ensures.beside.dlci ∙ c.hear.ensures.dlci in
     record {
       turn = λ beside links streams files ts ends h within waits due.
@@ -264,10 +274,10 @@ returns-in-Ok-speak g c =
           let gone = c.in-Ok-speak.ensures.speaks channel links streams s.others ts ends has.mid
           (record { script_is = refl; dlci_is = sym dlci; symbols_are = refl })
           (record { stands = s.stands; going = still }) has.lines hands.orig_given hands.answ_given in
-          goes-on-by c.speak.new.self c.speak.new.lines channel links streams _ _ _ n files s.others ts ends has.mid c.requires.apart
-          (others-known _ _ _ n files s.others has.mid c.requires.apart c.hand_over.ensures.only only-z s.reads) only-d
-          (AddEach-kept _ _ _ (outputs_of n) (octets_of has.mid) c.hand_over.ensures.only.goes_on hands.delivered
-          (KeepsEach-reads _ _ (outputs_of n) c.serve.ensures.only)) c.speak.ensures.only gone;
+          goes-on-by c.speak.new.self c.speak.new.lines channel links streams a d z n files s.others ts ends has.mid c.requires.apart
+          (others-known a b z n files s.others has.mid c.requires.apart c.hand_over.ensures.only only-z s.reads) only-d
+          (AddEach-kept a b d (outputs_of n) (octets_of has.mid) c.hand_over.ensures.only.goes_on hands.delivered
+          (KeepsEach-reads b d (outputs_of n) c.serve.ensures.only)) c.speak.ensures.only gone;
       kept = λ going.
           let t = c.hand_over.new.self.turn + 1 in
           let same : c.serve.new.self.turn + 1 ≡ t = ap (λ x. x + 1) c.serve.ensures.beside.turn in
@@ -290,9 +300,13 @@ returns-in-Ok-speak g c =
 pub returns-in-Err-speak : goal.returns-in-Err-speak
 returns-in-Err-speak g c =
     let n = written c.args.names.now in
-    let only-d = OnlyPuts-trans _ _ _ (outputs_of n) c.hand_over.ensures.only
-    (OnlyPuts-reads _ _ (outputs_of n) c.serve.ensures.only) in
-    let only-z = OnlyPuts-trans _ _ _ (outputs_of n) only-d (lines-only _ _ n c.speak.ensures.only) in
+    let a = g.F.Folder.state c.args.folder.now in
+    let b = g.F.Folder.state c.hand_over.new.folder in
+    let d = g.F.Folder.state c.serve.new.folder in
+    let z = g.F.Folder.state c.speak.new.folder in
+    let only-d = OnlyPuts-trans a b d (outputs_of n) c.hand_over.ensures.only
+    (OnlyPuts-reads b d (outputs_of n) c.serve.ensures.only) in
+    let only-z = OnlyPuts-trans a d z (outputs_of n) only-d (lines-only d z n c.speak.ensures.only) in
     let dlci = c.serve.ensures.beside.dlci ∙ c.hand_over.ensures.beside.dlci ∙ c.hear.ensures.dlci in
     record {
       turn = λ beside links streams files ts ends h within waits due.
@@ -305,10 +319,10 @@ returns-in-Err-speak g c =
           let last = c.in-Err-speak.ensures.speaks channel links streams s.others ts ends has.mid
           (record { script_is = refl; dlci_is = sym dlci; symbols_are = refl })
           (record { stands = s.stands; going = still }) has.lines hands.orig_given hands.answ_given in
-          speaks-last c.speak.new.self c.speak.new.lines channel links streams _ _ _ n files s.others ts ends c.in-Ok.heard has.mid
-          c.requires.apart (others-known _ _ _ n files s.others has.mid c.requires.apart c.hand_over.ensures.only only-z s.reads) only-d
-          (AddEach-kept _ _ _ (outputs_of n) (octets_of has.mid) c.hand_over.ensures.only.goes_on hands.delivered
-          (KeepsEach-reads _ _ (outputs_of n) c.serve.ensures.only)) c.speak.ensures.only
+          speaks-last c.speak.new.self c.speak.new.lines channel links streams a d z n files s.others ts ends c.in-Ok.heard has.mid
+          c.requires.apart (others-known a b z n files s.others has.mid c.requires.apart c.hand_over.ensures.only only-z s.reads) only-d
+          (AddEach-kept a b d (outputs_of n) (octets_of has.mid) c.hand_over.ensures.only.goes_on hands.delivered
+          (KeepsEach-reads b d (outputs_of n) c.serve.ensures.only)) c.speak.ensures.only
           (halts-so c.serve.new.self c.speak.new.self c.speak.new.lines channel links streams s.others ts ends c.in-Ok.heard has.mid
           (served channel.script s.others (length ts) has.mid) s.stands
           (subst (λ l. HaveArrived l channel links streams) (sym c.in-Err-speak.ensures.line) has.lines) c.in-Err-speak.ensures.beside)
@@ -321,6 +335,6 @@ returns-in-Err-speak g c =
       only = only-z;
       came = g.met.F.Folder.came_on _ _ _ (g.met.F.Folder.came_on _ _ _ c.hand_over.ensures.came c.serve.ensures.came) c.speak.ensures.came;
       counts =
-          counts-later _ _ _ n c.in-Err-speak.fault
+          counts-later a d z n c.in-Err-speak.fault
           (CountsStand-trans c.in-Ok-hand_over.ensures.counts c.in-Ok-serve.ensures.counts) c.in-Err-speak.ensures.counts;
     }

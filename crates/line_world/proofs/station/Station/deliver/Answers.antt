@@ -38,32 +38,36 @@ returns-then-not-deliver-clause-ok g c = λ file a h.
 
 pub loop-segment-preserved : goal.loop-segment-preserved
 loop-segment-preserved g c =
+    let now : FolderState = g.F.Folder.state c.loop-segment.folder in
+    let next : FolderState = g.F.Folder.state c.append.new.self in
     let name : List ℕ = c.args.name.now in
-    let put : Appended _ _ name c.deliver.new.out = subst (Appended _ _ name) c.as_slice.ensures.items c.in-Ok.ensures.ok in
+    let put : Appended now next name c.deliver.new.out = subst (Appended now next name) c.as_slice.ensures.items c.in-Ok.ensures.ok in
     let old = c.loop-segment.invariant in
     record {
       hands = λ file a h.
           let i = old.hands file a h in
           let e = handed-segment c.loop-segment.self.end c.deliver.new.out i.after i.stands.end
           (c.if-not-deliver.ensures.answer i.after i.stands.end) c.if-not-deliver.ensures.segment in
-          handing-next _ _ _ name c.deliver.new.out c.loop-segment.self _ file a old.only.goes_on i e
+          handing-next _ now next name c.deliver.new.out c.loop-segment.self _ file a old.only.goes_on i e
           (c.if-not-deliver.ensures.account i.after i.stands.end) refl put;
       takes = takes-on _ _ _ old.takes c.if-not-deliver.ensures.takes_nothing;
       breaks = old.breaks;
-      only = writes-on _ _ _ name old.only c.in-Ok.ensures.only;
+      only = writes-on _ now next name old.only c.in-Ok.ensures.only;
       stand = CountsStand-trans old.stand c.in-Ok.ensures.stand;
       came = g.met.F.Folder.came_on _ _ _ old.came c.append.ensures.came;
     }
 
 pub returns-in-Err-clause-err : goal.returns-in-Err-clause-err
 returns-in-Err-clause-err g c = λ file a h.
+    let now : FolderState = g.F.Folder.state c.loop-segment.folder in
+    let next : FolderState = g.F.Folder.state c.append.new.self in
     let name : List ℕ = c.args.name.now in
-    let part : PartlyAppended _ _ name c.deliver.new.out =
-    subst (PartlyAppended _ _ name) c.as_slice.ensures.items c.in-Err.ensures.err in
+    let part : PartlyAppended now next name c.deliver.new.out =
+    subst (PartlyAppended now next name) c.as_slice.ensures.items c.in-Err.ensures.err in
     let i = c.loop-segment.invariant.hands file a h in
     let e = handed-segment c.loop-segment.self.end c.deliver.new.out i.after i.stands.end
     (c.if-not-deliver.ensures.answer i.after i.stands.end) c.if-not-deliver.ensures.segment in
-    handing-stops _ _ _ name c.deliver.new.out c.loop-segment.self file a c.loop-segment.invariant.only.goes_on i e part
+    handing-stops _ now next name c.deliver.new.out c.loop-segment.self file a c.loop-segment.invariant.only.goes_on i e part
 
 pub returns-in-Err-clause-only : goal.returns-in-Err-clause-only
 returns-in-Err-clause-only g c =

@@ -57,6 +57,8 @@ offer-requires-clause-wanted g c =
 
 pub loop-number-preserved : goal.loop-number-preserved
 loop-number-preserved g c =
+    let start : FolderState = g.F.Folder.state c.args.folder.now in
+    let now : FolderState = g.F.Folder.state c.loop-number.folder in
     let name : List ℕ = c.args.name.now in
     let old = c.loop-number.invariant in
     let whole : length (take c.in-Ok.count c.read_segment.new.segment) ≡ c.in-Ok.count =
@@ -68,13 +70,13 @@ loop-number-preserved g c =
           supplying-next c.segments_are_offered_as_they_are_read.ensures.next
           c.segments_are_offered_as_they_are_read.ensures.told c.segments_are_offered_as_they_are_read.ensures.own
           c.pieces_are_offered_until_none_is_wanted.ensures
-          _ name c.args.limit file a c.loop-number.self _ c.in-Some.number c.piece-size.result
+          start name c.args.limit file a c.loop-number.self _ c.in-Some.number c.piece-size.result
           (take c.in-Ok.count c.read_segment.new.segment) i
           (c.in-Some.ensures.account i.now i.stands.end) (c.piece-size.ensures.account i.now i.stands.end)
           (omega (arith, whole, c.in-Ok.ensures.count)) (omega (arith, whole, c.in-Ok.ensures.within))
           (λ told. c.in-Ok.ensures.octets (told_later old.only.goes_on name told)
           ∙ ap (λ l. piece_at c.piece-size.result (take c.args.limit l) c.in-Some.number)
-          (octets-kept _ _ name (old.only.names name) told))
+          (octets-kept start now name (old.only.names name) told))
           (c.offer.ensures.account i.now i.stands.end) refl;
       takes = takes-on _ _ _ old.takes c.offer.ensures.takes_nothing;
       breaks = old.breaks;

@@ -1,3 +1,4 @@
+use Rattle.outside_calls.specs.Folder.{FolderState}
 use Rattle.std.proofs.Common.{ℕ, List, subst}
 use Rattle.outside_calls.specs.Folder.{Appended, PartlyAppended}
 use Rattle.line_run.specs.Scripted.{wire_of}
@@ -6,12 +7,16 @@ use Rattle.line_world.proofs.tape.Tape.record.Goals as goal
 
 pub returns-in-Ok-clause-records : goal.returns-in-Ok-clause-records
 returns-in-Ok-clause-records g c = λ script role ts t sent k.
-    takes-slot c.args.self.now c.make.new.self _ _ (wire_of script) role ts t c.make.new.self.octets c.make.ensures.name
+    let a : FolderState = g.F.Folder.state c.args.folder.now in
+    let b : FolderState = g.F.Folder.state c.append.new.self in
+    takes-slot c.args.self.now c.make.new.self a b (wire_of script) role ts t c.make.new.self.octets c.make.ensures.name
     c.in-Ok.ensures.only k (c.make.ensures.stands script role ts t k.body sent k.stands)
-    (subst (λ (o : List ℕ). Appended _ _ c.make.new.self.name.now o) c.as_slice.ensures.items c.in-Ok.ensures.ok)
+    (subst (λ (o : List ℕ). Appended a b c.make.new.self.name.now o) c.as_slice.ensures.items c.in-Ok.ensures.ok)
 
 pub returns-in-Err-clause-records : goal.returns-in-Err-clause-records
 returns-in-Err-clause-records g c = λ script role ts t sent k.
-    takes-part c.args.self.now c.make.new.self _ _ (wire_of script) role ts t c.make.new.self.octets c.make.ensures.name
+    let a : FolderState = g.F.Folder.state c.args.folder.now in
+    let b : FolderState = g.F.Folder.state c.append.new.self in
+    takes-part c.args.self.now c.make.new.self a b (wire_of script) role ts t c.make.new.self.octets c.make.ensures.name
     c.in-Err.ensures.only k (c.make.ensures.stands script role ts t k.body sent k.stands)
-    (subst (λ (o : List ℕ). PartlyAppended _ _ c.make.new.self.name.now o) c.as_slice.ensures.items c.in-Err.ensures.err)
+    (subst (λ (o : List ℕ). PartlyAppended a b c.make.new.self.name.now o) c.as_slice.ensures.items c.in-Err.ensures.err)

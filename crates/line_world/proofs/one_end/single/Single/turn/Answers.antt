@@ -81,7 +81,10 @@ returns-in-Ok-finish g c =
 pub returns-in-Err-finish : goal.returns-in-Err-finish
 returns-in-Err-finish g c =
     let n = named c.args.file.now c.args.got.now c.args.trace.now in
-    let only = OnlyPuts-trans _ _ _ (outputs_of n) (got-only _ _ n c.hand_over.ensures.only) (trace-only _ _ n c.finish.ensures.only) in
+    let a = g.F.Folder.state c.args.folder.now in
+    let b = g.F.Folder.state c.hand_over.new.folder in
+    let z = g.F.Folder.state c.finish.new.folder in
+    let only = OnlyPuts-trans a b z (outputs_of n) (got-only a b n c.hand_over.ensures.only) (trace-only b z n c.finish.ensures.only) in
     record {
       turn = λ p h within.
           let slot = c.args.bits.now in
@@ -90,48 +93,51 @@ returns-in-Err-finish g c =
           let mid = has.0 in
           let now = c.in-Ok-hand_over.ensures.stands p slot arrived mid has.1 in
           let closed = sym (c.hangs_up.ensures p slot arrived mid now) ∙ c.if-hangs_up.true in
-          stopped-so c.hand_over.new.self _ _ _ n p slot (concat (deliveries mid)) p.file c.requires.apart
-          c.hand_over.ensures.only.goes_on (hands-over _ _ n (concat (deliveries mid)) c.requires.apart c.hand_over.ensures.only
+          stopped-so c.hand_over.new.self a b z n p slot (concat (deliveries mid)) p.file c.requires.apart
+          c.hand_over.ensures.only.goes_on (hands-over a b n (concat (deliveries mid)) c.requires.apart c.hand_over.ensures.only
           (c.in-Ok-hand_over.ensures.adds p slot arrived mid has.1)) c.finish.ensures.only
-          (stays-known _ _ n p.file c.requires.apart only within) c.in-Err-finish.fault c.in-Err-finish.ensures.write
+          (stays-known a z n p.file c.requires.apart only within) c.in-Err-finish.fault c.in-Err-finish.ensures.write
           (c.in-Err-finish.ensures.part p slot mid now closed (c.in-Ok-hand_over.ensures.given p slot arrived mid has.1));
       role = c.hand_over.ensures.role ∙ c.hear.ensures.role;
       ready = λ e. no-step e;
       number = c.hand_over.ensures.turn ∙ c.hear.ensures.turn;
       only = only;
       counts =
-          counts-later _ _ _ (inputs_of n) (outputs_of n) c.in-Err-finish.fault
+          counts-later a b z (inputs_of n) (outputs_of n) c.in-Err-finish.fault
           c.in-Ok-hand_over.ensures.counts
-          (trace-counts _ _ n c.in-Err-finish.fault c.in-Err-finish.ensures.counts);
+          (trace-counts b z n c.in-Err-finish.fault c.in-Err-finish.ensures.counts);
       came = g.met.F.Folder.came_on _ _ _ c.hand_over.ensures.came c.finish.ensures.came;
     }
 
 pub returns-in-Err-serve : goal.returns-in-Err-serve
 returns-in-Err-serve g c =
     let n = named c.args.file.now c.args.got.now c.args.trace.now in
-    let only = OnlyPuts-trans _ _ _ (outputs_of n) (got-only _ _ n c.hand_over.ensures.only)
-    (OnlyPuts-reads _ _ (outputs_of n) c.serve.ensures.only) in
+    let a = g.F.Folder.state c.args.folder.now in
+    let b = g.F.Folder.state c.hand_over.new.folder in
+    let d = g.F.Folder.state c.serve.new.folder in
+    let only = OnlyPuts-trans a b d (outputs_of n) (got-only a b n c.hand_over.ensures.only)
+    (OnlyPuts-reads b d (outputs_of n) c.serve.ensures.only) in
     record {
       turn = λ p h within.
           let slot = c.args.bits.now in
           let arrived = c.in-Ok.arrived in
           let has = c.in-Ok.ensures.hears p h in
           let now = c.in-Ok-hand_over.ensures.stands p slot arrived has.0 has.1 in
-          subst (λ (r : Role). EndsBy r _ _ n p slot c.in-Err-serve.fault) (sym c.serve.ensures.role)
-          (reading-ends c.hand_over.new.self.role _ _ n p slot c.in-Err-serve.fault c.in-Err-serve.ensures.read
-          (not-read c.one_lone_run.ensures.made c.hand_over.new.self _ _ n p slot arrived has.0 (handed has.0) c.requires.apart within now
+          subst (λ (r : Role). EndsBy r a d n p slot c.in-Err-serve.fault) (sym c.serve.ensures.role)
+          (reading-ends c.hand_over.new.self.role a d n p slot c.in-Err-serve.fault c.in-Err-serve.ensures.read
+          (not-read c.one_lone_run.ensures.made c.hand_over.new.self a d n p slot arrived has.0 (handed has.0) c.requires.apart within now
           only
-          (AddEach-kept _ _ _ (outputs_of n) (concat (deliveries has.0) ∷ []) c.hand_over.ensures.only.goes_on
-          (hands-over _ _ n (concat (deliveries has.0)) c.requires.apart c.hand_over.ensures.only
-          (c.in-Ok-hand_over.ensures.adds p slot arrived has.0 has.1)) (KeepsEach-reads _ _ (outputs_of n) c.serve.ensures.only))));
+          (AddEach-kept a b d (outputs_of n) (concat (deliveries has.0) ∷ []) c.hand_over.ensures.only.goes_on
+          (hands-over a b n (concat (deliveries has.0)) c.requires.apart c.hand_over.ensures.only
+          (c.in-Ok-hand_over.ensures.adds p slot arrived has.0 has.1)) (KeepsEach-reads b d (outputs_of n) c.serve.ensures.only))));
       role = c.serve.ensures.role ∙ c.hand_over.ensures.role ∙ c.hear.ensures.role;
       ready = λ e. no-step e;
       number = c.serve.ensures.turn ∙ c.hand_over.ensures.turn ∙ c.hear.ensures.turn;
       only = only;
       counts =
-          counts-later _ _ _ (inputs_of n) (outputs_of n) c.in-Err-serve.fault
+          counts-later a b d (inputs_of n) (outputs_of n) c.in-Err-serve.fault
           c.in-Ok-hand_over.ensures.counts
-          (read-counts _ _ n c.in-Err-serve.fault c.in-Err-serve.ensures.counts);
+          (read-counts b d n c.in-Err-serve.fault c.in-Err-serve.ensures.counts);
       came = g.met.F.Folder.came_on _ _ _ c.hand_over.ensures.came c.serve.ensures.came;
     }
 
@@ -144,9 +150,13 @@ pub returns-in-Ok-speak : goal.returns-in-Ok-speak
 returns-in-Ok-speak g c =
     let arrived = c.in-Ok.arrived in
     let n = named c.args.file.now c.args.got.now c.args.trace.now in
-    let first = got-only _ _ n c.hand_over.ensures.only in
-    let only-d = OnlyPuts-trans _ _ _ (outputs_of n) first (OnlyPuts-reads _ _ (outputs_of n) c.serve.ensures.only) in
-    let only-z = OnlyPuts-trans _ _ _ (outputs_of n) only-d (trace-only _ _ n c.speak.ensures.only) in
+    let a = g.F.Folder.state c.args.folder.now in
+    let b = g.F.Folder.state c.hand_over.new.folder in
+    let d = g.F.Folder.state c.serve.new.folder in
+    let z = g.F.Folder.state c.speak.new.folder in
+    let first = got-only a b n c.hand_over.ensures.only in
+    let only-d = OnlyPuts-trans a b d (outputs_of n) first (OnlyPuts-reads b d (outputs_of n) c.serve.ensures.only) in
+    let only-z = OnlyPuts-trans a d z (outputs_of n) only-d (trace-only d z n c.speak.ensures.only) in
     record {
       turn = λ p h within.
           let slot = c.args.bits.now in
@@ -155,12 +165,12 @@ returns-in-Ok-speak g c =
           let now = c.in-Ok-hand_over.ensures.stands p slot arrived mid has.1 in
           let still = sym (c.hangs_up.ensures p slot arrived mid now) ∙ c.if-hangs_up.false in
           let s = c.in-Ok-serve.ensures.serves p slot arrived mid now within in
-          gone-on c.speak.new.self _ _ _ n p slot (concat (deliveries mid)) s.others c.requires.apart only-d.goes_on
-          (AddEach-kept _ _ _ (outputs_of n) (concat (deliveries mid) ∷ []) c.hand_over.ensures.only.goes_on
-          (hands-over _ _ n (concat (deliveries mid)) c.requires.apart c.hand_over.ensures.only
-          (c.in-Ok-hand_over.ensures.adds p slot arrived mid has.1)) (KeepsEach-reads _ _ (outputs_of n) c.serve.ensures.only))
+          gone-on c.speak.new.self a d z n p slot (concat (deliveries mid)) s.others c.requires.apart only-d.goes_on
+          (AddEach-kept a b d (outputs_of n) (concat (deliveries mid) ∷ []) c.hand_over.ensures.only.goes_on
+          (hands-over a b n (concat (deliveries mid)) c.requires.apart c.hand_over.ensures.only
+          (c.in-Ok-hand_over.ensures.adds p slot arrived mid has.1)) (KeepsEach-reads b d (outputs_of n) c.serve.ensures.only))
           c.speak.ensures.only
-          (others-known _ _ _ n p.file s.others (handed mid) c.requires.apart first only-z s.reads)
+          (others-known a b z n p.file s.others (handed mid) c.requires.apart first only-z s.reads)
           (c.in-Ok-speak.ensures.speaks (over s.others p) slot mid s.stands still
           (c.in-Ok-hand_over.ensures.given p slot arrived mid has.1));
       role = c.speak.ensures.role ∙ c.serve.ensures.role ∙ c.hand_over.ensures.role ∙ c.hear.ensures.role;
@@ -199,9 +209,13 @@ returns-in-Ok-speak g c =
 pub returns-in-Err-speak : goal.returns-in-Err-speak
 returns-in-Err-speak g c =
     let n = named c.args.file.now c.args.got.now c.args.trace.now in
-    let first = got-only _ _ n c.hand_over.ensures.only in
-    let only-d = OnlyPuts-trans _ _ _ (outputs_of n) first (OnlyPuts-reads _ _ (outputs_of n) c.serve.ensures.only) in
-    let only-z = OnlyPuts-trans _ _ _ (outputs_of n) only-d (trace-only _ _ n c.speak.ensures.only) in
+    let a = g.F.Folder.state c.args.folder.now in
+    let b = g.F.Folder.state c.hand_over.new.folder in
+    let d = g.F.Folder.state c.serve.new.folder in
+    let z = g.F.Folder.state c.speak.new.folder in
+    let first = got-only a b n c.hand_over.ensures.only in
+    let only-d = OnlyPuts-trans a b d (outputs_of n) first (OnlyPuts-reads b d (outputs_of n) c.serve.ensures.only) in
+    let only-z = OnlyPuts-trans a d z (outputs_of n) only-d (trace-only d z n c.speak.ensures.only) in
     record {
       turn = λ p h within.
           let slot = c.args.bits.now in
@@ -211,11 +225,11 @@ returns-in-Err-speak g c =
           let now = c.in-Ok-hand_over.ensures.stands p slot arrived mid has.1 in
           let still = sym (c.hangs_up.ensures p slot arrived mid now) ∙ c.if-hangs_up.false in
           let s = c.in-Ok-serve.ensures.serves p slot arrived mid now within in
-          ended c.speak.new.self _ _ _ n p slot (concat (deliveries mid)) s.others c.requires.apart only-d.goes_on
-          (AddEach-kept _ _ _ (outputs_of n) (concat (deliveries mid) ∷ []) c.hand_over.ensures.only.goes_on
-          (hands-over _ _ n (concat (deliveries mid)) c.requires.apart c.hand_over.ensures.only
-          (c.in-Ok-hand_over.ensures.adds p slot arrived mid has.1)) (KeepsEach-reads _ _ (outputs_of n) c.serve.ensures.only))
-          c.speak.ensures.only (others-known _ _ _ n p.file s.others (handed mid) c.requires.apart first only-z s.reads)
+          ended c.speak.new.self a d z n p slot (concat (deliveries mid)) s.others c.requires.apart only-d.goes_on
+          (AddEach-kept a b d (outputs_of n) (concat (deliveries mid) ∷ []) c.hand_over.ensures.only.goes_on
+          (hands-over a b n (concat (deliveries mid)) c.requires.apart c.hand_over.ensures.only
+          (c.in-Ok-hand_over.ensures.adds p slot arrived mid has.1)) (KeepsEach-reads b d (outputs_of n) c.serve.ensures.only))
+          c.speak.ensures.only (others-known a b z n p.file s.others (handed mid) c.requires.apart first only-z s.reads)
           c.in-Err-speak.fault (c.in-Err-speak.ensures.speaks (over s.others p) slot mid s.stands still
           (c.in-Ok-hand_over.ensures.given p slot arrived mid has.1));
       role = c.speak.ensures.role ∙ c.serve.ensures.role ∙ c.hand_over.ensures.role ∙ c.hear.ensures.role;
@@ -223,9 +237,9 @@ returns-in-Err-speak g c =
       number = c.in-Err-speak.ensures.halts ∙ c.serve.ensures.turn ∙ c.hand_over.ensures.turn ∙ c.hear.ensures.turn;
       only = only-z;
       counts =
-          counts-later _ _ _ (inputs_of n) (outputs_of n) c.in-Err-speak.fault
+          counts-later a d z (inputs_of n) (outputs_of n) c.in-Err-speak.fault
           (CountsStand-trans c.in-Ok-hand_over.ensures.counts c.in-Ok-serve.ensures.counts)
-          (trace-counts _ _ n c.in-Err-speak.fault c.in-Err-speak.ensures.counts);
+          (trace-counts d z n c.in-Err-speak.fault c.in-Err-speak.ensures.counts);
       came = g.met.F.Folder.came_on _ _ _ (g.met.F.Folder.came_on _ _ _ c.hand_over.ensures.came c.serve.ensures.came) c.speak.ensures.came;
     }
 
@@ -234,10 +248,12 @@ returns-in-Err-hand_over g c =
     let n = named c.args.file.now c.args.got.now c.args.trace.now in
     record {
       turn = λ p h within.
+          let a = g.F.Folder.state c.args.folder.now in
+          let b = g.F.Folder.state c.hand_over.new.folder in
           let has = c.in-Ok.ensures.hears p h in
-          subst (λ (r : Role). EndsBy r _ _ n p c.args.bits.now c.in-Err-hand_over.fault) (sym c.hand_over.ensures.role)
-          (writing-ends c.hear.new.self.role _ _ n p c.args.bits.now c.in-Err-hand_over.fault c.in-Err-hand_over.ensures.write
-          (not-handed c.one_lone_run.ensures.made c.hear.new.self _ _ n p c.args.bits.now c.in-Ok.arrived has.0 c.requires.apart within
+          subst (λ (r : Role). EndsBy r a b n p c.args.bits.now c.in-Err-hand_over.fault) (sym c.hand_over.ensures.role)
+          (writing-ends c.hear.new.self.role a b n p c.args.bits.now c.in-Err-hand_over.fault c.in-Err-hand_over.ensures.write
+          (not-handed c.one_lone_run.ensures.made c.hear.new.self a b n p c.args.bits.now c.in-Ok.arrived has.0 c.requires.apart within
           has.1
           c.hand_over.ensures.only
           (c.in-Err-hand_over.ensures.part p c.args.bits.now c.in-Ok.arrived has.0 has.1)));
