@@ -74,15 +74,7 @@ pub waits-over : (l : Lines) (script : ScriptValue) (dlci at : ℕ) (b d : Besid
 waits-over l script dlci at b d links streams h = record {
   directions = λ role.
       let k = h.directions role in
-      record {
-        stands = k.stands;
-        sends = k.sends;
-        symbols = k.symbols;
-        delay = k.delay;
-        lag = k.lag;
-        some = k.some;
-        lag_some = k.lag_some;
-      };
+      assumption;
   coders = λ role.
       let k = h.coders role in
       record { stands = k.stands; sends = k.sends; symbols = k.symbols; newest = k.newest };

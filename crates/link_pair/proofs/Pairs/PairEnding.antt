@@ -2,6 +2,7 @@
 use Rattle.std.proofs.Common.{◌≡◌, ◌⊎◌, inl, inr, ℕ, zero, suc, ◌+◌, ◌^◌, ◌<◌, ◌≤◌, ◌||◌, max, Bool, true, false, List, [], ◌++◌}
 use Rattle.std.proofs.Common.{length, arith, refl, sym, ◌∙◌, ap, subst, Some}
 use Rattle.std.proofs.lemmas.Bool.{false≢true}
+use Rattle.std.proofs.lemmas.Bool.{or_left, or_right}
 use Rattle.shared_terms.specs.declared.role.Role.{Role}
 use Rattle.shared_terms.specs.Both.{Both}
 use Rattle.noise_script.specs.Script.{ScriptValue, IsInLimits, delay_of}
@@ -24,12 +25,6 @@ use Rattle.link_pair.proofs.Pairs.Agreeing.{same-lasts}
 use Rattle.link_pair.proofs.Pairs.Stepping.{At}
 use Rattle.link_pair.proofs.Pairs.Becoming.{NextLaws, NextOf, On_line, Made, next-of}
 use Rattle.link_pair.proofs.Pairing.{either}
-
-or-true : (x y : Bool) → x ≡ true → (x || y) ≡ true
-or-true x y e = grind (arith)
-
-or-right : (x y : Bool) → y ≡ true → (x || y) ≡ true
-or-right x y e = grind (arith)
 
 pub record EndLaws : Type 0 where
   pub links : IsolationLaws
@@ -130,8 +125,8 @@ second-turn laws script files others v round p q a g on =
         → (is_going next ≡ false → is_going q ≡ true → length (turns_in next) ≡ round)
         → (is_going q ≡ false → (is_going next ≡ false) × (length (turns_in next) ≡ length (turns_in q)))
         → (x y : Bool) → is_going p ≡ x → is_going next ≡ y → HasPairEnd script files others
-    went next b just stays true y e f = on p next b (or-true (is_going p) (is_going next) e)
-    went next b just stays false true e f = on p next b (or-right (is_going p) (is_going next) f)
+    went next b just stays true y e f = on p next b (or_left (is_going p) (is_going next) e)
+    went next b just stays false true e f = on p next b (or_right (is_going p) (is_going next) f)
     went next b just stays false false e f = over (either (is_going p) (is_going q) g)
       where
         over : (is_going p ≡ true) ⊎ ((is_going p ≡ false) × (is_going q ≡ true)) → HasPairEnd script files others
@@ -171,8 +166,8 @@ first-turn laws script files others v round p q a g on =
     went : (next : Progress) → At script files others Second round next q
         → (is_going next ≡ false → is_going p ≡ true → length (turns_in next) ≡ round)
         → (x y : Bool) → is_going next ≡ x → is_going q ≡ y → HasPairEnd script files others
-    went next b just true y e f = second-turn laws script files others v round next q b (or-true (is_going next) (is_going q) e) on
-    went next b just false true e f = second-turn laws script files others v round next q b (or-right (is_going next) (is_going q) f) on
+    went next b just true y e f = second-turn laws script files others v round next q b (or_left (is_going next) (is_going q) e) on
+    went next b just false true e f = second-turn laws script files others v round next q b (or_right (is_going next) (is_going q) f) on
     went next b just false false e f = over (either (is_going p) (is_going q) g)
       where
         over : (is_going p ≡ true) ⊎ ((is_going p ≡ false) × (is_going q ≡ true)) → HasPairEnd script files others

@@ -59,11 +59,8 @@ ends-short-by hearing speaking start mid next n old new p octets slot turn a num
 
 pub ends-creating : (begin mid now : FolderState) (n : Names) → IsBegun begin mid n → CreatesPart mid now (outputs_of n)
     → StopsCreating begin now n
-ends-creating begin mid now n b c = record {
-  bits_within = b.bits_within;
-  file_within = b.file_within;
-  creates = CreatesPart-earlier begin mid now (outputs_of n) b.reads.goes_on (KeepsEach-reads begin mid (outputs_of n) b.reads) c;
-}
+ends-creating begin mid now n b c = assumption (CreatesPart-earlier begin mid now (outputs_of n) b.reads.goes_on
+    (KeepsEach-reads begin mid (outputs_of n) b.reads) c)
 
 few : (octets : List ℕ) → length (take file_limit octets) ≤ file_limit
 few octets = omega (arith, length-take file_limit octets)

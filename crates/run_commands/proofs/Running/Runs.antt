@@ -12,7 +12,6 @@ use Rattle.line_run.specs.declared.fault.RunFault.TheVariants as faults
 use Rattle.line_world.specs.World.{KnowsFiles}
 use Rattle.line_world.specs.Turn.{FaultCountsOver}
 use Rattle.command_base.specs.declared.stop.Stop.{Stop}
-use Rattle.command_base.specs.declared.stop.Stop.TheVariants as stops
 use Rattle.outside_calls.specs.Outputs.{AreNoneOf, OnlyOutputs, Creates, CreatesPart, AreApart, KeepsEach, AreApartFrom, OnlyPuts}
 use Rattle.outside_calls.proofs.Putting.{KeepsEach-reads, KeepsEach-trans, SomeRose-earlier, none-fronts, inputs-kept}
 use Rattle.command_base.specs.Stops.{StopCounts}
@@ -63,13 +62,10 @@ pub record Phases (l : Limits) (old mid now next : FolderState) (n : RunNames) (
 takes : (old mid now next : FolderState) (n : RunNames) (script : ScriptValue) (files : Both (List ℕ))
     → Phases LIMITS old mid now next n script → KnowsFiles next n.names files → Takes LIMITS old n script files
 takes old mid now next n script files p k =
-    record {
-      opens = p.begun.opens;
-      limits = p.begun.limits;
-      within = k.within;
-      orig = file-is old next n.names.orig files.orig LIMITS.file on kept.0 p.begun.opens.files.0 (omega arith) k.orig;
-      answ = file-is old next n.names.answ files.answ LIMITS.file on kept.1.0 p.begun.opens.files.1.0 (omega arith) k.answ;
-    }
+    assumption (
+      file-is old next n.names.orig files.orig LIMITS.file on kept.0 p.begun.opens.files.0 (omega arith) k.orig,
+      file-is old next n.names.answ files.answ LIMITS.file on kept.1.0 p.begun.opens.files.1.0 (omega arith) k.answ,
+    )
   where
     on : GoesOn old next
     on = GoesOn-trans p.begun.reads.goes_on (GoesOn-trans p.creates.goes_on p.turns.goes_on)

@@ -16,11 +16,7 @@ loop-turns-init g c =
     }
 
 pub next_turn-requires : goal.next_turn-requires
-next_turn-requires g c = record {
-  apart = c.requires.apart;
-  ready = c.loop-turns.invariant.ready;
-  within = c.loop-turns.invariant.within;
-}
+next_turn-requires g c = assumption
 
 pub loop-turns-preserved : goal.loop-turns-preserved
 loop-turns-preserved g c =

@@ -19,11 +19,7 @@ returns-in-Err-begin_tapes-clause-err g c =
       creates-kept now next (texts_of n) c.in-Err-begin_tapes.ensures.only.goes_on
           (keeps-front now next (texts_of n) (tapes_of n.tapes)
           (c.apart_names_differ.ensures.outputs (inputs_of n) (outputs_of n) c.requires)
-          (record {
-            goes_on = c.in-Err-begin_tapes.ensures.only.goes_on;
-            names = c.in-Err-begin_tapes.ensures.only.names;
-            said = c.in-Err-begin_tapes.ensures.said;
-          })) (creates-front now n c.in-Ok.ensures.ok),
+          (assumption)) (creates-front now n c.in-Ok.ensures.ok),
       c.in-Err-begin_tapes.ensures.err,
     )
 
@@ -54,11 +50,7 @@ returns-in-Ok-begin_tapes g c = record {
       let n : RunNames = named c.args.words.now in
       creates-kept now next (texts_of n) c.in-Ok-begin_tapes.ensures.only.goes_on
       (keeps-front now next (texts_of n) (tapes_of n.tapes) (c.apart_names_differ.ensures.outputs (inputs_of n) (outputs_of n) c.requires)
-      (record {
-        goes_on = c.in-Ok-begin_tapes.ensures.only.goes_on;
-        names = c.in-Ok-begin_tapes.ensures.only.names;
-        said = c.in-Ok-begin_tapes.ensures.said;
-      })) (creates-front now n c.in-Ok.ensures.ok);
+      (assumption)) (creates-front now n c.in-Ok.ensures.ok);
   err = search rules;
   only =
       touches-tapes (g.F.Folder.state c.args.folder.now) (g.F.Folder.state c.create_all.new.folder)
