@@ -15,8 +15,10 @@ use Rattle.lapm_link.proofs.asking.Asking.speak.Goals as goal
 -- an end that tries its offer again still asks
 asks : (asking : Asking) (attempt : Attempt) (a b : Account) → IsAsking asking a → Tries attempt b → b ≡ retried b a
     → IsAsking (record asking { attempt = attempt }) b
-asks asking attempt a b h tries e = subst (λ (x : Account). IsAsking (record asking { attempt = attempt }) x) (sym e) (assumption (unlinked,
-    tries.left_is ∙ ap (λ (x : Account). x.setup.tries) e))
+asks asking attempt a b h tries e = subst (λ (x : Account). IsAsking (record asking { attempt = attempt }) x) (sym e) (assumption (
+  unlinked,
+  tries.left_is ∙ ap (λ (x : Account). x.setup.tries) e,
+))
   where
     unlinked : IsUnlinked asking.memory.setup asking.memory.answer (retried b a)
     unlinked = let u = h.unlinked in assumption
