@@ -2,6 +2,7 @@
 use Rattle.std.proofs.Common.{◌≡◌, ℕ, zero, suc, ◌-◌, ◌<◌, Bool, true, false, cond, List, [], ◌∷◌, length, drop, arith, refl, sym}
 use Rattle.std.proofs.Common.{◌∙◌, ap, subst, Option, Some, None, Result, Ok, Err}
 use Rattle.std.specs.Prelude.{is_some}
+use Rattle.std.proofs.lemmas.Bool.{false≢true}
 use Rattle.std.proofs.lemmas.List.{length-drop, length-replicate}
 use Rattle.std.proofs.lemmas.List.Elements.{All-nil, All-cons, All-replicate}
 use Rattle.frame_check.specs.Octets.{AreOctets}
@@ -10,6 +11,7 @@ use Rattle.shared_terms.specs.declared.role.Role.TheVariants.{Originator, Answer
 use Rattle.shared_terms.specs.Role.{other}
 use Rattle.shared_terms.specs.Both.{Both, of}
 use Rattle.lapm_frames.specs.declared.sent.Sent.{Sent}
+use Rattle.lapm_frames.specs.declared.sent.Sent.TheVariants as slots
 use Rattle.lapm_frames.specs.declared.heard.Heard.TheVariants.{Nothing, Passed, Lost}
 use Rattle.line_run.specs.Unhindered.{unhindered}
 use Rattle.noise_script.specs.declared.entry.Break.{Break}
@@ -45,7 +47,11 @@ use Rattle.command_laws.specs.Worked.Rows.{RowsHold}
 -- what crosses a way is what is to be heard
 crossed : (lose : Bool) (check-slot : Spoken) (s : Sent)
     → cond (has_message s) (cond lose (Lost s) (Passed s)) Nothing ≡ unhindered lose s
-crossed lose slot q2 = grind (arith)
+crossed lose slot slots.Mark = refl
+crossed lose slot slots.Flags = refl
+crossed lose slot slots.Odp = refl
+crossed lose slot slots.Adp = refl
+crossed lose slot (slots.Frame frame) = refl
 
 heard-due : (script : ScriptValue) (ts : List Turn) (role : Role) → heard_by (way_of script) ts role ≡ due script (other role) ts
 heard-due script ts role = go (sent_ago delay sender ts)
@@ -92,7 +98,8 @@ hearing-due : (link : Link) (script : ScriptValue) (ts : List Turn) (ends : Acco
 hearing-due link script ts ends (Ok o) (Ok a) =
     let mid : Accounts = record { orig = o; answ = a } in
     spoken-due script ts ends mid (is_closed o.phase) (said_at link (length ts) mid Originator) (said_at link (length ts) mid Answerer)
-hearing-due link script ts ends q4 a = grind (arith)
+hearing-due link script ts ends (Ok o) (Err fault) = tt
+hearing-due link script ts ends (Err fault) a = tt
 
 next-due : (link : Link) (script : ScriptValue) (ts : List Turn) (ends : Accounts) → NextDue script ts (next link (way_of script) ts ends)
 next-due link script ts ends =
@@ -150,7 +157,8 @@ done-run laws script files s m is k turn e = go m.last m.outcome is.last k.1 e.d
     go : (last : Option Turn) (outcome : Option Outcome) → EndsAs (link_of script files) (way_of script) m last outcome
         → LastDue script m.turns last → outcome ≡ Some Done → is_some last ≡ true → m.last ≡ last
         → (left : Left) × ScriptRunsTo script files (IsDone turn) left × (left.trace ≡ trace_text (all_turns m))
-    go q0 outcome h d f p q = grind (arith)
+    go None outcome h d f p q = absurd (false≢true p)
+    go (Some t) None h d f p q = absurd (false≢true (ap is_some f))
     go (Some t) (Some o) h d f p q =
         let there : TurnIs (link_of script files) m.turns m.ends t m.mid Done =
         subst (λ z. TurnIs (link_of script files) m.turns m.ends t m.mid z) (ap (outcome-in o) f) h.is in (
@@ -218,7 +226,8 @@ many-octets = record { files_are = files; breaks_are = All-nil (λ (b : Break). 
     files Answerer = All-nil (λ octet. octet < 256)
 
 one-short : AreShort one_octet_each
-one-short q0 = grind (arith)
+one-short Originator = omega arith
+one-short Answerer = omega arith
 
 many-short : AreShort fifteen_segments
 many-short Originator = omega (arith, length-replicate {A = ℕ} 1920 1)

@@ -6,6 +6,7 @@ use Rattle.frame_check.specs.Bits.{bits_of}
 use Rattle.frame_check.specs.Octets.{AreOctets}
 use Rattle.frame_check.proofs.BitLists.{length-bits_of, same_octets}
 use Rattle.scramblers.specs.declared.mode.Mode.{Mode}
+use Rattle.scramblers.specs.declared.mode.Mode.TheVariants.{Call, Answer}
 use Rattle.scramblers.specs.Mode.{tap_of}
 use Rattle.scramblers.proofs.Readings.{Descrambles_once}
 use Rattle.symbol_map.specs.declared.sample.Sample.{Sample}
@@ -13,6 +14,7 @@ use Rattle.exact_decoder.specs.Surviving.Survivors.{IsLeast, LostIs}
 use Rattle.outside_calls.specs.Folder.{FolderState, held_at, octets_at}
 use Rattle.outside_calls.proofs.Steps.{octets-held}
 use Rattle.recordings.specs.declared.rate.Rate.{Rate}
+use Rattle.recordings.specs.declared.rate.Rate.TheVariants.{Trellis, Quarters}
 use Rattle.recordings.specs.Recording.{mode_number, header_at, sample_octets}
 use Rattle.signal_commands.specs.Encoding.Recorder.{IsRecordingOf}
 use Rattle.recordings.specs.Samples.{samples_in}
@@ -37,7 +39,12 @@ whole-octets octets others (bit ∷ rest) are also e few =
     absurd (omega (arith, ap length e, length-append (bits_of others) (bit ∷ rest), length-bits_of octets, length-bits_of others))
 
 mode-same : (rate : Rate) (a b : Mode) → mode_number rate a ≡ mode_number rate b → a ≡ b
-mode-same rate q1 q2 e = grind (arith)
+mode-same rate Call Call e = refl
+mode-same rate Answer Answer e = refl
+mode-same Trellis Call Answer e = absurd cc
+mode-same Trellis Answer Call e = absurd cc
+mode-same Quarters Call Answer e = absurd cc
+mode-same Quarters Answer Call e = absurd cc
 
 -- a decoding of a recording of octets gives the octets
 decoded-same : (rate : Rate) (mode : Mode) (octets recording others : List ℕ) (count : ℕ) → AreOctets octets

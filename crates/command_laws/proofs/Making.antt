@@ -1,6 +1,5 @@
 -- What is computed is a run by the definitions.
-use Rattle.std.proofs.Common.{arith, ◌≡◌, ℕ, zero, suc, ◌-◌, Bool, cond, true, false, List, [], ◌∷◌, length, refl, ap, Option, Some, None}
-use Rattle.std.proofs.Common.{Result}
+use Rattle.std.proofs.Common.{◌≡◌, ℕ, zero, suc, ◌-◌, Bool, cond, true, false, List, [], ◌∷◌, length, refl, ap, Option, Some, None, Result}
 use Rattle.std.proofs.Common.{Ok, Err}
 use Rattle.std.specs.Prelude.{is_ok}
 use Rattle.shared_terms.specs.declared.role.Role.{Role}
@@ -30,10 +29,12 @@ Hear turn before heard mid = (role : Role) → hear turn (arrival (heard role)) 
 
 turn-hears : (turn : ℕ) (before mid : Accounts) (heard : Role → Heard) (sent : Role → Option Spoken) → Hear turn before heard mid
     → Hears turn before (turn_with before mid heard sent) mid
-turn-hears turn before mid heard sent h q6 = grind (arith)
+turn-hears turn before mid heard sent h Originator = record { hears = h Originator; check_is = refl; given_is = refl }
+turn-hears turn before mid heard sent h Answerer = record { hears = h Answerer; check_is = refl; given_is = refl }
 
 silent : (before mid : Accounts) (heard : Role → Heard) → IsSilent (turn_with before mid heard (λ role. None))
-silent before mid heard q3 = grind (arith)
+silent before mid heard Originator = refl
+silent before mid heard Answerer = refl
 
 spoken-next : (link : Link) (ts : List Turn) (ends mid : Accounts) (heard : Role → Heard) → Hear (length ts) ends heard mid
     → (b : Bool) → is_closed mid.orig.phase ≡ b → (o a : Result Said LinkFault) → said_at link (length ts) mid Originator ≡ o
@@ -109,7 +110,8 @@ heard-carries : (link : Link) (way : Way) (ts : List Turn) (ends : Accounts) (o 
 heard-carries link way ts ends (Ok o) (Ok a) =
     let mid : Accounts = record { orig = o; answ = a } in
     spoken-carries way ts ends mid (is_closed o.phase) (said_at link (length ts) mid Originator) (said_at link (length ts) mid Answerer)
-heard-carries link way ts ends q4 a = grind (arith)
+heard-carries link way ts ends (Ok o) (Err fault) = tt
+heard-carries link way ts ends (Err fault) a = tt
 
 next-carries : (link : Link) (way : Way) (ts : List Turn) (ends : Accounts) → NextCarries way ts (next link way ts ends)
 next-carries link way ts ends =

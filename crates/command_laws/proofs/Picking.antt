@@ -6,6 +6,7 @@ use Rattle.std.proofs.Math.Nat.{mul_assoc}
 use Rattle.std.proofs.lemmas.List.{append-nil, append_cancel_left, map-append, take-append-drop, take_all}
 use Rattle.shared_terms.specs.Prefix.{IsPrefixOf}
 use Rattle.scramblers.specs.declared.mode.Mode.{Mode}
+use Rattle.scramblers.specs.declared.mode.Mode.TheVariants.{Call, Answer}
 use Rattle.scramblers.specs.Mode.{tap_of}
 use Rattle.symbol_map.specs.declared.sample.Sample.{Sample}
 use Rattle.symbol_map.specs.Distance.{quarter_turned}
@@ -18,6 +19,7 @@ use Rattle.bit_stuffing.specs.Tails.{LastPiecesAreFound}
 use Rattle.bit_stuffing.proofs.Sent.{all-expected}
 use Rattle.detection.specs.Slots.{Signal, slots_of, signal_bits}
 use Rattle.shared_terms.specs.declared.role.Role.{Role}
+use Rattle.shared_terms.specs.declared.role.Role.TheVariants.{Originator, Answerer}
 use Rattle.sample_line.specs.Mode.{mode_of}
 use Rattle.shared_terms.specs.Both.{of}
 use Rattle.outside_calls.specs.Folder.{FolderState, octets_at, Said}
@@ -117,10 +119,14 @@ module _ (laws : PickupLaws) (x : Tapping) (limits : IsInLimits x.script) (ts : 
 -- ---- the commands
 
 mode-same : (a b : Mode) → mode_number Trellis a ≡ mode_number Trellis b → a ≡ b
-mode-same q0 q1 e = grind (arith)
+mode-same Call Call e = refl
+mode-same Answer Answer e = refl
+mode-same Call Answer e = absurd cc
+mode-same Answer Call e = absurd cc
 
 sender-is : (role : Role) → sender_of (mode_of role) ≡ role
-sender-is q0 = grind (arith)
+sender-is Originator = refl
+sender-is Answerer = refl
 
 -- what is left of samples whose first ones aren't there begins with what is left of the first part of them
 drop-front : {A : Type 0} (n : ℕ) (xs ys : List A) → (more : List A) × (drop n (xs ++ ys) ≡ drop n xs ++ more)

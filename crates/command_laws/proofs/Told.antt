@@ -28,7 +28,11 @@ use Rattle.command_laws.specs.Pickups.{frame_in, frame_sent, frames_sent}
 
 slot-frames : (size : ℕ) (role : Role) (check : Check) (s : Sent)
     → slots.frames_of (slot_of size (signal_of check role 0 s) ∷ []) ≡ frame_in role check s
-slot-frames size role check q3 = grind (arith)
+slot-frames size role check sent.Mark = refl
+slot-frames size role check sent.Odp = refl
+slot-frames size role check sent.Adp = refl
+slot-frames size role check sent.Flags = refl
+slot-frames size role check (sent.Frame frame) = refl
 
 frames-append : (a b : List Slot) → slots.frames_of (a ++ b) ≡ slots.frames_of a ++ slots.frames_of b
 frames-append [] b = refl

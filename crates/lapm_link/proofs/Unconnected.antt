@@ -24,7 +24,7 @@ unconnected q0 a not h = grind (arith)
 pub undelivered-none : (end : AnyEnd) → IsUnconnected end → undelivered_of end ≡ 0
 undelivered-none q0 not = grind (arith)
 
-same-number : (n : ℕ) → n ≤ n
+pub same-number : (n : ℕ) → n ≤ n
 same-number n = omega arith
 
 pub takes-none : (end : AnyEnd) → TakesNothing end end

@@ -3,10 +3,10 @@
 use Rattle.std.proofs.Common.{arith, ◌≡◌, ◌⊎◌, inl, inr, ℕ, ◌+◌, ◌-◌, ◌*◌, ◌<◌, ◌≤◌, List, [], ◌∷◌, ◌++◌, length, drop, refl, sym, ap}
 use Rattle.std.proofs.Common.{subst, Option, Some, None}
 use Rattle.std.specs.Prelude.{is_some}
-use Rattle.line_ends.proofs.Cited.{Answerer, AreFit, Arrives, ArrivesAs, Becomes, Check, EndsLineBy, Heard, IsHeardOf, IsHeardWell, LineEnd}
-use Rattle.line_ends.proofs.Cited.{Nothing, Originator, Records, Role, ScriptValue, SentAgo, Signal, SlotsAreRecorded, Spoken, Turn, Wire}
-use Rattle.line_ends.proofs.Cited.{bits_of, delay_of, line_depth, line_trellis, loses, other, sent-ago, sent_ago, signal_bits, signal_of}
-use Rattle.line_ends.proofs.Cited.{signals, signals_before, wire_of}
+use Rattle.line_ends.proofs.Names.{Answerer, AreFit, Arrives, ArrivesAs, Becomes, Check, EndsLineBy, Heard, IsHeardOf, IsHeardWell, LineEnd}
+use Rattle.line_ends.proofs.Names.{Nothing, Originator, Records, Role, ScriptValue, SentAgo, Signal, SlotsAreRecorded, Spoken, Turn, Wire}
+use Rattle.line_ends.proofs.Names.{bits_of, delay_of, line_depth, line_trellis, loses, other, sent-ago, sent_ago, signal_bits, signal_of}
+use Rattle.line_ends.proofs.Names.{signals, signals_before, wire_of}
 use Rattle.bit_stuffing.specs.declared.slot_writer.TheConstants.{HEAD, TAIL}
 use Rattle.symbol_map.specs.declared.sample.Sample.{Sample}
 use Rattle.exact_decoder.specs.Surviving.Survivors.{LostIs}

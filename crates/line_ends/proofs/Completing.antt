@@ -1,7 +1,7 @@
 -- A run that the line doesn't end is done where no end gives up.
 use Rattle.std.proofs.Common.{arith}
-use Rattle.line_ends.proofs.Cited.{CompletesUnstarved, CompletesWithFewLosses, EndsDone, FewLossesKeepLinks, GivesUp, LineEnds}
-use Rattle.line_ends.proofs.Cited.{LostLinksWereStarved, RunEnd, wire_of}
+use Rattle.line_ends.proofs.Names.{CompletesUnstarved, CompletesWithFewLosses, EndsDone, FewLossesKeepLinks, GivesUp, LineEnds}
+use Rattle.line_ends.proofs.Names.{LostLinksWereStarved, RunEnd, wire_of}
 
 pub done-else : (end : RunEnd) → (GivesUp end → ⊥) → (LineEnds end → ⊥) → EndsDone end
 done-else end up line = grind (arith)

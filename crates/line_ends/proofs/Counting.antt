@@ -4,7 +4,7 @@ use Rattle.std.proofs.Common.{arith, refl, subst}
 use Rattle.std.specs.List.{list_any}
 use Rattle.std.proofs.lemmas.Bool.Decides.{nat_tests}
 use Rattle.frame_check.specs.Bits.{number}
-use Rattle.line_ends.proofs.Cited.{Answerer, Heard, Originator, Role, ScriptValue, Turn, delay_of, of, other, same_role, slots_named}
+use Rattle.line_ends.proofs.Names.{Answerer, Heard, Originator, Role, ScriptValue, Turn, delay_of, of, other, same_role, slots_named}
 use Rattle.noise_script.specs.declared.entry.Loss.{Loss}
 use Rattle.noise_script.specs.Offsets.{covers}
 use Rattle.link_run.specs.Counts.{lost_in, lost_slots}

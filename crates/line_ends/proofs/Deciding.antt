@@ -3,7 +3,7 @@ use Rattle.std.proofs.Common.{◌≡◌, ◌⊎◌, inl, inr, ℕ, zero, suc, �
 use Rattle.std.proofs.Common.{refl, sym, ◌∙◌, ap, subst, Option, Some, None, IfSome}
 use Rattle.std.proofs.lemmas.Bool.{cases_lt}
 use Rattle.std.proofs.lemmas.List.Elements.{All-nil, All-cons, All-head, All-tail}
-use Rattle.line_ends.proofs.Cited.{Chance, Check, Frame, Heard, INFO, IsFrame, Lost, Nothing, Passed, Role, Seen, Sent, spelled}
+use Rattle.line_ends.proofs.Names.{Chance, Check, Frame, Heard, INFO, IsFrame, Lost, Nothing, Passed, Role, Seen, Sent, spelled}
 use Rattle.frame_check.specs.FrameCheck.{IsChecked, Passes}
 use Rattle.frame_check.specs.Division.{count_of, with_check}
 use Rattle.frame_check.proofs.Checks.{front-checked, with_check-is, with_check-one}

@@ -1,11 +1,11 @@
 -- Each run goes on or ends, and so it ends.
 use Rattle.std.proofs.Common.{◌≡◌, ◌⊎◌, inl, inr, ℕ, zero, suc, ◌+◌, ◌^◌, ◌≤◌, List, [], ◌∷◌, ◌++◌, length, arith, refl, ◌∙◌, ap, subst}
-use Rattle.line_ends.proofs.Cited.{Accounts, Answerer, AreOfOctets, Both, Broken, ChanceMatch, Done, EachEndIsNamed, EachRunEnds}
-use Rattle.line_ends.proofs.Cited.{EachSlotBecomes, EachTurnIsDecided, EndsInTurn, EndsLine, Going, HasEnd, HeardTurnsAreMade, IsDone}
-use Rattle.line_ends.proofs.Cited.{IsHeardWell, IsInLimits, IsNamed, Left, LineEnd, LineLost, LineRun, LinkFault, LinkLost, MadeOver}
-use Rattle.line_ends.proofs.Cited.{NotDetected, OctetsAreSendable, Originator, Outcome, Role, ScriptValue, ScriptsHaveDelays}
-use Rattle.line_ends.proofs.Cited.{ScriptsMayPlay, SlotsAreCodable, SlotsHaveRoom, Turn, TurnIs, Wire, check_of, link_of, of, other, start}
-use Rattle.line_ends.proofs.Cited.{wire_of}
+use Rattle.line_ends.proofs.Names.{Accounts, Answerer, AreOfOctets, Both, Broken, ChanceMatch, Done, EachEndIsNamed, EachRunEnds}
+use Rattle.line_ends.proofs.Names.{EachSlotBecomes, EachTurnIsDecided, EndsInTurn, EndsLine, Going, HasEnd, HeardTurnsAreMade, IsDone}
+use Rattle.line_ends.proofs.Names.{IsHeardWell, IsInLimits, IsNamed, Left, LineEnd, LineLost, LineRun, LinkFault, LinkLost, MadeOver}
+use Rattle.line_ends.proofs.Names.{NotDetected, OctetsAreSendable, Originator, Outcome, Role, ScriptValue, ScriptsHaveDelays}
+use Rattle.line_ends.proofs.Names.{ScriptsMayPlay, SlotsAreCodable, SlotsHaveRoom, Turn, TurnIs, Wire, check_of, link_of, of, other, start}
+use Rattle.line_ends.proofs.Names.{wire_of}
 use Rattle.shared_terms.specs.declared.fault.LinkFault.TheVariants as faults
 use Rattle.link_run.specs.Trace.{trace_text}
 use Rattle.line_texts.specs.LineText.{chance_line}

@@ -2,9 +2,9 @@
 use Rattle.std.proofs.Common.{◌≡◌, ℕ, zero, suc, ◌*◌, List, [], ◌∷◌, ◌++◌, drop, arith, sym, subst, Some}
 use Rattle.bit_stuffing.specs.Slots.{phase_after}
 use Rattle.bit_stuffing.proofs.Fill.{phase-low}
-use Rattle.line_ends.proofs.Cited.{Accounts, AllSendable, AreFit, Both, Fits, GoingTurn, HeardIn, IsInLimits, IsSendable, LineRun, Role}
-use Rattle.line_ends.proofs.Cited.{ScriptValue, SlotsAreCodable, Spoken, Turn, link_of, longest_of, of, signal_in, signal_of, signals}
-use Rattle.line_ends.proofs.Cited.{slot_symbols, slots_of, spoken, wire_of}
+use Rattle.line_ends.proofs.Names.{Accounts, AllSendable, AreFit, Both, Fits, GoingTurn, HeardIn, IsInLimits, IsSendable, LineRun, Role}
+use Rattle.line_ends.proofs.Names.{ScriptValue, SlotsAreCodable, Spoken, Turn, link_of, longest_of, of, signal_in, signal_of, signals}
+use Rattle.line_ends.proofs.Names.{slot_symbols, slots_of, spoken, wire_of}
 use Rattle.line_run.proofs.Fits.{codable-fits, fit-front, fit-more, spelled-octets}
 
 -- the symbols of a slot, and its bits

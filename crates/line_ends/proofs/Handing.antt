@@ -4,8 +4,8 @@ use Rattle.std.proofs.Common.{refl, sym, subst, Option, Some, None}
 use Rattle.std.specs.List.{concat}
 use Rattle.std.proofs.lemmas.List.{length-take}
 use Rattle.std.proofs.lemmas.List.Elements.{All-nil, All-cons, All-head, All-tail, All-push, All-take}
-use Rattle.line_ends.proofs.Cited.{Account, AreOctets, OwnBreaks, after_ask, after_break_asked, after_busy, after_given, is_connected}
-use Rattle.line_ends.proofs.Cited.{takes_break, wants}
+use Rattle.line_ends.proofs.Names.{Account, AreOctets, OwnBreaks, after_ask, after_break_asked, after_busy, after_given, is_connected}
+use Rattle.line_ends.proofs.Names.{takes_break, wants}
 use Rattle.link_run.specs.End.{User, BreakLine, delivered, offered_at, offered_times, room_for, offered, is_busy, next_break, asked_at}
 use Rattle.link_run.specs.End.{asked, served}
 use Rattle.link_run.specs.Reading.{IsOffered, OffersWhatIsRead, OwnSegmentsStay}

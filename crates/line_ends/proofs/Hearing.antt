@@ -1,12 +1,12 @@
 -- What is heard in a script's run whose noise is faint.
 use Rattle.std.proofs.Common.{◌≡◌, ◌≢◌, ℕ, ◌+◌, ◌-◌, ◌*◌, ◌<◌, ◌≤◌, Bool, true, List, [], ◌∷◌, ◌++◌, length, drop, arith, refl, sym, ◌∙◌}
 use Rattle.std.proofs.Common.{subst, Option, Some, None, append-nil}
-use Rattle.line_ends.proofs.Cited.{Accounts, AllSendable, Answerer, AreFit, Arrives, ArrivesAs, Both, Chance, Check, FaintGoOn}
-use Rattle.line_ends.proofs.Cited.{FaintNeverLost, FaintReceivedIsSent, Frame, Heard, IsFaint, IsHeardOf, IsInLimits, IsSendable, LineRun}
-use Rattle.line_ends.proofs.Cited.{LosesLine, NeverChance, Nothing, Originator, Records, Role, RunsOver, SamplesAreCarried, ScriptValue}
-use Rattle.line_ends.proofs.Cited.{ScriptsHaveDelays, ScriptsMayPlay, Sent, SentAgo, Signal, SlotsAreCodable, SlotsHaveRoom, Spoken, Turn}
-use Rattle.line_ends.proofs.Cited.{Wire, check_of, delay_of, link_of, loses, of, other, sent-ago, sent_ago, signal_bits, signal_in}
-use Rattle.line_ends.proofs.Cited.{signal_of, signals, wire_of}
+use Rattle.line_ends.proofs.Names.{Accounts, AllSendable, Answerer, AreFit, Arrives, ArrivesAs, Both, Chance, Check, FaintGoOn}
+use Rattle.line_ends.proofs.Names.{FaintNeverLost, FaintReceivedIsSent, Frame, Heard, IsFaint, IsHeardOf, IsInLimits, IsSendable, LineRun}
+use Rattle.line_ends.proofs.Names.{LosesLine, NeverChance, Nothing, Originator, Records, Role, RunsOver, SamplesAreCarried, ScriptValue}
+use Rattle.line_ends.proofs.Names.{ScriptsHaveDelays, ScriptsMayPlay, Sent, SentAgo, Signal, SlotsAreCodable, SlotsHaveRoom, Spoken, Turn}
+use Rattle.line_ends.proofs.Names.{Wire, check_of, delay_of, link_of, loses, of, other, sent-ago, sent_ago, signal_bits, signal_in}
+use Rattle.line_ends.proofs.Names.{signal_of, signals, wire_of}
 use Rattle.lapm_frames.specs.Checked.{check_for}
 use Rattle.lapm_frames.specs.declared.sent.Sent.TheVariants as slots
 use Rattle.sample_line.specs.Outcomes.{IsOutcome}

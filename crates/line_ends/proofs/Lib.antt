@@ -1,4 +1,4 @@
-mod Cited
+mod Names
 mod Completing
 pub mod Fitting
 pub mod Hearing

@@ -1,8 +1,8 @@
 -- What is heard makes a next turn.
 use Rattle.std.proofs.Common.{arith, ◌≡◌, List, length, sym, ◌∙◌, subst, None}
-use Rattle.line_ends.proofs.Cited.{Accounts, Answerer, EachTurnIsMade, HeardIn, HeardTurnsAreMade, Hears, IsHeardOf, Link, MakesTurn}
-use Rattle.line_ends.proofs.Cited.{OneIsCarried, Originator, Outcome, Role, SamplesAreCarried, ScriptsHaveDelays, ScriptsMayPlay, Side}
-use Rattle.line_ends.proofs.Cited.{Turn, TurnIs, check_of, link_of, of, other}
+use Rattle.line_ends.proofs.Names.{Accounts, Answerer, EachTurnIsMade, HeardIn, HeardTurnsAreMade, Hears, IsHeardOf, Link, MakesTurn}
+use Rattle.line_ends.proofs.Names.{OneIsCarried, Originator, Outcome, Role, SamplesAreCarried, ScriptsHaveDelays, ScriptsMayPlay, Side}
+use Rattle.line_ends.proofs.Names.{Turn, TurnIs, check_of, link_of, of, other}
 
 pub record Makes : Type 0 where
   pub play : ScriptsMayPlay

@@ -1,7 +1,7 @@
 -- What is received of a slot is read off labels that begin a nearest code sequence.
 use Rattle.std.proofs.Common.{arith, ◌≡◌, ◌-◌, List, [], ◌∷◌, drop, Some, subst}
-use Rattle.line_ends.proofs.Cited.{Accounts, Arrives, ArrivesAs, Check, EndsBy, Heard, HeardIn, IsHeardOver, Left, LineRun, Link, Role}
-use Rattle.line_ends.proofs.Cited.{RunEnd, Spoken, Turn, Wire, delay_of, line_trellis, of, other, sent_ago, turns_heard}
+use Rattle.line_ends.proofs.Names.{Accounts, Arrives, ArrivesAs, Check, EndsBy, Heard, HeardIn, IsHeardOver, Left, LineRun, Link, Role}
+use Rattle.line_ends.proofs.Names.{RunEnd, Spoken, Turn, Wire, delay_of, line_trellis, of, other, sent_ago, turns_heard}
 use Rattle.exact_decoder.specs.Surviving.Laws.{ReleasedIsLeast, OfEachCode}
 use Rattle.exact_decoder.proofs.Surviving.V32.{line-has-laws}
 use Rattle.line_ends.specs.ReadOff.{IsReadOff, AreReadOff}

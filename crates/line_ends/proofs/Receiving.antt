@@ -2,7 +2,7 @@
 use Rattle.std.proofs.Common.{◌≡◌, ◌⊎◌, inl, inr, ℕ, zero, suc, ◌+◌, ◌<◌, ◌≤◌, Bool, List, [], ◌∷◌, ◌++◌, length, take, map, arith, refl}
 use Rattle.std.proofs.Common.{sym, ap, subst, Some, None, append-nil, append_assoc}
 use Rattle.std.proofs.lemmas.Bool.{cases_lt}
-use Rattle.line_ends.proofs.Cited.{Check, Records, Role, ScriptValue, Seen, line_depth, line_trellis}
+use Rattle.line_ends.proofs.Names.{Check, Records, Role, ScriptValue, Seen, line_depth, line_trellis}
 use Rattle.bit_stuffing.proofs.Sent.{pieces-stay}
 use Rattle.bit_stuffing.specs.Sent.{wholes}
 use Rattle.scramblers.specs.Mode.{tap_of}

@@ -1,8 +1,8 @@
 -- The laws of runs that the promises of commands rest on.
 use Rattle.std.proofs.Common.{arith, ℕ, List}
-use Rattle.line_ends.proofs.Cited.{Accounts, Both, DoneLeavesWhole, EndsHaveCauses, HearingsDeliver, HearsPrefixes, IsInLimits, LineRun}
-use Rattle.line_ends.proofs.Cited.{MayRun, OneIsCarried, RunsLeavePrefixes, RunsLeaveWhatPassed, RunsOver, SamplesAreCarried}
-use Rattle.line_ends.proofs.Cited.{ScriptsHaveDelays, ScriptsMayPlay, TakesPrefixes, Turn, Wire, delay_of, link_of}
+use Rattle.line_ends.proofs.Names.{Accounts, Both, DoneLeavesWhole, EndsHaveCauses, HearingsDeliver, HearsPrefixes, IsInLimits, LineRun}
+use Rattle.line_ends.proofs.Names.{MayRun, OneIsCarried, RunsLeavePrefixes, RunsLeaveWhatPassed, RunsOver, SamplesAreCarried}
+use Rattle.line_ends.proofs.Names.{ScriptsHaveDelays, ScriptsMayPlay, TakesPrefixes, Turn, Wire, delay_of, link_of}
 use Rattle.exact_decoder.specs.Surviving.Laws.{ReleasedIsLeast, OfEachCode}
 use Rattle.line_run.specs.Scripts.{LineRunsEndSoon}
 

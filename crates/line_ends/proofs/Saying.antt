@@ -2,8 +2,8 @@
 use Rattle.std.proofs.Common.{◌≡◌, ℕ, zero, suc, ◌+◌, ◌*◌, ◌/◌, ◌%◌, ◌<◌, ◌&&◌, Bool, true, false, cond, nat_le, List, [], ◌∷◌}
 use Rattle.std.proofs.Common.{slice_index_or, arith, subst, Option, Some, None, Result, Ok, Err}
 use Rattle.std.proofs.lemmas.List.Elements.{All-from_recursion, All-nil, All-cons, All-head, All-tail}
-use Rattle.line_ends.proofs.Cited.{Account, Answerer, AreOctets, Frame, IsAllowed, IsPlain, IsPlainSent, LinkFault, Originator, OwnBreaks}
-use Rattle.line_ends.proofs.Cited.{Role, Sent, information_of, is_originator, own_due, written}
+use Rattle.line_ends.proofs.Names.{Account, Answerer, AreOctets, Frame, IsAllowed, IsPlain, IsPlainSent, LinkFault, Originator, OwnBreaks}
+use Rattle.line_ends.proofs.Names.{Role, Sent, information_of, is_originator, own_due, written}
 use Rattle.lapm_frames.specs.declared.frame.Frame.TheVariants.{Sabme, Disc, Xid}
 use Rattle.xid_params.specs.declared.offer.Offer.{Offer}
 use Rattle.lapm_receiver.specs.Incoming.{asks}

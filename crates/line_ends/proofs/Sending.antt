@@ -3,12 +3,12 @@ use Rattle.std.proofs.Common.{◌≡◌, ℕ, ◌<◌, ◌≤◌, false, List, [
 use Rattle.std.proofs.Common.{IfSome, Ok}
 use Rattle.std.specs.Prelude.{unwrap_or}
 use Rattle.std.proofs.lemmas.List.Elements.{All-nil, All-map, All-filter}
-use Rattle.line_ends.proofs.Cited.{Accounts, AllPlain, AllSendable, AllShort, Answerer, AreOctets, AsksInOctets, Both, Carries, Crosses}
-use Rattle.line_ends.proofs.Cited.{Frame, GoingTurn, Heard, Hears, INFO, IsAllowed, IsInLimits, IsPlainSent, IsSendable, LineRun, Link}
-use Rattle.line_ends.proofs.Cited.{OctetsAreSendable, OneIsCarried, Originator, Role, RunsOver, SamplesAreCarried, ScriptValue}
-use Rattle.line_ends.proofs.Cited.{ScriptsHaveDelays, ScriptsMayPlay, SendsShort, Sent, Spoken, Turn, Wire, arrival, break_line, breaks_of}
-use Rattle.line_ends.proofs.Cited.{delay_of, information_of, link_of, of, other, releases, said_at, same_role, sent-ago, sent_ago}
-use Rattle.line_ends.proofs.Cited.{served_at, start}
+use Rattle.line_ends.proofs.Names.{Accounts, AllPlain, AllSendable, AllShort, Answerer, AreOctets, AsksInOctets, Both, Carries, Crosses}
+use Rattle.line_ends.proofs.Names.{Frame, GoingTurn, Heard, Hears, INFO, IsAllowed, IsInLimits, IsPlainSent, IsSendable, LineRun, Link}
+use Rattle.line_ends.proofs.Names.{OctetsAreSendable, OneIsCarried, Originator, Role, RunsOver, SamplesAreCarried, ScriptValue}
+use Rattle.line_ends.proofs.Names.{ScriptsHaveDelays, ScriptsMayPlay, SendsShort, Sent, Spoken, Turn, Wire, arrival, break_line, breaks_of}
+use Rattle.line_ends.proofs.Names.{delay_of, information_of, link_of, of, other, releases, said_at, same_role, sent-ago, sent_ago}
+use Rattle.line_ends.proofs.Names.{served_at, start}
 use Rattle.break_signals.specs.Words.{IsSpelledBack}
 use Rattle.lapm_frames.specs.declared.sent.Sent.TheVariants as slots
 use Rattle.noise_script.specs.declared.entry.Break.{Break}

@@ -1,6 +1,6 @@
 -- What is said of all slots that were sent is true of the one that arrives.
 use Rattle.std.proofs.Common.{◌≡◌, ℕ, zero, suc, ◌-◌, ◌≤◌, List, [], ◌∷◌, length, drop, subst}
-use Rattle.line_ends.proofs.Cited.{AllPlain, AllShort, Frame, INFO, IsPlainSent, Role, SentAgo, Spoken, Turn, information_of}
+use Rattle.line_ends.proofs.Names.{AllPlain, AllShort, Frame, INFO, IsPlainSent, Role, SentAgo, Spoken, Turn, information_of}
 use Rattle.lapm_frames.specs.declared.sent.Sent.TheVariants as slots
 
 -- all of the turns before the last n

@@ -1,10 +1,10 @@
 -- A run that ends by a lost link was starved, and what else its end says.
 use Rattle.std.proofs.Common.{arith, ◌≡◌, ◌∙◌, ℕ, List, []}
-use Rattle.line_ends.proofs.Cited.{Accounts, Both, DoneIsWhole, EndsHaveCauses, FewLossesKeepLinks, GivesEachBreak, GivesUp, GivesUpOnTime}
-use Rattle.line_ends.proofs.Cited.{HearingsGiveAllBreaks, IsDone, IsInLimits, Left, LineRun, LinkLost, LosesInPeriods, LostLinksWereStarved}
-use Rattle.line_ends.proofs.Cited.{NotDetected, OneIsCarried, Originator, Role, RunEnd, RunsOver, RunsTo, SamplesAreCarried, ScriptValue}
-use Rattle.line_ends.proofs.Cited.{ScriptsHaveDelays, ScriptsMayPlay, Turn, WaitsForNoBreak, Wire, delay_of, link_of, of, period_of}
-use Rattle.line_ends.proofs.Cited.{turns_heard}
+use Rattle.line_ends.proofs.Names.{Accounts, Both, DoneIsWhole, EndsHaveCauses, FewLossesKeepLinks, GivesEachBreak, GivesUp, GivesUpOnTime}
+use Rattle.line_ends.proofs.Names.{HearingsGiveAllBreaks, IsDone, IsInLimits, Left, LineRun, LinkLost, LosesInPeriods, LostLinksWereStarved}
+use Rattle.line_ends.proofs.Names.{NotDetected, OneIsCarried, Originator, Role, RunEnd, RunsOver, RunsTo, SamplesAreCarried, ScriptValue}
+use Rattle.line_ends.proofs.Names.{ScriptsHaveDelays, ScriptsMayPlay, Turn, WaitsForNoBreak, Wire, delay_of, link_of, of, period_of}
+use Rattle.line_ends.proofs.Names.{turns_heard}
 use Rattle.shared_terms.specs.declared.fault.LinkFault.TheVariants as faults
 use Rattle.turn_losses.specs.Losses.{OriginatorWantsPattern, UndetectedOnTime, StarvedLosesMany}
 use Rattle.turn_losses.specs.Tries.{GivesUpForLosses, GivesUpUnbroken}

@@ -1,12 +1,12 @@
 -- Runs of scripts whose noise is faint are done.
 use Rattle.std.proofs.Common.{◌≡◌, ℕ, List, [], ◌∷◌, length, arith, ap, subst}
-use Rattle.line_ends.proofs.Cited.{Accounts, AllSendable, Answerer, Both, Broken, ChanceMatch, CompletesQuiet, CompletesUndisturbed}
-use Rattle.line_ends.proofs.Cited.{CompletesWithFewLosses, CompletesWithFewNamed, DisplacesNoneIsFaint, Done, DoneLeavesWhole, EachRunEnds}
-use Rattle.line_ends.proofs.Cited.{EmptyScriptDisplacesNone, EndsInTurn, FaintGoOn, HasEnd, HeardIn, Hears, IsDone, IsFaint, IsInLimits}
-use Rattle.line_ends.proofs.Cited.{IsQuiet, Left, LineEnds, LineLost, LineRun, Link, LinkLost, LosesWhatIsNamed, NotDetected}
-use Rattle.line_ends.proofs.Cited.{OctetsAreSendable, Originator, Outcome, QuietRunsDeliver, Role, RunEnd, ScriptRunsTo, ScriptValue}
-use Rattle.line_ends.proofs.Cited.{ScriptsHaveDelays, ScriptsMayPlay, Turn, TurnIs, UndisplacedIsFaint, heard_turns, link_of, of, other}
-use Rattle.line_ends.proofs.Cited.{slots_named, wire_of}
+use Rattle.line_ends.proofs.Names.{Accounts, AllSendable, Answerer, Both, Broken, ChanceMatch, CompletesQuiet, CompletesUndisturbed}
+use Rattle.line_ends.proofs.Names.{CompletesWithFewLosses, CompletesWithFewNamed, DisplacesNoneIsFaint, Done, DoneLeavesWhole, EachRunEnds}
+use Rattle.line_ends.proofs.Names.{EmptyScriptDisplacesNone, EndsInTurn, FaintGoOn, HasEnd, HeardIn, Hears, IsDone, IsFaint, IsInLimits}
+use Rattle.line_ends.proofs.Names.{IsQuiet, Left, LineEnds, LineLost, LineRun, Link, LinkLost, LosesWhatIsNamed, NotDetected}
+use Rattle.line_ends.proofs.Names.{OctetsAreSendable, Originator, Outcome, QuietRunsDeliver, Role, RunEnd, ScriptRunsTo, ScriptValue}
+use Rattle.line_ends.proofs.Names.{ScriptsHaveDelays, ScriptsMayPlay, Turn, TurnIs, UndisplacedIsFaint, heard_turns, link_of, of, other}
+use Rattle.line_ends.proofs.Names.{slots_named, wire_of}
 use Rattle.shared_terms.specs.declared.fault.LinkFault.TheVariants as faults
 use Rattle.line_run.specs.Sampled as lines
 use Rattle.line_ends.proofs.Hearing.{HearLaws, AsNamed, heard-named}

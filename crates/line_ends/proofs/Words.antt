@@ -3,7 +3,7 @@ use Rattle.std.proofs.Common.{◌≡◌, ℕ, ◌<◌, ◌%◌, ◌&&◌, ◌||�
 use Rattle.std.proofs.Common.{Option, Some, None, Result, Ok, Err}
 use Rattle.std.specs.Option.{option_map}
 use Rattle.std.proofs.lemmas.List.Elements.{All-cons, All-head, All-push, All-tail}
-use Rattle.line_ends.proofs.Cited.{Account, AreOctets, Frame, InOctets, LinkFault, Role, Seen, is_originator, with_given}
+use Rattle.line_ends.proofs.Names.{Account, AreOctets, Frame, InOctets, LinkFault, Role, Seen, is_originator, with_given}
 use Rattle.lapm_frames.specs.declared.frame.Frame.TheVariants.{I, Rr, Rnr, Rej, Srej, Sabme, Disc, Dm, Frmr, Ui}
 use Rattle.xid_params.specs.declared.offer.Offer.{Offer}
 use Rattle.lapm_sender.specs.Outgoing.{Outgoing, acknowledged, rejected, replied, selected, paused_at, resumed}

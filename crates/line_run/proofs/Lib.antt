@@ -1,4 +1,4 @@
-mod Cited
+mod Names
 mod Sampling
 pub mod Leaving
 pub mod Resulting

@@ -1,5 +1,5 @@
 -- A slot that a coder has coded behind others.
-use Rattle.std.proofs.Common.{◌≡◌, ℕ, ◌*◌, List, [], ◌∷◌, ◌++◌, map, sym, ◌∙◌, ap, subst}
+use Rattle.std.proofs.Common.{arith, ◌≡◌, ℕ, ◌*◌, List, [], ◌∷◌, ◌++◌, map, sym, ◌∙◌, ap, subst}
 use Rattle.std.proofs.lemmas.List.{map-append, same_from_push}
 use Rattle.frame_check.specs.declared.check.Check.{Check}
 use Rattle.bit_stuffing.specs.BitSlot.{line_bits}
@@ -66,8 +66,7 @@ newest-is l c role own links streams front x bits h e is b =
 -- what is so of each role's coder is so of both
 pub both-coded : (l : Lines) (c : Wire) (streams : Both (List Carried)) → HasCoded l.orig c Originator streams.orig
     → HasCoded l.answ c Answerer streams.answ → (role : Role) → HasCoded (coder_of role l) c role (of role streams)
-both-coded l c streams ho ha Originator = ho
-both-coded l c streams ho ha Answerer = ha
+both-coded l c streams ho ha q5 = grind (arith)
 
 pub nothing-newest : (front : List Carried) (x : Carried) → [] ≡ front ++ x ∷ [] → ⊥
 nothing-newest [] x e = absurd cc

@@ -5,8 +5,10 @@ use Rattle.std.proofs.lemmas.Bool.{false≢true}
 use Rattle.std.proofs.lemmas.Bool.Decides.{nat_tests}
 use Rattle.std.proofs.lemmas.List.{append-nil, append_assoc}
 use Rattle.std.proofs.lemmas.List.Folds.{concat-append}
-use Rattle.std.specs.Prelude.{slice_index_or, is_some, unwrap_or}
+use Rattle.std.specs.Prelude.{slice_index_or, is_some}
 use Rattle.std.specs.List.{concat}
+use Rattle.std.proofs.lemmas.List.{drop_all}
+use Rattle.std.proofs.lemmas.Option.{none-some, same_Some}
 use Rattle.shared_terms.specs.Prefix.{IsPrefixOf}
 use Rattle.outside_calls.specs.Folder.{FolderState, held_at, octets_at, GoesOn, OnlyWrites, Appended, PartlyAppended, Adds}
 use Rattle.outside_calls.proofs.Steps.{GoesOn-refl, GoesOn-trans, KeepsName-trans, told_later, octets-kept, octets-held}
@@ -80,12 +82,6 @@ at-front n [] h = absurd (omega (arith, h))
 at-front zero (x ∷ xs) h = refl
 at-front (suc n) (x ∷ xs) h = at-front n xs (omega (arith, h))
 
-past-end : (n : ℕ) (xs : List (List ℕ)) → length xs ≤ n → drop n xs ≡ []
-past-end zero [] h = refl
-past-end zero (x ∷ xs) h = absurd (omega (arith, h))
-past-end (suc n) [] h = refl
-past-end (suc n) (x ∷ xs) h = past-end n xs (omega (arith, h))
-
 -- one more of its segments was handed over
 abbrev handed-one : Account → Account
 handed-one b = record b { incoming = record b.incoming { given = b.incoming.given + 1 } }
@@ -109,12 +105,6 @@ pub record Hands (b : Account) (segment : List ℕ) : Type 0 where
 pub hands-next : (b : Account) (segment : List ℕ) → delivers b ≡ Some segment → Hands b segment
 hands-next b segment e = go (is_connected b.phase) refl (nat_lt b.incoming.given (length b.incoming.taken)) refl e
   where
-    some : {x y : List ℕ} → Some x ≡ Some y → x ≡ y
-    some {x} z = ap (λ o. unwrap_or o x) z
-
-    none : {x : List ℕ} → None ≡ Some x → ⊥
-    none z = false≢true (ap is_some z)
-
     go : (c : Bool) → is_connected b.phase ≡ c → (l : Bool) → nat_lt b.incoming.given (length b.incoming.taken) ≡ l
         → cond c (cond l (Some (slice_index_or b.incoming.taken b.incoming.given [])) None) None ≡ Some segment → Hands b segment
     go true k true l z =
@@ -123,13 +113,13 @@ hands-next b segment e = go (is_connected b.phase) refl (nat_lt b.incoming.given
         let after = after-of b k l in
         record {
           first = deliveries-of b k ∙ at-front b.incoming.given b.incoming.taken within
-              ∙ ap (λ x. x ∷ drop (suc b.incoming.given) b.incoming.taken) (some z)
+              ∙ ap (λ x. x ∷ drop (suc b.incoming.given) b.incoming.taken) (same_Some _ _ z)
               ∙ ap (λ n. segment ∷ drop n b.incoming.taken) next
               ∙ ap (λ l. segment ∷ l) (sym (ap deliveries after ∙ deliveries-of (handed-one b) k));
           rest = ap delivered after ∙ delivered-of (handed-one b) k ∙ sym (delivered-of b k);
         }
-    go true k false l z = absurd (none z)
-    go false k l m z = absurd (none z)
+    go true k false l z = absurd (none-some _ z)
+    go false k l m z = absurd (none-some _ z)
 
 given-within : (end : AnyEnd) (a : Account) → StandsFor end a → is_connected a.phase ≡ true → a.incoming.given ≤ length a.incoming.taken
 given-within (ends.Detecting end) a h e = absurd (false≢true (sym (ap is_connected h.phase_is) ∙ e))
@@ -157,7 +147,7 @@ hands-none end b h e = go (is_connected b.phase) refl (nat_lt b.incoming.given (
         let least : length b.incoming.taken ≤ b.incoming.given = grind (arith, nat_tests) in
         let is : length b.incoming.taken ≡ b.incoming.given = omega (arith, most, least) in
         record {
-          none = rw k (past-end b.incoming.given b.incoming.taken least);
+          none = rw k (drop_all b.incoming.given b.incoming.taken least);
           same = rw k (ap (λ n. record b { incoming = record b.incoming { given = n } }) is);
         }
     go false k l m z = record { none = rw k refl; same = rw k refl }
@@ -237,9 +227,7 @@ handing-ends start now name s new file a h e end breaks =
               incoming = cond l (record h.after.incoming { given = h.after.incoming.given + 1 }) h.after.incoming;
             })
             h.after ≡ h.after
-        go true true z = absurd (false≢true (sym z))
-        go true false z = refl
-        go false l z = refl
+        go q0 l z = grind (arith)
 
 pub handing-stops : (start now next : FolderState) (name segment : List ℕ) (s : Station) (file : List ℕ) (a : Account) → GoesOn start now
     → (h : Handing start now name s file a)

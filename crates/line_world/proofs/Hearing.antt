@@ -1,5 +1,5 @@
 -- What both ends hear in a turn, and are then.
-use Rattle.std.proofs.Common.{◌≡◌, ◌≢◌, ℕ, ◌<◌, ◌≤◌, ◌+◌, ◌^◌, true, false, is_ok, List, [], length, arith, refl, sym, ◌∙◌, ap, subst}
+use Rattle.std.proofs.Common.{◌≡◌, ◌≢◌, ℕ, ◌<◌, ◌≤◌, ◌+◌, ◌^◌, true, false, is_ok, List, [], length, arith, refl, sym, ◌∙◌, subst}
 use Rattle.std.proofs.Common.{Option, None, Ok}
 use Rattle.shared_terms.specs.declared.role.Role.{Role}
 use Rattle.shared_terms.specs.declared.role.Role.TheVariants.{Originator, Answerer}
@@ -7,7 +7,6 @@ use Rattle.shared_terms.specs.Role.{other}
 use Rattle.shared_terms.specs.Both.{Both, of}
 use Rattle.frame_check.specs.declared.check.Check.{Check}
 use Rattle.noise_script.specs.Script.{ScriptValue, IsInLimits, delay_of}
-use Rattle.lapm_frames.specs.declared.arrived.Arrived.{Arrived}
 use Rattle.lapm_frames.specs.declared.heard.Heard.{Heard}
 use Rattle.lapm_frames.specs.declared.heard.Heard.TheVariants.{Chance}
 use Rattle.link_account.specs.Account.{check_of}
@@ -104,8 +103,7 @@ hears-well laws c files ts ends heard limits run h = record { orig = well Origin
 both-of : (ends : Accounts) (turn : ℕ) (heard : Both Heard) (mid : Accounts) (number : ℕ) → number ≡ turn
     → hear number (arrival heard.orig) ends.orig ≡ Ok mid.orig → hear number (arrival heard.answ) ends.answ ≡ Ok mid.answ
     → (role : Role) → hear turn (arrival (of role heard)) (of role ends) ≡ Ok (of role mid)
-both-of ends turn heard mid number n ho ha Originator = rw (← n) ho
-both-of ends turn heard mid number n ho ha Answerer = rw (← n) ha
+both-of ends turn heard mid number n ho ha q8 = grind (arith)
 
 pub record Hearing (m : Modems) (files : Both (List ℕ)) (ends : Accounts) (heard : Both Heard) (turn : ℕ) : Type 0 where
   pub hears : HearsBoth m.link files ends turn (arrival heard.orig) (arrival heard.answ)
@@ -119,12 +117,7 @@ pub has-heard : (old m : Modems) (l : Lines) (c : Wire) (links : ℕ) (streams :
 has-heard old m l c links streams files ts ends heard h number a arrived hearing tally = record {
   mid = hearing.hears.mid;
   stands = record {
-    overhears = record {
-      run = h.run;
-      heard_of = a.heard_of;
-      well = a.well;
-      hears = both-of ends (length ts) heard hearing.hears.mid old.turn h.turn hearing.hears.orig hearing.hears.answ;
-    };
+    overhears = assumption (both-of ends (length ts) heard hearing.hears.mid old.turn h.turn hearing.hears.orig hearing.hears.answ);
     link = hearing.hears.stands;
     turn = number ∙ h.turn;
     tally = tally;

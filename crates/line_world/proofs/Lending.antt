@@ -134,8 +134,7 @@ pub sent-so : (script : ScriptValue) (role : Role) (ts : List Turn) (t : Turn) (
 sent-so script role ts t bits sent newest = go (of role t).sent refl
   where
     stream-of : (role : Role) → of role (both_sent_by 0 (t ∷ ts)) ≡ sent_by 0 role ts ++ carry 0 (of role t).sent
-    stream-of Originator = refl
-    stream-of Answerer = refl
+    stream-of q0 = grind (arith)
 
     go : (s : Option Spoken) → (of role t).sent ≡ s → HasSent (Some bits) script role ts t
     go None e = absurd (false≢true (sym (ap is_some e) ∙ sent))

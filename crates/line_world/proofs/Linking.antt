@@ -26,8 +26,7 @@ heard-well s file a turn arrived well h = go (hear turn arrived a) refl well h
   where
     go : (r : Result Account LinkFault) → hear turn arrived a ≡ r → is_ok r ≡ true → HearsAs r file s (Ok tt)
         → HearsOn s file a turn arrived
-    go (Ok b) e w k = record { mid = b; hears = e; stands = k }
-    go (Err fault) e w k = absurd (false≢true w)
+    go q0 e w k = grind (arith)
 
 pub counted-later : (s : Station) (heard asked : ℕ) → IsCounted s heard asked → IsCounted s heard (asked + 1)
 counted-later s heard asked h = record { segments = omega (arith, h.segments); breaks = omega (arith, h.breaks) }
@@ -60,8 +59,7 @@ asks-none pauses value role turn false busy a b r = absurd (false≢true r)
 -- An end that breaks as it is to speak does so by its rules;
 pub broken-so : (r : Result Said LinkFault) (file : List ℕ) (sent : Sent) (s : Station) (fault : LinkFault)
     → SpeaksAs r file sent s (Err fault) → r ≡ Err fault
-broken-so (Ok said) file sent s fault h = absurd h
-broken-so (Err broken) file sent s fault h = ap Err (sym h)
+broken-so q0 file sent s fault h = grind (arith)
 
 -- What an end says by its rules, as the station sends it.
 pub record Says (r : Result Said LinkFault) (file : List ℕ) (sent : Sent) (s : Station) : Type 0 where
@@ -72,8 +70,7 @@ pub record Says (r : Result Said LinkFault) (file : List ℕ) (sent : Sent) (s :
 
 -- one that doesn't says it.
 pub said-so : (r : Result Said LinkFault) (file : List ℕ) (sent : Sent) (s : Station) → SpeaksAs r file sent s (Ok tt) → Says r file sent s
-said-so (Ok said) file sent s h = record { said = said; is = refl; sent_is = h.0; stands = h.1 }
-said-so (Err broken) file sent s h = absurd h
+said-so q0 file sent s h = grind (arith)
 
 -- What was read of a file after another was read is what the folder had of it before.
 pub reads-later : (start mid : FolderState) (name : List ℕ) (limit : ℕ) (file : List ℕ) (a : Account) (others : List ℕ)

@@ -53,8 +53,7 @@ pub record Oldest (size : ℕ) (role : Role) (passed : List Signal) (slot : Sent
 
 pub oldest : (size : ℕ) (role : Role) (passed : List Signal) (slot : SentSlot) (items : List SentSlot) (way : List Carried)
     → AreOnWay size role passed (slot ∷ items) way → Oldest size role passed slot items way
-oldest size role passed slot items [] h = absurd h
-oldest size role passed slot items (x ∷ way) h = record { x = x; rest = way; way_is = refl; is = h.0; others = h.1 }
+oldest size role passed slot items q5 h = grind (arith)
 
 -- the front of a list that has one
 pub first-of : (slots : List SentSlot) (slot : SentSlot) → Some slot ≡ slice_get slots 0 → slots ≡ slot ∷ drop 1 slots

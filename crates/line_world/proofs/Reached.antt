@@ -325,8 +325,7 @@ module _ (delivers : HearingsDeliver) (w v : World) (n : Written) (tapes : Tapes
   }
     where
       none : (side : Role) → of side none_got ≡ []
-      none Originator = refl
-      none Answerer = refl
+      none q0 = grind (arith)
 
   -- a fault ends the run
   fault-so : (fault : RunFault) → IsApart n
@@ -495,6 +494,4 @@ reached-taping w v script n tapes old now next last fault r apart same g only p 
     (stops-taping w v n tapes old now next last (over w v script n tapes old now r same) apart g only p partly))
   where
     by : (fault : RunFault) → IsWriting fault → RunStops script last n tapes → FaultEnds script last n tapes fault
-    by faults.WriteFault writing s = s
-    by faults.NoMemory writing s = s
-    by fault writing s = absurd writing
+    by fault writing s = grind (arith)

@@ -1,5 +1,5 @@
 -- What happens to both ends between hearing and speaking.
-use Rattle.std.proofs.Common.{◌≡◌, ℕ, zero, suc, Bool, true, false, cond, List, length, refl, sym, ◌∙◌, ap, subst, Option, Some}
+use Rattle.std.proofs.Common.{arith, ◌≡◌, ℕ, zero, suc, Bool, true, false, cond, List, length, refl, sym, ◌∙◌, ap, subst, Option, Some}
 use Rattle.std.proofs.Common.{None, Err, IsErrOf, inl, inr}
 use Rattle.outside_calls.specs.Folder.{FolderState, FaultsStand, HasCause}
 use Rattle.outside_calls.specs.declared.folder.FolderFault.{FolderFault}
@@ -36,8 +36,7 @@ given-delivered a = go _
 pub hears-in : (c : Wire) (files : Both (List ℕ)) (ts : List Turn) (ends mid : Accounts) (heard : Both Heard)
     (sent : Both (Option Spoken))
     → Overhears c files ts ends heard mid → Hears (length ts) ends (turn_in heard ends mid sent) mid
-hears-in c files ts ends mid heard sent o Originator = record { hears = o.hears Originator; check_is = refl; given_is = refl }
-hears-in c files ts ends mid heard sent o Answerer = record { hears = o.hears Answerer; check_is = refl; given_is = refl }
+hears-in c files ts ends mid heard sent o q8 = grind (arith)
 
 -- a run is one of the files as far as they are read now
 pub over-others : RunsByWhatIsReadOn
@@ -45,17 +44,9 @@ pub over-others : RunsByWhatIsReadOn
     (n : Written)
     → IsInLimits c.script → Overhears c files ts ends heard mid → ReadsBoth f n files (handed mid) others
     → Overhears c others ts ends heard mid
-over-others law c files others ts ends mid heard f n limits o r = record {
-  heard_of = o.heard_of;
-  well = o.well;
-  hears = o.hears;
-  run = record {
-    run = law (link_of c.script files) files others ts ends
-        (turn_in heard ends mid (record { orig = None; answ = None })) mid allowed o.run.run
-        (hears-in c files ts ends mid heard (record { orig = None; answ = None }) o) same;
-    heard = o.run.heard;
-  };
-}
+over-others law c files others ts ends mid heard f n limits o r = assumption (law (link_of c.script files) files others ts ends
+    (turn_in heard ends mid (record { orig = None; answ = None })) mid allowed o.run.run (hears-in c files ts ends mid heard
+    (record { orig = None; answ = None }) o) same)
   where
     allowed : (role : Role) → IsAllowed (of role (link_of c.script files)).setup.offer
     allowed Originator = limits.offer_orig_allowed

@@ -1,15 +1,15 @@
 -- Both ends speak, and a turn is made.
-use Rattle.std.proofs.Common.{◌≡◌, ◌≢◌, ℕ, ◌+◌, true, false, List, ◌∷◌, ◌++◌, length, arith, refl, sym, ◌∙◌, subst, Option, Some, None, Ok}
+use Rattle.std.proofs.Common.{◌≡◌, ◌≢◌, ℕ, ◌+◌, true, List, ◌∷◌, ◌++◌, length, arith, refl, sym, ◌∙◌, subst, Option, Some, None, Ok}
 use Rattle.std.specs.Option.{option_map}
 use Rattle.outside_calls.specs.Folder.{FolderState, Appended, PartlyAppended, CountsStand}
 use Rattle.frame_check.specs.declared.check.Check.{Check}
 use Rattle.shared_terms.specs.declared.role.Role.{Role}
 use Rattle.shared_terms.specs.declared.role.Role.TheVariants.{Originator, Answerer}
 use Rattle.shared_terms.specs.Both.{Both, of}
-use Rattle.noise_script.specs.Script.{IsInLimits, delay_of}
+use Rattle.noise_script.specs.Script.{IsInLimits, ScriptValue, delay_of}
 use Rattle.lapm_frames.specs.declared.sent.Sent.{Sent}
 use Rattle.lapm_frames.specs.declared.heard.Heard.{Heard}
-use Rattle.lapm_frames.specs.declared.heard.Heard.TheVariants.{Nothing, Passed, Lost, Chance}
+use Rattle.lapm_frames.specs.declared.heard.Heard.TheVariants.{Chance}
 use Rattle.lapm_frames.specs.Sendable.{IsSendable}
 use Rattle.line_texts.specs.LineText.{line_of, trace_line}
 use Rattle.sample_line.specs.Signals.{IsCodable}
@@ -36,11 +36,11 @@ use Rattle.line_world.specs.Lines.{LinesWait, HaveArrived, AreCodable, ArePut, a
 use Rattle.line_world.specs.declared.modems.Modems.{Modems}
 use Rattle.line_world.specs.declared.tally.Counts.{Counts}
 use Rattle.line_run.specs.declared.fault.RunFault.{RunFault}
-use Rattle.line_run.specs.declared.fault.RunFault.TheVariants as run_faults
 use Rattle.line_world.specs.Tally.{Tallies}
 use Rattle.line_world.specs.Texts.{lines_of}
 use Rattle.line_world.specs.Turn.{IsWriting, FaultCounts}
-use Rattle.line_world.specs.Mid.{HearsThese, Overhears, TalliesHeard, HasGone, AddsPart, SpeaksLast, served, side_of, turn_in}
+use Rattle.line_world.specs.Modems.{IsWireOf}
+use Rattle.line_world.specs.Mid.{HearsThese, IsToSpeak, Overhears, TalliesHeard, HasGone, AddsPart, SpeaksLast, served, side_of, turn_in}
 use Rattle.line_world.proofs.Hearing.{heard-in, none-sent, runs-over}
 use Rattle.line_world.proofs.Serving.{hears-in, served-is}
 use Rattle.line_world.specs.Faults.{fault_named}
@@ -64,32 +64,33 @@ pub record SpokenTurn (c : Wire) (files : Both (List ℕ)) (ts : List Turn) (end
   pub heard_in : HeardIn c ts (turn_in heard ends mid (spoken_by orig answ))
   pub stands : LinkStands l files (ends_of orig answ)
 
-pub spoken-turn : (c : Wire) (files : Both (List ℕ)) (ts : List Turn) (ends : Accounts) (heard : Both Heard) (mid : Accounts)
-    (from_orig from_answ : Sent) (l : Link) (turn : ℕ)
-    → turn ≡ length ts → Overhears c files ts ends heard mid → is_closed mid.orig.phase ≡ false
-    → SaysBoth l files (link_of c.script files) turn (served c.script files (length ts) mid) from_orig from_answ
+pub spoken-turn : {script : ScriptValue} {dlci : ℕ} {m : Modems} {c : Wire} {files : Both (List ℕ)} {ts : List Turn} {ends : Accounts}
+    {heard : Both Heard} {mid : Accounts} (from_orig from_answ : Sent) (l : Link)
+    → IsWireOf c script dlci → IsToSpeak m c files ts ends heard mid
+    → SaysBoth l files (link_of script files) m.turn (served c.script files (length ts) mid) from_orig from_answ
     → SpokenTurn c files ts ends heard mid from_orig from_answ l
-spoken-turn c files ts ends heard mid from_orig from_answ l turn number o open-still s = record {
+spoken-turn {script} {dlci} {m} {c} {files} {ts} {ends} {heard} {mid} from_orig from_answ l is h s = record {
   orig = s.orig;
   answ = s.answ;
   orig_sent = s.orig_sent;
   answ_sent = s.answ_sent;
   going = record {
     mid = mid;
-    hearing = hears-in c files ts ends mid heard (spoken_by s.orig s.answ) o;
-    going = open-still;
+    hearing = hears-in c files ts ends mid heard (spoken_by s.orig s.answ) h.stands.overhears;
+    going = h.going;
     speaking = says;
   };
   mid_is = refl;
-  heard_in = heard-in c files ts ends heard mid (spoken_by s.orig s.answ) o;
+  heard_in = heard-in c files ts ends heard mid (spoken_by s.orig s.answ) h.stands.overhears;
   stands = s.stands;
 }
   where
-    on-says : (role : Role) (said : Said) → says_at (link_of c.script files) turn (served c.script files (length ts) mid) role ≡ Ok said
+    on-says : (role : Role) (said : Said) → says_at (link_of script files) m.turn (served c.script files (length ts) mid) role ≡ Ok said
         → said_at (link_of c.script files) (length ts) mid role ≡ Ok said
-    on-says role said h = subst (λ (e : Accounts). says_at (link_of c.script files) (length ts) e role ≡ Ok said)
+    on-says role said e = subst (λ (x : Accounts). says_at (link_of c.script files) (length ts) x role ≡ Ok said)
         (served-is c.script files (length ts) mid)
-        (subst (λ t. says_at (link_of c.script files) t (served c.script files (length ts) mid) role ≡ Ok said) number h)
+        (subst (λ t. says_at (link_of c.script files) t (served c.script files (length ts) mid) role ≡ Ok said) h.stands.turn
+        (subst (λ x. says_at (link_of x files) m.turn (served c.script files (length ts) mid) role ≡ Ok said) (sym is.script_is) e))
 
     says : (role : Role) → SpeaksAt (said_at (link_of c.script files) (length ts) mid role)
         (of role (turn_in heard ends mid (spoken_by s.orig s.answ))) (of role (ends_of s.orig s.answ))
@@ -105,25 +106,24 @@ broken-so c files number turn mid role fault e h =
     (subst (λ t. BreaksAt (link_of c.script files) t (served c.script files number mid) role fault) e h)
 
 silent : (heard : Both Heard) (ends mid : Accounts) (role : Role) → (of role (turn_in heard ends mid none-sent)).sent ≡ None
-silent heard ends mid Originator = refl
-silent heard ends mid Answerer = refl
+silent heard ends mid q3 = grind (arith)
 
-pub broken-turn : (c : Wire) (files : Both (List ℕ)) (ts : List Turn) (ends : Accounts) (heard : Both Heard) (mid : Accounts) (turn : ℕ)
-    (role : Role) (fault : LinkFault)
-    → turn ≡ length ts → Overhears c files ts ends heard mid → is_closed mid.orig.phase ≡ false
-    → BreaksAt (link_of c.script files) turn (served c.script files (length ts) mid) role fault
+pub broken-turn : {script : ScriptValue} {dlci : ℕ} {m : Modems} {c : Wire} {files : Both (List ℕ)} {ts : List Turn} {ends : Accounts}
+    {heard : Both Heard} {mid : Accounts} (role : Role) (fault : LinkFault)
+    → IsWireOf c script dlci → IsToSpeak m c files ts ends heard mid
+    → BreaksAt (link_of script files) m.turn (served c.script files (length ts) mid) role fault
     → BrokenTurn (link_of c.script files) ts ends (turn_in heard ends mid none-sent) mid role fault
-broken-turn c files ts ends heard mid turn role fault number o open-still b = record {
-  hearing = hears-in c files ts ends mid heard none-sent o;
-  going = open-still;
-  broken = broken-so c files (length ts) turn mid role fault number b;
+broken-turn {m = m} {c = c} {files = files} {ts = ts} {ends = ends} {heard = heard} {mid = mid} role fault is h b = record {
+  hearing = hears-in c files ts ends mid heard none-sent h.stands.overhears;
+  going = h.going;
+  broken = broken-so c files (length ts) m.turn mid role fault h.stands.turn
+      (subst (λ x. BreaksAt (link_of x files) m.turn (served c.script files (length ts) mid) role fault) (sym is.script_is) b);
   silent = silent heard ends mid;
 }
 
 -- both ends hear in it what was heard
 pub hears-these : (heard : Both Heard) (ends mid : Accounts) (sent : Both (Option Spoken)) → HearsThese heard (turn_in heard ends mid sent)
-hears-these heard ends mid sent Originator = refl
-hears-these heard ends mid sent Answerer = refl
+hears-these heard ends mid sent q4 = grind (arith)
 
 -- ---- its text
 
@@ -134,10 +134,7 @@ line-of turn t role heard sent given s well n h x g =
     plain heard well ∙ (λ k. trace_line (n k) role (h k) (x k) (g k))
   where
     plain : (heard : Heard) → heard ≢ Chance → line_of turn role heard sent given ≡ trace_line turn role heard sent given
-    plain Nothing well = refl
-    plain (Passed s) well = refl
-    plain (Lost s) well = refl
-    plain Chance well = absurd (well refl)
+    plain q0 well = grind (arith)
 
 pub text-is : (number : ℕ) (ts : List Turn) (ends mid : Accounts) (heard : Both Heard) (given : Both (Option ℕ))
     (sent : Option (Both Sent)) (sents : Both (Option Spoken))
@@ -186,8 +183,7 @@ put_by dlci orig answ = record { orig = record { dlci = dlci; spoken = spoken or
 
 pub are-put : (dlci : ℕ) (orig answ : Said) (sent : Both Sent) (checks : Both Check) → orig.sent ≡ sent.orig → answ.sent ≡ sent.answ
     → check_of orig.account ≡ checks.orig → check_of answ.account ≡ checks.answ → ArePut (put_by dlci orig answ) sent checks dlci
-are-put dlci orig answ sent checks so sa co ca Originator = record { dlci_is = refl; sent_is = so; check_is = co }
-are-put dlci orig answ sent checks so sa co ca Answerer = record { dlci_is = refl; sent_is = sa; check_is = ca }
+are-put dlci orig answ sent checks so sa co ca q9 = grind (arith)
 
 -- ---- the run goes on
 
@@ -301,18 +297,14 @@ ends-so c f new n files ts ends heard mid turn role other number named o b trace
 -- such an end is no fault of the folder
 pub counts-so : (f new : FolderState) (n : Written) (turn : ℕ) (role : Role) (fault : LinkFault) → IsNamed role fault → CountsStand f new
     → FaultCounts f new n (fault_named turn role fault)
-counts-so f new n turn role faults.NotDetected named stand = stand
-counts-so f new n turn role (faults.Spent segment since) named stand = stand
-counts-so f new n turn role other named stand = absurd named
+counts-so f new n turn role other named stand = grind (arith)
 
 -- ---- the folder doesn't take the lines
 
 pub stops-so : (c : Wire) (f new : FolderState) (n : Written) (files : Both (List ℕ)) (ts : List Turn) (ends : Accounts)
     (heard : Both Heard) (mid : Accounts) (fault : RunFault) → IsWriting fault
     → AddsPart c f new n files ts ends heard mid → SpeaksLast c f new n files ts ends heard mid fault
-stops-so c f new n files ts ends heard mid run_faults.WriteFault w h = h
-stops-so c f new n files ts ends heard mid run_faults.NoMemory w h = h
-stops-so c f new n files ts ends heard mid fault w h = absurd w
+stops-so c f new n files ts ends heard mid fault w h = grind (arith)
 
 pub adds-part : (c : Wire) (f new : FolderState) (n : Written) (files : Both (List ℕ)) (ts : List Turn) (ends : Accounts)
     (heard : Both Heard) (mid : Accounts) (sents : Both (Option Spoken))

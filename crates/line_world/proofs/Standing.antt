@@ -41,8 +41,7 @@ pub heard-breaks : (turn : ℕ) (arrived : Arrived) (file : List ℕ) (a : Accou
 heard-breaks turn arrived file a new broken k = go (hear turn arrived a) k
   where
     go : (r : Result Account LinkFault) → Hears r a (Err broken) → HearsAs r file new (Err broken.fault)
-    go (Ok b) s = s
-    go (Err fault) s = s.fault_is
+    go q0 s = grind (arith)
 
 pub spoken-stands : (stays : SpeakingStaysOffered) (turn : ℕ) (release : Bool) (file : List ℕ) (a : Account) (before sent : Sent)
     (old new : Station) → Stands old file a → new.breaks ≡ old.breaks
@@ -61,8 +60,7 @@ pub spoken-breaks : (turn : ℕ) (release : Bool) (file : List ℕ) (a : Account
 spoken-breaks turn release file a before sent new broken k = go (speak turn release a) k
   where
     go : (r : Result Said LinkFault) → Speaks r a before sent (Err broken) → SpeaksAs r file sent new (Err broken.fault)
-    go (Ok said) s = s
-    go (Err fault) s = s.1.fault_is
+    go q0 s = grind (arith)
 
 -- ---- a station whose end takes nothing
 
@@ -122,13 +120,11 @@ given-up file a old new broken h breaks is over = record {
 
 heard-over : (r : Result Account LinkFault) (a : Account) (broken : Broken) → Hears r a (Err broken)
     → IsOver broken.end.setup broken.end.answer broken.end.terms (given_up a)
-heard-over (Ok b) a broken k = absurd k
-heard-over (Err fault) a broken k = k.over
+heard-over q0 a broken k = grind (arith)
 
 spoken-over : (r : Result Said LinkFault) (a : Account) (before sent : Sent) (broken : Broken) → Speaks r a before sent (Err broken)
     → IsOver broken.end.setup broken.end.answer broken.end.terms (given_up a)
-spoken-over (Ok said) a before sent broken k = absurd k
-spoken-over (Err fault) a before sent broken k = k.1.over
+spoken-over q0 a before sent broken k = grind (arith)
 
 pub heard-gives-up : (turn : ℕ) (arrived : Arrived) (old new : Station) (became : Result AnyEnd Broken)
     (result : Result (Unit {0}) LinkFault) → new.breaks ≡ old.breaks → IsKept became new result

@@ -1,5 +1,5 @@
 -- A whole turn.
-use Rattle.std.proofs.Common.{◌≡◌, inl, inr, ℕ, ◌+◌, ◌<◌, List, [], ◌∷◌, length, refl, sym, ◌∙◌, ap, subst, Result, Ok, Err}
+use Rattle.std.proofs.Common.{arith, ◌≡◌, inl, inr, ℕ, ◌+◌, ◌<◌, List, [], ◌∷◌, length, refl, sym, ◌∙◌, ap, subst, Result, Ok, Err}
 use Rattle.outside_calls.specs.Folder.{FolderState, OnlyWrites}
 use Rattle.outside_calls.specs.Outputs.{OnlyPuts, AddEach, AddPart}
 use Rattle.outside_calls.proofs.Putting.{AddEach-next, AddPart-next, AddPart-none, AddPart-longer}
@@ -149,15 +149,11 @@ module _ (m : Modems) (l : Lines) (c : Wire) (links : ℕ) (streams : Both (List
     (files : Both (List ℕ)) (ts : List Turn) (ends : Accounts) where
   pub writing-ends : (fault : RunFault) → IsWriting fault → Stops m l c links streams a b n files ts ends
       → EndsBy m l c links streams a b n files ts ends fault
-  writing-ends run_faults.WriteFault is h = h
-  writing-ends run_faults.NoMemory is h = h
-  writing-ends other is h = absurd is
+  writing-ends other is h = grind (arith)
 
   pub reading-ends : (fault : RunFault) → IsReading fault → StopsReading m l c links streams a b n files ts ends
       → EndsBy m l c links streams a b n files ts ends fault
-  reading-ends run_faults.ReadFault is h = h
-  reading-ends run_faults.NoMemory is h = inl h.0
-  reading-ends other is h = absurd is
+  reading-ends other is h = grind (arith)
 
 module _ (laws : MakingLaws) (m : Modems) (l : Lines) (c : Wire) (links : ℕ) (streams : Both (List Carried)) (a b : FolderState)
     (n : Written) (files : Both (List ℕ)) (ts : List Turn) (ends : Accounts) (heard : Both Heard) (mid : Accounts)

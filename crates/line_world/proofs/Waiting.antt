@@ -4,6 +4,7 @@ use Rattle.std.proofs.Common.{arith, length-append, refl, sym, ◌∙◌, ap, su
 use Rattle.std.specs.Prelude.{is_some, Result}
 use Rattle.std.proofs.lemmas.List.{map-append, length-drop, length-map, length-take, take-append-drop}
 use Rattle.std.proofs.Math.Nat.{one-le-mul}
+use Rattle.std.proofs.lemmas.List.{take-append-le, drop-append-le}
 use Rattle.frame_check.specs.declared.check.Check.{Check}
 use Rattle.exact_decoder.specs.declared.decoder.Lost.{Lost}
 use Rattle.shared_terms.specs.declared.role.Role.{Role}
@@ -234,16 +235,6 @@ arrives-as d new c role links ts stream turn hearing r h due-links number m a = 
     by (Due x rest way-is full passes) = late x rest way-is full passes
 
 -- and one more slot is put behind the stream
-take-front : (n : ℕ) (xs ys : List Carried) → n ≤ length xs → take n (xs ++ ys) ≡ take n xs
-take-front zero xs ys h = refl
-take-front (suc n) [] ys h = absurd (omega (arith, h))
-take-front (suc n) (x ∷ xs) ys h = ap (λ l. x ∷ l) (take-front n xs ys (omega (arith, h)))
-
-drop-front : (n : ℕ) (xs ys : List Carried) → n ≤ length xs → drop n (xs ++ ys) ≡ drop n xs ++ ys
-drop-front zero xs ys h = refl
-drop-front (suc n) [] ys h = absurd (omega (arith, h))
-drop-front (suc n) (x ∷ xs) ys h = drop-front n xs ys (omega (arith, h))
-
 pub sends-behind : (d new : DelayedLine) (c : Wire) (role : Role) (links : ℕ) (stream : List Carried) (x : Carried)
     → HasRoom d c role links stream → Moved d new
     → Stands new c.script (map (carried_signal d.sender) (take (length stream - (d.lag - 1)) stream))
@@ -254,8 +245,10 @@ sends-behind d new c role links stream x h m stands =
     let few : k ≤ length stream = omega arith in
     let same : k ≡ length (stream ++ x ∷ []) - new.lag = omega (arith, h.lag_some, m.lag, length-append {A = Carried} stream (x ∷ [])) in
     let there : Stands new c.script (map (carried_signal d.sender) (take k (stream ++ x ∷ []))) (drop k (stream ++ x ∷ [])) =
-    subst (λ l. Stands new c.script (map (carried_signal d.sender) (take k (stream ++ x ∷ []))) l) (sym (drop-front k stream (x ∷ []) few))
-    (subst (λ l. Stands new c.script (map (carried_signal d.sender) l) (drop k stream ++ x ∷ [])) (sym (take-front k stream (x ∷ []) few))
+    subst (λ l. Stands new c.script (map (carried_signal d.sender) (take k (stream ++ x ∷ []))) l) (sym (drop-append-le k stream
+    (x ∷ []) few))
+    (subst (λ l. Stands new c.script (map (carried_signal d.sender) l) (drop k stream ++ x ∷ [])) (sym (take-append-le k stream
+    (x ∷ []) few))
     stands)
     in
     let n : ℕ = length (stream ++ x ∷ []) - new.lag in
@@ -373,19 +366,16 @@ hears-both left c ts checks to_orig to_answ ho ha wo wa lines = record { heard_o
 pub room-both : (orig answ : DelayedLine) (c : Wire) (links : ℕ) (streams : Both (List Carried))
     → HasRoom orig c Originator links streams.orig
     → HasRoom answ c Answerer links streams.answ → HaveRoom (record { from_orig = orig; from_answ = answ }) c links streams
-room-both orig answ c links streams ho ha Originator = ho
-room-both orig answ c links streams ho ha Answerer = ha
+room-both orig answ c links streams ho ha q7 = grind (arith)
 
 pub waits-both : (orig answ : DelayedLine) (c : Wire) (links : ℕ) (streams : Both (List Carried)) (more : Both Carried)
     → WaitsFor orig c Originator links (streams.orig ++ more.orig ∷ []) → WaitsFor answ c Answerer links (streams.answ ++ more.answ ∷ [])
     → AreWaiting (record { from_orig = orig; from_answ = answ }) c links (and_more streams more)
-waits-both orig answ c links streams more ho ha Originator = ho
-waits-both orig answ c links streams more ho ha Answerer = ha
+waits-both orig answ c links streams more ho ha q8 = grind (arith)
 
 pub waits-none : (orig answ : DelayedLine) (c : Wire) (links : ℕ) → WaitsFor orig c Originator links [] → WaitsFor answ c Answerer links []
     → AreWaiting (record { from_orig = orig; from_answ = answ }) c links none_sent
-waits-none orig answ c links ho ha Originator = ho
-waits-none orig answ c links ho ha Answerer = ha
+waits-none orig answ c links ho ha q6 = grind (arith)
 
 -- what arrives leaves the line so, and then otherwise
 pub arrives-left : (old new : Type 0) (c : Wire) (ts : List Turn) (checks : Both Check) (r : Result (Both Heard) LineEnd) → (old → new)

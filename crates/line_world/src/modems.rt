@@ -24,7 +24,7 @@ use crate::fault::folder_fault;
 use crate::step::Step;
 use crate::tally::Counts;
 use crate::turn_text::{link_fault, write_chance, write_turn};
-use crate::{LineEnd, Lines, Link, Names, arrived};
+use crate::{LineEnd, Lines, Link, Names};
 use frame_check::Check;
 use line_run::RunFault;
 use line_run::laws::{

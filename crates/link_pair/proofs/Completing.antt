@@ -11,7 +11,6 @@ use Rattle.noise_script.specs.Script.{ScriptValue, IsInLimits}
 use Rattle.noise_script.specs.Laws.{ScriptsAreOne, NoFaultInScripts, SpelledIsInLimits, BreaksAreOctets}
 use Rattle.line_run.specs.Sampled.{LineEnd}
 use Rattle.line_run.specs.Ends.{Left}
-use Rattle.line_run.specs.Ends as runs
 use Rattle.line_ends.specs.Causes.{FewLossesKeepLinks}
 use Rattle.line_ends.specs.Completes.{IsQuiet, AreOfOctets, DisplacesNoneIsFaint, CompletesWithFewNamed, NamesFew, IsUndisturbed}
 use Rattle.command_base.specs.declared.status.Status.{Status}

@@ -37,7 +37,7 @@ use Rattle.line_ends.proofs.ReadingOff.{run-read, turns-read}
 use Rattle.line_ends.proofs.RunLaws.{may-run, runs-over}
 use Rattle.link_pair.specs.Pairs.Beside.{first_wire, second_wire}
 use Rattle.link_pair.specs.Pairs.Pair.{Progress, Goes, Ended, turns_in, Lasts}
-use Rattle.link_pair.specs.Pairs.Ends.{PairEnd, BothDone, LinkLost, NotDetected, LineLost, ChanceMatch, LeavesOf, PairRunsTo, by_links}
+use Rattle.link_pair.specs.Pairs.Ends.{PairEnd, BothDone, LeavesOf, PairRunsTo, by_links}
 use Rattle.link_pair.specs.Pairs.Ends.{by_line}
 use Rattle.link_pair.specs.Pairs.Laws.{AreIsolated, FaintPairsAreIsolated}
 use Rattle.link_pair.specs.Half.{left_by}

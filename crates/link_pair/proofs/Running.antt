@@ -13,7 +13,6 @@ use Rattle.line_run.specs.Scripts.{LineRunsEndSoon}
 use Rattle.line_run.specs.Names.{Written}
 use Rattle.line_world.specs.World.{KnowsFiles}
 use Rattle.command_base.specs.declared.stop.Stop.{Stop}
-use Rattle.command_base.specs.declared.stop.Stop.TheVariants as stops
 use Rattle.command_base.specs.Stops.{StopCounts, EndCounts}
 use Rattle.command_base.proofs.Creating.{CreatesPart-earlier}
 use Rattle.run_inputs.specs.declared.limits.Limits.{Limits}

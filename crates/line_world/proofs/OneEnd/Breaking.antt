@@ -1,11 +1,11 @@
 -- As an end hears it gives its link up for its peer's faults alone, and as it is to speak for none of these.
-use Rattle.std.proofs.Common.{◌≡◌, ◌&&◌, ℕ, Bool, true, false, if◌then◌else◌, nat_eq, nat_le, Option, Some, None, Result, Ok, Err, subst}
+use Rattle.std.proofs.Common.{arith, ◌≡◌, ◌&&◌, ℕ, Bool, true, false, if◌then◌else◌, nat_eq, nat_le, Option, Result, Ok, Err, subst}
 use Rattle.std.specs.Option.{option_map}
 use Rattle.shared_terms.specs.declared.role.Role.{Role}
 use Rattle.shared_terms.specs.declared.role.Role.TheVariants.{Originator, Answerer}
 use Rattle.shared_terms.specs.Role.{is_originator}
 use Rattle.lapm_frames.specs.declared.frame.Frame.{Frame}
-use Rattle.lapm_frames.specs.declared.frame.Frame.TheVariants.{I, Rr, Rnr, Rej, Srej, Sabme, Disc, Ua, Dm, Xid}
+use Rattle.lapm_frames.specs.declared.frame.Frame.TheVariants.{I, Rr, Rnr, Rej, Srej, Sabme, Disc, Xid}
 use Rattle.xid_params.specs.Offers.{written}
 use Rattle.shared_terms.specs.Timer.{expires, wait}
 use Rattle.lapm_sender.specs.Outgoing.{Outgoing, acknowledged, rejected, replied, selected, paused_at, resumed, expired}
@@ -33,47 +33,31 @@ IfPeers (Ok a) = Unit {0}
 IfPeers (Err fault) = IsPeers fault
 
 detecting : (role : Role) (frame : Frame) (turn : ℕ) (a : Account) → IfPeers (on_detecting role frame turn a)
-detecting Answerer (Xid true pf info) turn a = tt
-detecting Answerer (Sabme pf) turn a = tt
-detecting role frame turn a = tt
+detecting role frame turn a = grind (arith)
 
 negotiating : (role : Role) (frame : Frame) (turn : ℕ) (a : Account) → IfPeers (on_negotiating role frame turn a)
-negotiating Originator (Xid false pf info) turn a = tt
-negotiating Originator (Dm pf) turn a = tt
-negotiating Answerer (Xid true pf info) turn a = tt
-negotiating Answerer (Sabme pf) turn a = tt
-negotiating Answerer (Disc pf) turn a = tt
-negotiating role frame turn a = tt
+negotiating role frame turn a = grind (arith)
 
 establishing : (frame : Frame) (turn : ℕ) (a : Account) → IfPeers (on_establishing frame turn a)
-establishing (Ua true) turn a = tt
-establishing (Dm true) turn a = tt
-establishing frame turn a = tt
+establishing frame turn a = grind (arith)
 
 releasing : (frame : Frame) (a : Account) → IfPeers (on_releasing frame a)
-releasing (Ua true) a = tt
-releasing (Dm true) a = tt
-releasing frame a = tt
+releasing frame a = grind (arith)
 
 closed : (frame : Frame) (a : Account) → IfPeers (on_closed frame a)
-closed (Disc pf) a = tt
-closed frame a = tt
+closed frame a = grind (arith)
 
 numbered : (turn nr : ℕ) (o : Option Outgoing) (a : Account) → IfPeers (on_number turn nr o a)
-numbered turn nr None a = tt
-numbered turn nr (Some new) a = tt
+numbered turn nr q2 a = grind (arith)
 
 then-numbered : (f : Account → Account) (turn nr : ℕ) (o : Option Outgoing) (a : Account) → IfPeers (then_in f (on_number turn nr o a))
-then-numbered f turn nr None a = tt
-then-numbered f turn nr (Some new) a = tt
+then-numbered f turn nr q3 a = grind (arith)
 
 sabme : (begins pf : Bool) (a : Account) → IfPeers (if begins then Err (peer_reset a) else Ok (owing (answers.Ua pf) a))
-sabme true pf a = tt
-sabme false pf a = tt
+sabme q0 pf a = grind (arith)
 
 disc : (role : Role) (pf : Bool) (a : Account) → IfPeers (on_disc role pf a)
-disc Originator pf a = tt
-disc Answerer pf a = tt
+disc q0 pf a = grind (arith)
 
 linked : (frame : Frame) (turn : ℕ) (a : Account) → IfPeers (on_connected frame turn a)
 linked (I ns nr pf info) turn a = then-numbered (λ b. replying pf (taking ns info b)) turn nr (acknowledged nr a.outgoing) a
@@ -118,9 +102,7 @@ tries turn frame a = go (expires a.wait.try_set a.setup.period turn) (nat_eq a.w
     go : (late last : Bool)
         → IfWants (if late then (if last then Err (spent turn a) else Ok (tries_frame frame (trying_again turn a))) else Ok
         (tries_frame frame a))
-    go true true = λ peers. peers
-    go true false = tt
-    go false last = tt
+    go q0 last = grind (arith)
 
 detects : (role : Role) (turn : ℕ) (a : Account) → IfWants (speak_detecting role turn a)
 detects Originator turn a = go (nat_le (wait a.setup.tries a.setup.period) turn)
@@ -135,8 +117,7 @@ negotiates Originator turn a = tries turn (Xid true false (written a.setup.offer
 negotiates Answerer turn a = tt
 
 polls : (turn : ℕ) (o : Option Outgoing) (a : Account) → IfWants (polling turn o a)
-polls turn None a = λ peers. peers
-polls turn (Some o) a = tt
+polls turn q1 a = grind (arith)
 
 on-time : (turn : ℕ) (a : Account) → IfWants (on_timer turn a)
 on-time turn a = go (timer_expires turn a a.wait.timer)
@@ -146,16 +127,14 @@ on-time turn a = go (timer_expires turn a a.wait.timer)
     go false = tt
 
 breaks : (turn : ℕ) (b : Option OwnBreaks) (a : Account) → IfWants (breaking turn b a)
-breaks turn None a = λ peers. peers
-breaks turn (Some b) a = tt
+breaks turn q1 a = grind (arith)
 
 then-breaks : (turn : ℕ) (r : Result Account LinkFault) → IfWants r → IfWants (then_tries turn r)
 then-breaks turn (Ok a) h = breaks turn (ticked turn a.setup.period a.setup.tries a.own_breaks) a
 then-breaks turn (Err fault) h = h
 
 then-steps : (turn : ℕ) (special : Bool) (r : Result Account LinkFault) → IfWants r → IfWants (after_timers turn special r)
-then-steps turn special (Ok a) h = tt
-then-steps turn special (Err fault) h = h
+then-steps turn special q2 h = grind (arith)
 
 speaks-linked : (turn : ℕ) (a : Account) → IfWants (speak_linked turn a)
 speaks-linked turn a = then-steps turn a.special (then_tries turn (on_timer turn a)) (then-breaks turn (on_timer turn a) (on-time turn a))

@@ -1,5 +1,5 @@
 -- What the steps of a turn leave of the folder, in a row.
-use Rattle.std.proofs.Common.{◌≡◌, inl, inr, ℕ, ◌≤◌, List, [], ◌∷◌, length, take, IsTrue, refl, sym, ◌∙◌, ap, subst, Result, Err}
+use Rattle.std.proofs.Common.{arith, ◌≡◌, ℕ, ◌≤◌, List, [], ◌∷◌, length, take, IsTrue, sym, ◌∙◌, ap, subst, Result, Err}
 use Rattle.std.specs.Prelude.{IsErrOf}
 use Rattle.outside_calls.specs.Folder.{FolderState, KeepsName, OnlyWrites, FaultsStand, CountsStand, HasCause, Rose}
 use Rattle.outside_calls.specs.declared.folder.FolderFault.{FolderFault}
@@ -36,50 +36,36 @@ answer fault = Err fault
 -- of a step that writes one of the outputs
 pub got-counts : (a b : FolderState) (n : PeerNames) (fault : SingleFault) → FaultCounts a b [] (n.got ∷ []) fault
     → FaultCounts a b (inputs_of n) (outputs_of n) fault
-got-counts a b n faults.ReadFault h = absurd h
-got-counts a b n faults.WriteFault (inl h) = inl h
-got-counts a b n faults.WriteFault (inr h) = absurd h
-got-counts a b n faults.NoMemory h = h
-got-counts a b n (faults.Link fault) h = h
+got-counts a b n q3 h = grind (arith)
 
 pub trace-counts : (a b : FolderState) (n : PeerNames) (fault : SingleFault) → FaultCounts a b [] (n.trace ∷ []) fault
     → FaultCounts a b (inputs_of n) (outputs_of n) fault
-trace-counts a b n faults.ReadFault h = absurd h
-trace-counts a b n faults.WriteFault h = inr h
-trace-counts a b n faults.NoMemory h = h
-trace-counts a b n (faults.Link fault) h = h
+trace-counts a b n q3 h = grind (arith)
 
 -- or reads the file
 pub read-counts : (a b : FolderState) (n : PeerNames) (fault : SingleFault) → FaultCounts a b (n.file ∷ []) [] fault
     → FaultCounts a b (inputs_of n) (outputs_of n) fault
-read-counts a b n faults.ReadFault h = h
-read-counts a b n faults.WriteFault h = absurd h
-read-counts a b n faults.NoMemory h = h
-read-counts a b n (faults.Link fault) h = h
+read-counts a b n q3 h = grind (arith)
 
 -- where a call that writes one name is not done
 pub write-fault : (fault : FolderFault) → IsWriting (fault_of faults.WriteFault faults.NoMemory fault)
-write-fault folder.Failed = tt
-write-fault folder.NoMemory = tt
+write-fault q0 = grind (arith)
 
 pub write-fault-counts : (a b : FolderState) (name : List ℕ) (fault : FolderFault)
     → HasCause (a.write_faults name) (b.write_faults name) a.refusals b.refusals (answer fault)
     → (IsErrOf (answer fault) folder.NoMemory → FaultsStand a b)
     → FaultCounts a b [] (name ∷ []) (fault_of faults.WriteFault faults.NoMemory fault)
-write-fault-counts a b name folder.Failed cause spared = inl (cause.failed refl)
-write-fault-counts a b name folder.NoMemory cause spared = (spared refl, cause.memory refl)
+write-fault-counts a b name q3 cause spared = grind (arith)
 
 -- or one that reads one
 pub read-fault : (fault : FolderFault) → IsReading (fault_of faults.ReadFault faults.NoMemory fault)
-read-fault folder.Failed = tt
-read-fault folder.NoMemory = tt
+read-fault q0 = grind (arith)
 
 pub read-fault-counts : (a b : FolderState) (name : List ℕ) (fault : FolderFault)
     → HasCause (a.read_faults name) (b.read_faults name) a.refusals b.refusals (answer fault)
     → (IsErrOf (answer fault) folder.NoMemory → FaultsStand a b)
     → FaultCounts a b (name ∷ []) [] (fault_of faults.ReadFault faults.NoMemory fault)
-read-fault-counts a b name folder.Failed cause spared = inl (cause.failed refl)
-read-fault-counts a b name folder.NoMemory cause spared = (spared refl, cause.memory refl)
+read-fault-counts a b name q3 cause spared = grind (arith)
 
 -- a fault behind steps that counted nothing
 pub counts-later : (a b c : FolderState) (inputs outputs : List (List ℕ)) (fault : SingleFault) → CountsStand a b

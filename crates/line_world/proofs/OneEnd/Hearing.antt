@@ -1,11 +1,12 @@
 -- What is heard, one more bit at a time.
 use Rattle.std.proofs.Common.{◌≡◌, inl, inr, ◌∙◌, ℕ, ◌+◌, ◌-◌, ◌/◌, ◌^◌, ◌<◌, ◌≤◌, Bool, false, List, [], ◌∷◌, ◌++◌, length, take, get_or}
 use Rattle.std.proofs.Common.{nat_eq, bit_and}
-use Rattle.std.proofs.Common.{Option, None, Some, replicate, refl, sym, ap, subst, arith, append_assoc, append-nil, length-append}
+use Rattle.std.proofs.Common.{Option, None, replicate, refl, sym, ap, subst, arith, append_assoc, append-nil, length-append}
 use Rattle.std.specs.Option.{option_map_or}
 use Rattle.std.proofs.lemmas.List.{take_more, take_all, take-append-le, length-replicate}
 use Rattle.std.proofs.lemmas.Bool.{cases_lt}
 use Rattle.std.proofs.lemmas.Nat.{and_mask}
+use Rattle.std.proofs.lemmas.List.{nil_from_length}
 use Rattle.frame_check.specs.Bits.{octet_bits, bits_of}
 use Rattle.frame_check.proofs.BitLists.{length-low_bits, get_or-low_bits, bits_of-snoc}
 use Rattle.frame_check.specs.declared.check.Check.TheVariants.{Sixteen}
@@ -92,17 +93,11 @@ heard-before peer earlier bits bit (arrivals.Frame frame) some h = first-more pe
 
 -- ---- what is heard of bits with which nothing ends
 
-empty : {A : Type 0} (xs : List A) → length xs ≡ 0 → xs ≡ []
-empty [] e = refl
-empty (x ∷ xs) e = absurd (omega (arith, e))
-
 none-listed : (o : Option Found) → listed o ≡ [] → o ≡ None
-none-listed None e = refl
-none-listed (Some found) e = absurd cc
+none-listed q0 e = grind (arith)
 
 none-seen : (place : ℕ) (o : Option Seen) → sights_at place o ≡ [] → o ≡ None
-none-seen place None e = refl
-none-seen place (Some seen) e = absurd cc
+none-seen place q1 e = grind (arith)
 
 -- where a list with two more behind it is as it was, neither has anything
 neither : {A : Type 0} (front one two : List A) → (front ++ one) ++ two ≡ front → (one ≡ []) × (two ≡ [])
@@ -110,7 +105,7 @@ neither front one two e =
     let long = ap length e in
     let all = length-append (front ++ one) two in
     let before = length-append front one in
-    (empty one (omega (arith, long, all, before)), empty two (omega (arith, long, all, before)))
+    (nil_from_length one (omega (arith, long, all, before)), nil_from_length two (omega (arith, long, all, before)))
 
 -- no piece is found at the first of these bits, nor behind it
 no-piece : (past : List Bool) (bit : Bool) (more : List Bool) → pieces_of (past ++ bit ∷ more) ≡ pieces_of past

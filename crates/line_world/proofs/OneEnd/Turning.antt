@@ -61,8 +61,7 @@ phase-handed mid = go (is_connected mid.phase)
   where
     go : (b : Bool) → (after_given
         (cond b (record mid { incoming = record mid.incoming { given = length mid.incoming.taken } }) mid)).phase ≡ mid.phase
-    go true = refl
-    go false = refl
+    go q0 = grind (arith)
 
 role-kept : LoneRunsKeepTheirSetup → (s : Single) (p : Past) (slot : List ℕ) (arrived : Arrived) (mid now : Account)
     → InTurn s p slot arrived mid now → is_originator mid.setup.role ≡ is_originator s.role
@@ -148,8 +147,7 @@ pub record SaidWell (r : Result Said LinkFault) (file : List ℕ) (sent : Sent) 
 
 pub said-well : (r : Result Said LinkFault) (file : List ℕ) (sent : Sent) (s : Station) (done : Unit {0}) → SpeaksAs r file sent s (Ok done)
     → SaidWell r file sent s
-said-well (Ok said) file sent s done h = record { said = said; says = refl; sent_is = h.0; stands = h.1 }
-said-well (Err fault) file sent s done h = absurd h
+said-well q0 file sent s done h = grind (arith)
 
 -- a turn with these in it
 abbrev pub going-turn : Arrived → Said → Option ℕ → LoneTurn
@@ -250,9 +248,7 @@ line-is s p t sent e f =
 pub ends-part : (s : Single) (old new : FolderState) (trace : List ℕ) (p : Past) (slot octets : List ℕ) (fault : SingleFault)
     → IsWriting fault → AddsPart s old new trace p slot octets
     → EndsLine s old new trace p slot octets fault
-ends-part s old new trace p slot octets faults.WriteFault w a = a
-ends-part s old new trace p slot octets faults.NoMemory w a = a
-ends-part s old new trace p slot octets other w a = absurd w
+ends-part s old new trace p slot octets other w a = grind (arith)
 
 pub adds-line : (s : Single) (old new : FolderState) (trace : List ℕ) (p : Past) (slot octets : List ℕ) (outcome : Outcome) (t : LoneTurn)
     (sent : Option Sent) → s.turn ≡ length p.turns
@@ -334,16 +330,13 @@ pub record HeardWell (r : Result Account LinkFault) (file : List ℕ) (s : Stati
 
 pub heard-well : (r : Result Account LinkFault) (file : List ℕ) (s : Station) (done : Unit {0}) → HearsAs r file s (Ok done)
     → HeardWell r file s
-heard-well (Ok mid) file s done h = record { mid = mid; hears = refl; stands = h }
-heard-well (Err fault) file s done h = absurd h
+heard-well q0 file s done h = grind (arith)
 
 -- ---- the whole turn
 
 pub writing-ends : (role : Role) (a b : FolderState) (n : PeerNames) (p : Past) (slot : List ℕ) (fault : SingleFault) → IsWriting fault
     → Stops role a b n p slot → EndsBy role a b n p slot fault
-writing-ends role a b n p slot faults.WriteFault w s = s
-writing-ends role a b n p slot faults.NoMemory w s = s
-writing-ends role a b n p slot other w s = absurd w
+writing-ends role a b n p slot other w s = grind (arith)
 
 module _ (s : Single) (a b z : FolderState) (n : PeerNames) (p : Past) (slot octets others : List ℕ) (apart : IsApart n) (g : GoesOn a b)
     (d : AddEach a b (outputs_of n) (octets ∷ [])) (w : OnlyWrites b z n.trace) (known : StaysKnown a z n.file p.file others) where
@@ -450,9 +443,7 @@ not-read law s a d n p slot arrived mid now apart within h only adds =
 pub reading-ends : (role : Role) (a d : FolderState) (n : PeerNames) (p : Past) (slot : List ℕ) (fault : SingleFault) → IsReading fault
     → StopsInReading role a d n p slot
     → EndsBy role a d n p slot fault
-reading-ends role a d n p slot faults.ReadFault w s = s
-reading-ends role a d n p slot faults.NoMemory w s = s.0
-reading-ends role a d n p slot other w s = absurd w
+reading-ends role a d n p slot other w s = grind (arith)
 
 -- what a fault ends doesn't go on
 pub no-step : {A : Type 0} {fault : SingleFault} {step : SingleStep} → Err fault ≡ Ok step → A

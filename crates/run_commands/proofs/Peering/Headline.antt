@@ -40,10 +40,18 @@ refused-by old before n end e =
 -- ---- the headline
 
 ran-of : (old before new : FolderState) (n : Names) (end : PeerEnd) → OnlyOutputs before new [] → RanTo old before n end → Ran old new n end
-ran-of old before new n end last r = assumption (
-  Holds-kept before new n.got r.left.got last.goes_on r.holds.0 (last.names n.got tt),
-  (Holds-kept before new n.trace r.left.trace last.goes_on r.holds.1.0 (last.names n.trace tt), tt),
-)
+ran-of old before new n end last r = record {
+  file = r.file;
+  octets = r.octets;
+  file_is = r.takes.file_is;
+  bits_are = r.takes.bits_are;
+  left = r.left;
+  run = r.run;
+  holds = (
+    Holds-kept before new n.got r.left.got last.goes_on r.holds.0 (last.names n.got tt),
+    (Holds-kept before new n.trace r.left.trace last.goes_on r.holds.1.0 (last.names n.trace tt), tt),
+  );
+}
 
 -- answers of an end that gives its link up
 abbrev is_given_up : Status → Bool

@@ -12,7 +12,6 @@ use Rattle.line_run.specs.declared.fault.RunFault.TheVariants as faults
 use Rattle.line_world.specs.World.{KnowsFiles}
 use Rattle.line_world.specs.Turn.{FaultCountsOver}
 use Rattle.command_base.specs.declared.stop.Stop.{Stop}
-use Rattle.command_base.specs.declared.stop.Stop.TheVariants as stops
 use Rattle.outside_calls.specs.Outputs.{AreNoneOf, OnlyOutputs, Creates, CreatesPart, AreApart, KeepsEach, AreApartFrom, OnlyPuts}
 use Rattle.outside_calls.proofs.Putting.{KeepsEach-reads, KeepsEach-trans, SomeRose-earlier, none-fronts, inputs-kept}
 use Rattle.command_base.specs.Stops.{StopCounts}

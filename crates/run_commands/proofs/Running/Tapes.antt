@@ -48,7 +48,11 @@ tapes-last before new None c ts last h = tt
 tapes-last before new (Some names) c ts last h = (one names.orig Originator h.0, one names.answ Answerer h.1)
   where
     one : (name : List ℕ) (role : Role) → HoldsTape before name c role ts → HoldsTape new name c role ts
-    one name role h = assumption (Holds-kept before new name (header_of (mode_of role) ++ h.body) last.goes_on h.holds (last.names name tt))
+    one name role h = record {
+      body = h.body;
+      recorded = h.recorded;
+      holds = Holds-kept before new name (header_of (mode_of role) ++ h.body) last.goes_on h.holds (last.names name tt);
+    }
 
 pub begun-last : (old before new : FolderState) (n : RunNames) (tapes : Tapes) → OnlyOutputs before new [] → GoesOn old before
     → TapesBegun old before n tapes → TapesBegun old new n tapes
@@ -58,7 +62,18 @@ begun-last old before new n (Some names) last g h = (one names.orig Originator h
     one : (name : List ℕ) (role : Role) → TapeBegun old before n name role → TapeBegun old new n name role
     one name role (inl kept) = inl (KeepsName-trans old before new name g kept (last.names name tt))
     one name role (inr (inl front)) = inr (inl (HoldsFront-kept before new name _ last.goes_on front (last.names name tt)))
-    one name role (inr (inr h)) = inr (inr (assumption (HoldsFront-kept before new name _ last.goes_on h.holds (last.names name tt))))
+    one name role (inr (inr h)) = inr (inr (record {
+      script = h.script;
+      limits = h.limits;
+      files = h.files;
+      are_of = h.are_of;
+      turns = h.turns;
+      ends = h.ends;
+      run = h.run;
+      body = h.body;
+      recorded = h.recorded;
+      holds = HoldsFront-kept before new name _ last.goes_on h.holds (last.names name tt);
+    }))
 
 -- ---- what they hold however the run ends
 

@@ -1,4 +1,4 @@
-use Rattle.line_ends.proofs.Cited.{EachSlotBecomes}
+use Rattle.line_ends.proofs.Names.{EachSlotBecomes}
 use Rattle.line_ends.proofs.EachEnds.{SlotLaws, each-slot-becomes, each-turn-is-decided}
 use Rattle.line_ends.proofs.laws.turns_are_decided.Goals as goal
 

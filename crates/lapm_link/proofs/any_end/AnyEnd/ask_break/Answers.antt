@@ -1,12 +1,9 @@
-use Rattle.std.proofs.Common.{◌∙◌, ◌≤◌, ℕ, length, sym, ap, subst, arith}
+use Rattle.std.proofs.Common.{◌∙◌, sym, subst}
 use Rattle.link_account.specs.Account.{Account}
 use Rattle.lapm_link.specs.declared.any_end.AnyEnd.{AnyEnd}
-use Rattle.lapm_link.specs.Stands.{StandsFor, Links, taken_of, undelivered_of, waiting_of}
-use Rattle.lapm_link.proofs.Unconnected.{takes-break, links-asked, takes-no-break, no-break-asked, takes-none}
+use Rattle.lapm_link.specs.Stands.{StandsFor, Links}
+use Rattle.lapm_link.proofs.Unconnected.{same-number, takes-break, links-asked, takes-no-break, no-break-asked, takes-none}
 use Rattle.lapm_link.proofs.any_end.AnyEnd.ask_break.Goals as goal
-
-same-number : (n : ℕ) → n ≤ n
-same-number n = omega arith
 
 pub returns-in-Connected : goal.returns-in-Connected
 returns-in-Connected c =
@@ -18,13 +15,8 @@ returns-in-Connected c =
       account = λ a h. let l = links a h in
           links-asked _ c.args.turn c.args.length a l.beside.phase_is (assumption
           (c.ask.ensures.stands a.own_breaks l.beside.breaks_stand.own));
-      takes_nothing = record {
-        taken_of = subst (λ (n : ℕ). c.in-Connected.end.receiver.taken ≤ n) (sym (ap taken_of c.in-Connected.is))
-            (same-number c.in-Connected.end.receiver.taken);
-        undelivered_of = subst (λ (n : ℕ). length c.in-Connected.end.receiver.ready ≤ n) (sym (ap undelivered_of c.in-Connected.is))
-            (same-number (length c.in-Connected.end.receiver.ready));
-        waiting_of = λ e. sym (ap waiting_of c.in-Connected.is) ∙ e;
-      };
+      takes_nothing = rw c.in-Connected.is
+          (record { taken_of = same-number _; undelivered_of = same-number _; waiting_of = λ e. e });
     }
 
 pub returns-in_default : goal.returns-in_default

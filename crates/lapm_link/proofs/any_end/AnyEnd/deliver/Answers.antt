@@ -1,29 +1,22 @@
-use Rattle.std.proofs.Common.{◌≡◌, ◌∙◌, ◌≤◌, ◌<◌, ℕ, Bool, true, false, List, [], ◌∷◌, length, drop, Option, Some, None, refl, sym, ap}
+use Rattle.std.proofs.Common.{◌≡◌, ◌∙◌, ◌≤◌, ◌<◌, ℕ, Bool, List, length, drop, Option, Some, None, refl, sym, ap}
 use Rattle.std.proofs.Common.{subst, nat_lt, arith}
 use Rattle.std.specs.Bool.{OnTrue}
 use Rattle.std.specs.Prelude.{is_some}
 use Rattle.lapm_receiver.specs.Taking.{Taking}
 use Rattle.link_account.specs.Account.{Account}
 use Rattle.lapm_link.specs.declared.any_end.AnyEnd.{AnyEnd}
-use Rattle.lapm_link.specs.Stands.{StandsFor, Links, taken_of, undelivered_of, waiting_of}
-use Rattle.lapm_link.proofs.Unconnected.{delivers-next, links-delivered, delivers-none, nothing-delivered, undelivered-none, takes-none}
+use Rattle.lapm_link.specs.Stands.{StandsFor, Links, undelivered_of}
+use Rattle.lapm_link.proofs.Unconnected.{same-number, delivers-next, links-delivered, delivers-none, nothing-delivered, undelivered-none}
+use Rattle.lapm_link.proofs.Unconnected.{takes-none}
 use Rattle.lapm_link.proofs.any_end.AnyEnd.deliver.Goals as goal
 
 -- one less is ready, where any is
 fewer-ready : (some : Bool) (old new : List (List ℕ)) → some ≡ nat_lt 0 (length old) → new ≡ drop 1 old
     → OnTrue some (length new < length old)
-fewer-ready false old new left is = tt
-fewer-ready true [] new left is = absurd cc
-fewer-ready true (first ∷ old) new left is = subst (λ (xs : List (List ℕ)). length xs < length (first ∷ old)) (sym is) (less old)
-  where
-    less : (xs : List (List ℕ)) → length xs < length (first ∷ xs)
-    less xs = omega arith
+fewer-ready some old new left is = grind (arith)
 
 no-more : (old : List (List ℕ)) → length (drop 1 old) ≤ length old
 no-more q0 = grind (arith)
-
-same-number : (n : ℕ) → n ≤ n
-same-number n = omega arith
 
 none-some : (segment : List ℕ) → ◌≡◌ {A = Option (List ℕ)} None (Some segment) → ⊥
 none-some segment e = cc
@@ -46,11 +39,9 @@ returns-in-Connected c =
           (fewer-ready c.deliver.result old.ready c.deliver.new.self.ready c.deliver.ensures.left
           (ap (λ (r : Taking). r.ready) c.deliver.ensures.value));
       takes_nothing = record {
-        taken_of = subst (λ (n : ℕ). c.deliver.new.self.taken ≤ n) (sym (ap taken_of c.in-Connected.is))
-            (subst (λ (r : Taking). r.taken ≤ old.taken) (sym c.deliver.ensures.value) (same-number old.taken));
-        undelivered_of = subst (λ (n : ℕ). length c.deliver.new.self.ready ≤ n) (sym (ap undelivered_of c.in-Connected.is))
-            (subst (λ (r : Taking). length r.ready ≤ length old.ready) (sym c.deliver.ensures.value) (no-more old.ready));
-        waiting_of = λ e. sym (ap waiting_of c.in-Connected.is) ∙ e;
+        taken_of = rw (c.in-Connected.is, c.deliver.ensures.value) (same-number old.taken);
+        undelivered_of = rw (c.in-Connected.is, c.deliver.ensures.value) (no-more old.ready);
+        waiting_of = rw c.in-Connected.is (λ e. e);
       };
     }
 

@@ -9,8 +9,6 @@ use Rattle.lapm_link.specs.declared.connected.Connected.{Connected}
 use Rattle.lapm_link.specs.Taking.{taken_as}
 use Rattle.lapm_link.specs.Stands.{Becomes, Links}
 use Rattle.lapm_link.proofs.connected.Connected.on_rnr.Goals as goal
-use Rattle.lapm_link.proofs.connected.Connected.on_rnr.Goals.{then-ends, else-ends, then-self, else-self+then-command}
-use Rattle.lapm_link.proofs.connected.Connected.on_rnr.Goals.{else-self+else-command}
 
 -- a refused number stays refused
 refused : (f : Account → Account) (r : Result Account LinkFault) (end : Connected) (fault : LinkFault) → Becomes r end (Err fault)
@@ -23,14 +21,7 @@ returns-in_err-on_number-clause-becomes c = λ a h.
     let nr = c.args.nr in
     let o = a.outgoing in
     let by : taken_as c.if-ends.meaning nr o ≡ (if ends_wait c.args.command c.args.pf a then replied nr o else acknowledged nr o) =
-    elim c.if-ends.branch [
-      | then-ends w ↦
-          ap (λ m. taken_as m nr o) w.meaning-is
-          ∙ ap (λ e. if e then replied nr o else acknowledged nr o) (sym w.if-ends.true ∙ c.ends_wait-ends.ensures a h)
-      | else-ends w ↦
-          ap (λ m. taken_as m nr o) w.meaning-is
-          ∙ ap (λ e. if e then replied nr o else acknowledged nr o) (sym w.if-ends.false ∙ c.ends_wait-ends.ensures a h)
-    ] in
+    grind (arith, c.ends_wait-ends.ensures a h) in
     rw (p.1, p.2, sym by) (refused _ _ _ _ (c.in_err-on_number.ensures.becomes a h))
 
 -- what follows a number that is taken
@@ -45,23 +36,9 @@ returns-clause-becomes c = λ a h.
     let o = a.outgoing in
     let polls = c.args.command && c.args.pf in
     let by : taken_as c.if-ends.meaning nr o ≡ (if ends_wait c.args.command c.args.pf a then replied nr o else acknowledged nr o) =
-    elim c.if-ends.branch [
-      | then-ends w ↦
-          ap (λ m. taken_as m nr o) w.meaning-is
-          ∙ ap (λ e. if e then replied nr o else acknowledged nr o) (sym w.if-ends.true ∙ c.ends_wait-ends.ensures a h)
-      | else-ends w ↦
-          ap (λ m. taken_as m nr o) w.meaning-is
-          ∙ ap (λ e. if e then replied nr o else acknowledged nr o) (sym w.if-ends.false ∙ c.ends_wait-ends.ensures a h)
-    ] in
+    grind (arith, c.ends_wait-ends.ensures a h) in
     let owes : Owes = c.on_number.new.self.owes in
-    let reply : c.if-self.self ≡ (owes.reply || polls) = elim c.if-self.branch [
-      | then-self w ↦ w.self-is ∙ w.if-self.true ∙ sym (ap (λ r. r || polls) w.if-self.true)
-      | else-self+then-command w ↦
-          w.self-is ∙ sym (ap (λ r. r || polls) w.if-self.false ∙ ap (λ command. command && c.args.pf) w.if-command.true)
-      | else-self+else-command w ↦
-          w.self-is ∙ w.if-command.false ∙ sym
-          (ap (λ r. r || polls) w.if-self.false ∙ ap (λ command. command && c.args.pf) w.if-command.false)
-    ] in
+    let reply : c.if-self.self ≡ (owes.reply || polls) = grind arith in
     rw (sym by)
     (goes_on _ _ c.on_number.new.self _ (c.in_ok-on_number.ensures.becomes a h) (λ b k. assumption (ap (λ
     (r : Bool). record owes { reply = r }) reply ∙ ap (λ (owes : Owes). record owes { reply = owes.reply || polls }) k.beside.owes_is)))

@@ -20,20 +20,10 @@ arrive-requires c =
 
 -- a direction that let a slot arrive has what it had
 moved : (c : After-arrive) → Moved c.args.self.now.from_answ c.arrive.new.self
-moved c = record {
-  sender = c.arrive.ensures.sender;
-  delay = c.arrive.ensures.delay;
-  lag = c.arrive.ensures.lag;
-  symbols = c.arrive.ensures.symbols;
-}
+moved c = assumption
 
 moved-back : (c : After-arrive-2) → Moved c.args.self.now.from_orig c.arrive-2.new.self
-moved-back c = record {
-  sender = c.arrive-2.ensures.sender;
-  delay = c.arrive-2.ensures.delay;
-  lag = c.arrive-2.ensures.lag;
-  symbols = c.arrive-2.ensures.symbols;
-}
+moved-back c = assumption
 
 pub returns-in-Err-clause-arrives : goal.returns-in-Err-clause-arrives
 returns-in-Err-clause-arrives c = λ channel links ts streams h due script dlci number.

@@ -42,23 +42,13 @@ returns c = record {
       record {
         directions = waits-both c.put.new.self c.put-2.new.self channel links streams more
             (sends-behind from_orig c.put.new.self channel Originator links streams.orig more.orig (h.directions Originator)
-            (record {
-              sender = c.put.ensures.sender;
-              delay = c.put.ensures.delay;
-              lag = c.put.ensures.lag;
-              symbols = ap (λ (l : Kept). l.symbols) c.put.ensures.line;
-            })
+            (assumption (ap (λ (l : Kept). l.symbols) c.put.ensures.line))
             (c.put.ensures.stands channel.script _ _ more.orig (h.directions Originator).stands
             (codes-next from_orig channel Originator links streams.orig (from_orig.lag - 1) more.orig c.code-labels.result
             (h.directions Originator)
             (c.code-labels.ensures.labels channel Originator streams.orig more.orig (h.coders Originator) o)) o.sent_is))
             (sends-behind from_answ c.put-2.new.self channel Answerer links streams.answ more.answ (h.directions Answerer)
-            (record {
-              sender = c.put-2.ensures.sender;
-              delay = c.put-2.ensures.delay;
-              lag = c.put-2.ensures.lag;
-              symbols = ap (λ (l : Kept). l.symbols) c.put-2.ensures.line;
-            })
+            (assumption (ap (λ (l : Kept). l.symbols) c.put-2.ensures.line))
             (c.put-2.ensures.stands channel.script _ _ more.answ (h.directions Answerer).stands
             (codes-next from_answ channel Answerer links streams.answ (from_answ.lag - 1) more.answ c.code-labels-2.result
             (h.directions Answerer)

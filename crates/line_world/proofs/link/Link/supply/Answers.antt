@@ -45,17 +45,15 @@ supply-requires-2-clause-stands g c =
 pub returns-in-Ok-supply : goal.returns-in-Ok-supply
 returns-in-Ok-supply g c = record {
   stands = λ files ends h within.
-      let start = g.F.Folder.state c.args.folder.now in
-      let mid = g.F.Folder.state c.supply.new.folder in
       let n = written c.args.names.now in
-      let orig : Supplies start n.orig file_limit files.orig ends.orig c.supply.new.self =
+      let orig : Supplies _ n.orig file_limit files.orig ends.orig c.supply.new.self =
       c.in-Ok.ensures.stands files.orig ends.orig h.orig within.orig in
-      let answ : Supplies mid n.answ file_limit files.answ ends.answ c.supply-2.new.self =
+      let answ : Supplies _ n.answ file_limit files.answ ends.answ c.supply-2.new.self =
       c.in-Ok-supply.ensures.stands files.answ ends.answ h.answ within.answ in
       record {
         others = record { orig = orig.others; answ = answ.others };
         orig = orig.reads_on;
-        answ = reads-later start mid n.answ file_limit files.answ ends.answ answ.others c.supply.ensures.only answ.reads_on;
+        answ = reads-later _ _ n.answ file_limit files.answ ends.answ answ.others c.supply.ensures.only answ.reads_on;
         stands = record { orig = orig.stands; answ = answ.stands };
       };
   idle = λ h. record { orig = c.supply.ensures.idle h.orig; answ = c.supply-2.ensures.idle h.answ };

@@ -10,13 +10,7 @@ returns-in-Ok-clause-hands g c = λ channel files ts ends heard mid h.
     let delivered-link = c.in-Ok.ensures.stands files mid h.link in
     let given = c.given_breaks.ensures.answer files (both_ends delivered mid) delivered-link in
     record {
-      stands = record {
-        overhears = h.overhears;
-        link = c.given_breaks.ensures.stands files (both_ends delivered mid) delivered-link;
-        turn = h.turn;
-        tally = h.tally;
-        checks = h.checks;
-      };
+      stands = assumption (c.given_breaks.ensures.stands files (both_ends delivered mid) delivered-link);
       orig_given = given.0 ∙ given-delivered mid.orig;
       answ_given = given.1 ∙ given-delivered mid.answ;
       delivered = c.in-Ok.ensures.ok files mid h.link;

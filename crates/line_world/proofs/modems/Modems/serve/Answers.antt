@@ -11,15 +11,14 @@ serve-requires-clause-counted g c = c.supply.ensures.counted (c.args.self.now.tu
 
 pub returns-clause-serves : goal.returns-clause-serves
 returns-clause-serves g c = λ channel files ts ends heard mid script h within.
-    let f = g.F.Folder.state c.args.folder.now in
     let n = written c.args.names.now in
     let s = c.in-Ok.ensures.stands files (handed mid) h.link within in
-    let reads : ReadsBoth f n files (handed mid) s.others = record { orig = s.orig; answ = s.answ } in
+    let reads : ReadsBoth _ n files (handed mid) s.others = record { orig = s.orig; answ = s.answ } in
     record {
       others = s.others;
       reads = reads;
       stands = record {
-        overhears = over-others c.files_count_as_far_as_they_were_read.ensures.next channel files s.others ts ends mid heard f n
+        overhears = over-others c.files_count_as_far_as_they_were_read.ensures.next channel files s.others ts ends mid heard _ n
             (subst IsInLimits (sym script) c.requires.limits) h.overhears reads;
         link = subst (λ v. LinkStands c.serve.new.self s.others (served v s.others (length ts) mid)) (sym script)
             (subst (λ t. LinkStands c.serve.new.self s.others (served c.args.script.now s.others t mid)) h.turn

@@ -1,32 +1,25 @@
-use Rattle.std.proofs.Common.{◌+◌, length, refl, sym, ◌∙◌, ap, subst, Some, None, arith, rules}
+use Rattle.std.proofs.Common.{◌+◌, refl, sym, ◌∙◌, ap, subst, Some, None, arith, rules}
 use Rattle.outside_calls.specs.Folder.{Appended, PartlyAppended}
 use Rattle.shared_terms.specs.declared.role.Role.TheVariants.{Originator, Answerer}
-use Rattle.noise_script.specs.Script.{ScriptValue, IsInLimits}
-use Rattle.line_run.specs.Scripted.{link_of, longest_of, slot_symbols}
+use Rattle.noise_script.specs.Script.{IsInLimits}
+use Rattle.line_run.specs.Scripted.{longest_of, slot_symbols}
 use Rattle.line_world.specs.Lines.{ArePut}
-use Rattle.link_run.specs.Run.{BreaksAt}
-use Rattle.line_world.specs.Link.{SaysBoth}
 use Rattle.link_run.specs.Outcomes.{Going, Broken}
 use Rattle.line_run.specs.Names.{written}
-use Rattle.line_world.specs.Mid.{served, turn_in}
+use Rattle.line_world.specs.Mid.{turn_in}
 use Rattle.line_world.proofs.Hearing.{none-sent}
-use Rattle.line_world.proofs.Speaking.{SpokenTurn, GoingLaws, spoken_by, ends_of, spoken-turn, broken-turn, text-is, all-codable, put_by}
+use Rattle.line_world.proofs.Speaking.{GoingLaws, spoken_by, ends_of, spoken-turn, broken-turn, text-is, all-codable, put_by}
 use Rattle.line_world.proofs.Speaking.{are-put, goes-on, ends-so, counts-so, stops-so, adds-part}
 use Rattle.line_world.proofs.modems.Modems.speak.Goals as goal
 
 -- the turn that both ends' words make
 pub returns-in-Err-write_turn-clause-speaks : goal.returns-in-Err-write_turn-clause-speaks
 returns-in-Err-write_turn-clause-speaks g c = λ channel links streams files ts ends mid is h arrived go ga.
-    let v : ScriptValue = channel.script in
     let o = h.stands.overhears in
     let n = written c.args.names.now in
     let f = g.F.Folder.state c.args.folder.now in
     let new = g.F.Folder.state c.write_turn.new.folder in
-    let t : SpokenTurn channel files ts ends c.args.heard.now mid c.in-Ok.sent.orig c.in-Ok.sent.answ c.speak.new.self =
-    spoken-turn channel files ts ends c.args.heard.now mid c.in-Ok.sent.orig c.in-Ok.sent.answ c.speak.new.self c.args.self.now.turn
-    h.stands.turn o h.going
-    (subst (λ x. SaysBoth c.speak.new.self files (link_of x files) c.args.self.now.turn (served v files (length ts) mid) c.in-Ok.sent.orig
-    c.in-Ok.sent.answ) (sym is.script_is) (c.in-Ok.ensures.speaks files (served v files (length ts) mid) h.stands.link)) in
+    let t = spoken-turn c.in-Ok.sent.orig c.in-Ok.sent.answ c.speak.new.self is h (c.in-Ok.ensures.speaks files _ h.stands.link) in
     let sents = spoken_by t.orig t.answ in
     let text = text-is c.args.self.now.turn ts ends mid c.args.heard.now c.args.given.now
     (Some c.in-Ok.sent) sents
@@ -38,8 +31,6 @@ returns-in-Err-write_turn-clause-speaks g c = λ channel links streams files ts 
 pub link_fault-requires : goal.link_fault-requires
 link_fault-requires g c =
     let w = c.requires.stands in
-    let channel = w.0 in
-    let v : ScriptValue = channel.script in
     let files = w.3 in
     let ts = w.4 in
     let ends = w.5 in
@@ -47,27 +38,18 @@ link_fault-requires g c =
     let is = w.7 in
     let h = w.8 in
     let o = h.stands.overhears in
-    let b = broken-turn channel files ts ends c.args.heard.now mid c.args.self.now.turn c.in-Err.breaking.role c.in-Err.breaking.fault
-    h.stands.turn o h.going
-    (subst (λ x. BreaksAt (link_of x files) c.args.self.now.turn (served v files (length ts) mid) c.in-Err.breaking.role
-    c.in-Err.breaking.fault)
-    (sym is.script_is) (c.in-Err.ensures.speaks files (served v files (length ts) mid) h.stands.link)) in
+    let b = broken-turn c.in-Err.breaking.role c.in-Err.breaking.fault is h (c.in-Err.ensures.speaks files _ h.stands.link) in
     c.each_turn_is_made.ensures.named _ ts ends (turn_in c.args.heard.now ends mid none-sent) mid c.in-Err.breaking.role
     c.in-Err.breaking.fault
-    (c.scripts_make_links.ensures.ends v files (subst IsInLimits (sym is.script_is) c.requires.limits)) o.run.run b
+    (c.scripts_make_links.ensures.ends _ files (subst IsInLimits (sym is.script_is) c.requires.limits)) o.run.run b
 
 pub returns-in-Ok-write_turn-clause-speaks : goal.returns-in-Ok-write_turn-clause-speaks
 returns-in-Ok-write_turn-clause-speaks g c = λ channel links streams files ts ends mid is h arrived go ga.
-    let v : ScriptValue = channel.script in
     let o = h.stands.overhears in
     let n = written c.args.names.now in
     let f = g.F.Folder.state c.args.folder.now in
     let new = g.F.Folder.state c.write_turn.new.folder in
-    let t : SpokenTurn channel files ts ends c.args.heard.now mid c.in-Ok.sent.orig c.in-Ok.sent.answ c.speak.new.self =
-    spoken-turn channel files ts ends c.args.heard.now mid c.in-Ok.sent.orig c.in-Ok.sent.answ c.speak.new.self c.args.self.now.turn
-    h.stands.turn o h.going
-    (subst (λ x. SaysBoth c.speak.new.self files (link_of x files) c.args.self.now.turn (served v files (length ts) mid) c.in-Ok.sent.orig
-    c.in-Ok.sent.answ) (sym is.script_is) (c.in-Ok.ensures.speaks files (served v files (length ts) mid) h.stands.link)) in
+    let t = spoken-turn c.in-Ok.sent.orig c.in-Ok.sent.answ c.speak.new.self is h (c.in-Ok.ensures.speaks files _ h.stands.link) in
     let sents = spoken_by t.orig t.answ in
     let text = text-is c.args.self.now.turn ts ends mid c.args.heard.now c.args.given.now
     (Some c.in-Ok.sent) sents
@@ -95,19 +77,15 @@ returns-in-Ok-write_turn-clause-few g c = c.send.ensures.few (c.args.self.now.tu
 
 pub returns-in-Ok-write_turn-2-clause-speaks : goal.returns-in-Ok-write_turn-2-clause-speaks
 returns-in-Ok-write_turn-2-clause-speaks g c = λ channel links streams files ts ends mid is h arrived go ga.
-    let v : ScriptValue = channel.script in
     let o = h.stands.overhears in
     let n = written c.args.names.now in
     let f = g.F.Folder.state c.args.folder.now in
     let new = g.F.Folder.state c.write_turn-in-Err.new.folder in
     let role = c.in-Err.breaking.role in
     let fault = c.in-Err.breaking.fault in
-    let b = broken-turn channel files ts ends c.args.heard.now mid c.args.self.now.turn role fault h.stands.turn o h.going
-    (subst (λ x. BreaksAt (link_of x files) c.args.self.now.turn (served v files (length ts) mid) c.in-Err.breaking.role
-    c.in-Err.breaking.fault)
-    (sym is.script_is) (c.in-Err.ensures.speaks files (served v files (length ts) mid) h.stands.link)) in
+    let b = broken-turn role fault is h (c.in-Err.ensures.speaks files _ h.stands.link) in
     let named = c.each_turn_is_made.ensures.named _ ts ends (turn_in c.args.heard.now ends mid none-sent) mid role fault
-    (c.scripts_make_links.ensures.ends v files (subst IsInLimits (sym is.script_is) c.requires.limits)) o.run.run b in
+    (c.scripts_make_links.ensures.ends _ files (subst IsInLimits (sym is.script_is) c.requires.limits)) o.run.run b in
     let text = text-is c.args.self.now.turn ts ends mid c.args.heard.now c.args.given.now
     None none-sent
     (o.well Originator) (o.well Answerer) h.stands.turn go ga refl refl in
@@ -118,8 +96,6 @@ returns-in-Ok-write_turn-2-clause-speaks g c = λ channel links streams files ts
 pub returns-in-Ok-write_turn-2-clause-counts : goal.returns-in-Ok-write_turn-2-clause-counts
 returns-in-Ok-write_turn-2-clause-counts g c =
     let w = c.requires.stands in
-    let channel = w.0 in
-    let v : ScriptValue = channel.script in
     let files = w.3 in
     let ts = w.4 in
     let ends = w.5 in
@@ -127,31 +103,23 @@ returns-in-Ok-write_turn-2-clause-counts g c =
     let is = w.7 in
     let h = w.8 in
     let o = h.stands.overhears in
-    let b = broken-turn channel files ts ends c.args.heard.now mid c.args.self.now.turn c.in-Err.breaking.role c.in-Err.breaking.fault
-    h.stands.turn o h.going
-    (subst (λ x. BreaksAt (link_of x files) c.args.self.now.turn (served v files (length ts) mid) c.in-Err.breaking.role
-    c.in-Err.breaking.fault)
-    (sym is.script_is) (c.in-Err.ensures.speaks files (served v files (length ts) mid) h.stands.link)) in
+    let b = broken-turn c.in-Err.breaking.role c.in-Err.breaking.fault is h (c.in-Err.ensures.speaks files _ h.stands.link) in
     let named = c.each_turn_is_made.ensures.named _ ts ends
     (turn_in c.args.heard.now ends mid none-sent) mid c.in-Err.breaking.role c.in-Err.breaking.fault
-    (c.scripts_make_links.ensures.ends v files (subst IsInLimits (sym is.script_is) c.requires.limits)) o.run.run b in
+    (c.scripts_make_links.ensures.ends _ files (subst IsInLimits (sym is.script_is) c.requires.limits)) o.run.run b in
     rw c.link_fault.ensures (counts-so _ _
     (written c.args.names.now) c.args.self.now.turn c.in-Err.breaking.role c.in-Err.breaking.fault named
     c.in-Ok-write_turn-2.ensures.counts)
 
 pub returns-in-Err-write_turn-2-clause-speaks : goal.returns-in-Err-write_turn-2-clause-speaks
 returns-in-Err-write_turn-2-clause-speaks g c = λ channel links streams files ts ends mid is h arrived go ga.
-    let v : ScriptValue = channel.script in
     let o = h.stands.overhears in
     let n = written c.args.names.now in
     let f = g.F.Folder.state c.args.folder.now in
     let new = g.F.Folder.state c.write_turn-in-Err.new.folder in
     let role = c.in-Err.breaking.role in
     let fault = c.in-Err.breaking.fault in
-    let b = broken-turn channel files ts ends c.args.heard.now mid c.args.self.now.turn role fault h.stands.turn o h.going
-    (subst (λ x. BreaksAt (link_of x files) c.args.self.now.turn (served v files (length ts) mid) c.in-Err.breaking.role
-    c.in-Err.breaking.fault)
-    (sym is.script_is) (c.in-Err.ensures.speaks files (served v files (length ts) mid) h.stands.link)) in
+    let b = broken-turn role fault is h (c.in-Err.ensures.speaks files _ h.stands.link) in
     let text = text-is c.args.self.now.turn ts ends mid c.args.heard.now c.args.given.now
     None none-sent
     (o.well Originator) (o.well Answerer) h.stands.turn go ga refl refl in
@@ -202,7 +170,6 @@ send-requires-in-Ok g c =
       answ_sendable = c.in-Ok.ensures.answ_sendable;
       codable =
           let channel = w.0 in
-          let v : ScriptValue = channel.script in
           let files = w.3 in
           let ts = w.4 in
           let ends = w.5 in
@@ -210,12 +177,7 @@ send-requires-in-Ok g c =
           let is = w.7 in
           let h = w.8 in
           let o = h.stands.overhears in
-          let t : SpokenTurn channel files ts ends c.args.heard.now mid c.in-Ok.sent.orig c.in-Ok.sent.answ c.speak.new.self =
-          spoken-turn channel files ts ends c.args.heard.now mid c.in-Ok.sent.orig c.in-Ok.sent.answ c.speak.new.self c.args.self.now.turn
-          h.stands.turn o h.going
-          (subst (λ x. SaysBoth c.speak.new.self files (link_of x files) c.args.self.now.turn (served v files (length ts) mid)
-          c.in-Ok.sent.orig
-          c.in-Ok.sent.answ) (sym is.script_is) (c.in-Ok.ensures.speaks files (served v files (length ts) mid) h.stands.link)) in
+          let t = spoken-turn c.in-Ok.sent.orig c.in-Ok.sent.answ c.speak.new.self is h (c.in-Ok.ensures.speaks files _ h.stands.link) in
           all-codable c.slots_have_room.ensures.codable channel files ts ends c.args.heard.now mid c.in-Ok.sent.orig c.in-Ok.sent.answ
           c.in-Ok.sent c.speak.new.self c.args.lines.now w.1 w.2 c.args.self.now.dlci c.checks-checks.result
           (is.symbols_are ∙ ap (λ x. slot_symbols (longest_of x)) (sym is.script_is))

@@ -12,24 +12,14 @@ use Rattle.line_world.proofs.world.World.turn.Goals as goal
 
 pub turn-requires-clause-ready : goal.turn-requires-clause-ready
 turn-requires-clause-ready g c =
-    let laws : LoneLaws = record {
-      due = c.slots_are_due_alone.ensures.due;
-      sent = c.slots_are_due_alone.ensures.sent;
-      counted = c.slots_are_due_alone.ensures.counted;
-      delays = c.scripts_make_links.ensures.delays;
-    } in
+    let laws : LoneLaws = assumption in
     lends laws c.line_runs_end_soon.ensures.within_limits c.args.self.now c.requires.ready
 
 -- a turn of the world is one of its link, on channel 0 and with nothing beside
 answers : goal.returns-clause-turn
 answers g c = λ files ts ends h within.
     let script = c.args.self.now.script in
-    let laws : LoneLaws = record {
-      due = c.slots_are_due_alone.ensures.due;
-      sent = c.slots_are_due_alone.ensures.sent;
-      counted = c.slots_are_due_alone.ensures.counted;
-      delays = c.scripts_make_links.ensures.delays;
-    } in
+    let laws : LoneLaws = assumption in
     let zero = c.requires.ready.channel in
     subst (λ n. TurnAnswers c.turn.new.self c.turn.new.lines (wire_at script n alone) 1 (both_sent_by 0 ts)
     (g.F.Folder.state c.args.folder.now) (g.F.Folder.state c.turn.new.folder) (written c.args.names.now) files ts ends c.turn.result) zero

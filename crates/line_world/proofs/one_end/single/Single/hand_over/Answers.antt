@@ -15,14 +15,8 @@ returns-in-Ok-clause-counted g c = λ heard asked k.
     })
 
 pub returns-in-Ok-clause-stands : goal.returns-in-Ok-clause-stands
-returns-in-Ok-clause-stands g c = λ p slot arrived mid h. record {
-  run = h.run;
-  heard = h.heard;
-  hears = h.hears;
-  station = c.given_break.ensures.stands p.file (delivered mid) (c.in-Ok.ensures.stands p.file mid h.station);
-  ear = h.ear;
-  turn = h.turn;
-}
+returns-in-Ok-clause-stands g c = λ p slot arrived mid h. assumption (c.given_break.ensures.stands p.file (delivered mid)
+    (c.in-Ok.ensures.stands p.file mid h.station))
 
 pub returns-in-Ok-clause-given : goal.returns-in-Ok-clause-given
 returns-in-Ok-clause-given g c = λ p slot arrived mid h.

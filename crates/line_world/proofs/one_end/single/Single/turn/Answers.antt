@@ -33,11 +33,7 @@ serve-requires g c =
     }
 
 pub hear-requires : goal.hear-requires
-hear-requires g c = record {
-  ready = c.requires.ready;
-  early = c.requires.few;
-  short = c.requires.short;
-}
+hear-requires g c = assumption c.requires.few
 
 pub returns-in-Err : goal.returns-in-Err
 returns-in-Err g c =
