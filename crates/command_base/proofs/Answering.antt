@@ -1,11 +1,7 @@
 -- What an answer tells of the line that was said last, and of what it belongs to.
-use Rattle.std.proofs.Common.{◌≡◌, ◌≢◌, ◌⊎◌, ◌∙◌, inl, inr, ℕ, List, sym, subst, arith}
-use Rattle.outside_calls.specs.Folder.{FolderState, GoesOn, Said, Rose}
-use Rattle.outside_calls.proofs.Steps.{CountsStand-trans, Rose-later}
-use Rattle.command_base.specs.declared.status.Status.{Status}
-use Rattle.command_base.specs.declared.status.Status.TheVariants.{Done, Usage, ReadFault, WriteFault, NoMemory}
-use Rattle.command_base.specs.Status.{IsRefusal, IsFolderFault, PassesNoneOver}
-use Rattle.command_base.specs.Tells.{Tells}
+use Rattle.command_base.proofs.Names.{◌≡◌, ◌≢◌, ◌⊎◌, ◌∙◌, inl, inr, ℕ, List, sym, subst, arith, IsRefusal, IsFolderFault, PassesNoneOver}
+use Rattle.command_base.proofs.Names.{Tells, Status, WriteFault, CountsStand-trans, Rose-later, FolderState, GoesOn, Said, Rose}
+use Rattle.command_base.specs.declared.status.Status.TheVariants.{Done, Usage, ReadFault, NoMemory}
 
 -- an answer that isn't given where a line was not said whole
 pub record IsPlain (s : Status) : Type 0 where

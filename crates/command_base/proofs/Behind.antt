@@ -1,14 +1,9 @@
 -- A recording that is read on behind its header.
-use Rattle.std.proofs.Common.{◌≡◌, ◌≢◌, ◌∙◌, ◌⊎◌, inl, inr, ℕ, ◌+◌, ◌%◌, ◌≤◌, ◌<◌, Bool, true, false, List, [], ◌++◌, IsTrue, length}
-use Rattle.std.proofs.Common.{length-append, drop, refl, sym, ap, subst, arith, append-nil, append_assoc}
-use Rattle.std.proofs.lemmas.List.{take_all, take-append-drop}
-use Rattle.outside_calls.specs.Folder.{FolderState, octets_at, GoesOn, KeepsName}
-use Rattle.scramblers.specs.declared.mode.Mode.{Mode}
+use Rattle.command_base.proofs.Names.{◌≡◌, ◌≢◌, ◌∙◌, ◌⊎◌, inl, inr, ℕ, ◌+◌, ◌%◌, ◌≤◌, ◌<◌, Bool, true, false, List, [], ◌++◌, IsTrue}
+use Rattle.command_base.proofs.Names.{length, length-append, drop, refl, sym, ap, subst, arith, append-nil, append_assoc, take_all}
+use Rattle.command_base.proofs.Names.{take-append-drop, ReadTo, FolderState, octets_at, GoesOn, KeepsName, header_at, Rate, Mode}
 use Rattle.recordings.specs.declared.header.TheConstants.{HEADER}
-use Rattle.recordings.specs.declared.rate.Rate.{Rate}
-use Rattle.recordings.specs.Recording.{header_at}
 use Rattle.command_base.specs.declared.limits.TheConstants.{RECORDING_LIMIT}
-use Rattle.command_base.specs.Inputs.{ReadTo}
 use Rattle.command_base.proofs.Reading.{ReadTo-kept}
 use Rattle.command_base.specs.Recordings.{ReadsRecording, Opened, ReadBehind, IsAtEnd}
 

@@ -1,12 +1,9 @@
 -- Outputs that are created in order.
-use Rattle.std.proofs.Common.{inl, inr, ℕ, List, [], ◌∷◌}
-use Rattle.outside_calls.specs.Folder.{FolderState, GoesOn, KeepsName, OnlyWrites, CountsStand}
-use Rattle.outside_calls.proofs.Steps.{GoesOn-trans, KeepsName-trans}
-use Rattle.outside_calls.specs.declared.folder.FolderFault.{FolderFault}
+use Rattle.command_base.proofs.Names.{inl, inr, ℕ, List, [], ◌∷◌, WriteFails, Holds-kept, GoesOn-trans, KeepsName-trans, FolderState}
+use Rattle.command_base.proofs.Names.{GoesOn, KeepsName, CountsStand, IsNoneOf, CreatesPart, OnlyOutputs, FolderFault}
+use Rattle.outside_calls.specs.Folder.{OnlyWrites}
 use Rattle.outside_calls.specs.declared.folder.FolderFault.TheVariants as folder
-use Rattle.outside_calls.specs.Outputs.{Holds, KeptOrEmpty, KeepsEach, IsNoneOf, CreatesPart, OnlyOutputs}
-use Rattle.command_base.specs.Stops.{WriteFails}
-use Rattle.outside_calls.proofs.Holding.{Holds-kept}
+use Rattle.outside_calls.specs.Outputs.{Holds, KeptOrEmpty, KeepsEach}
 use Rattle.outside_calls.proofs.Putting.{KeepsEach-writes, KeepsEach-trans}
 use Rattle.command_base.proofs.Jobs.{write-earlier}
 

@@ -1,14 +1,10 @@
 -- What is read of a recording to open it.
-use Rattle.std.proofs.Common.{◌≡◌, ◌∙◌, inl, inr, ℕ, ◌+◌, ◌≤◌, ◌<◌, List, [], ◌∷◌, IsTrue, length, take, sym, ap, subst, arith}
-use Rattle.std.proofs.lemmas.List.{take_all}
+use Rattle.command_base.proofs.Names.{◌≡◌, ◌∙◌, inl, inr, ℕ, ◌+◌, ◌≤◌, ◌<◌, List, [], ◌∷◌, IsTrue, length, take, sym, ap, subst, arith}
+use Rattle.command_base.proofs.Names.{take_all, ReadTo, IsOwn, StopCounts, Stop, Own, Read, Write, Say, FolderState, octets_at, Rate}
 use Rattle.std.proofs.lemmas.Bool.{cases_lt}
-use Rattle.outside_calls.specs.Folder.{FolderState, octets_at}
-use Rattle.recordings.specs.declared.rate.Rate.{Rate}
 use Rattle.command_base.specs.declared.limits.TheConstants.{RECORDING_LIMIT}
-use Rattle.command_base.specs.declared.stop.Stop.{Stop}
-use Rattle.command_base.specs.declared.stop.Stop.TheVariants.{Own, Read, Write, Say, NoMemory}
-use Rattle.command_base.specs.Stops.{IsOwn, StopCounts}
-use Rattle.command_base.specs.Inputs.{IsNotWithin, ReadTo}
+use Rattle.command_base.specs.declared.stop.Stop.TheVariants.{NoMemory}
+use Rattle.command_base.specs.Inputs.{IsNotWithin}
 use Rattle.command_base.specs.Recordings.{IsNotOpened}
 
 -- the octets that a header is read from

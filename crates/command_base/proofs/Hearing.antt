@@ -1,25 +1,21 @@
 -- What a listener heard, one more step at a time.
-use Rattle.std.proofs.Common.{◌≡◌, ◌∙◌, ℕ, ◌+◌, ◌/◌, ◌%◌, ◌^◌, ◌<◌, Bool, false, List, [], ◌∷◌, ◌++◌, length, take, drop, get_or, Result}
-use Rattle.std.proofs.Common.{Ok, Err, OnErr, nat_eq, bit_and, Option, Some, None, refl, sym, ap, subst, arith, append-nil}
-use Rattle.std.proofs.Common.{append_assoc, length-append}
-use Rattle.std.specs.Option.{option_map, option_map_or}
-use Rattle.std.proofs.lemmas.List.{take_more, take-append-drop}
+use Rattle.command_base.proofs.Names.{◌≡◌, ◌∙◌, ℕ, ◌+◌, ◌/◌, ◌%◌, ◌^◌, ◌<◌, Bool, false, List, [], ◌∷◌, ◌++◌, length, take, drop, get_or}
+use Rattle.command_base.proofs.Names.{Result, Ok, Err, OnErr, nat_eq, bit_and, Option, Some, None, refl, sym, ap, subst, arith, append-nil}
+use Rattle.command_base.proofs.Names.{append_assoc, length-append, take-append-drop, option_map, Found, Piece, Listening, Hears, IsLine}
+use Rattle.command_base.proofs.Names.{AreLines, SayFails, length-low_bits, low_bits, octet_bits, bits_of, FaultsStand-trans}
+use Rattle.command_base.proofs.Names.{CountsStand-refl, CountsStand-trans, FolderState, OnlyReads, OnlySays, CountsStand, Rose, Said}
+use Rattle.command_base.proofs.Names.{PartlySaid, FolderFault, Role}
+use Rattle.std.specs.Option.{option_map_or}
+use Rattle.std.proofs.lemmas.List.{take_more}
 use Rattle.std.proofs.lemmas.Nat.{and_mask}
-use Rattle.outside_calls.specs.Folder.{FolderState, OnlyReads, OnlySays, CountsStand, Rose, Said, PartlySaid}
-use Rattle.outside_calls.specs.declared.folder.FolderFault.{FolderFault}
 use Rattle.outside_calls.specs.declared.folder.FolderFault.TheVariants as folder
-use Rattle.outside_calls.proofs.Steps.{GoesOn-refl, FaultsStand-trans, CountsStand-refl, CountsStand-trans}
-use Rattle.frame_check.specs.Bits.{low_bits, octet_bits, bits_of}
-use Rattle.frame_check.proofs.BitLists.{length-low_bits, get_or-low_bits, bits_of-snoc, bits_of-append}
-use Rattle.bit_stuffing.specs.declared.piece.Piece.{Piece}
-use Rattle.bit_stuffing.specs.Found.{Found, found_at, pieces_of, listed, answer_of, lent_of}
+use Rattle.outside_calls.proofs.Steps.{GoesOn-refl}
+use Rattle.frame_check.proofs.BitLists.{get_or-low_bits, bits_of-snoc, bits_of-append}
+use Rattle.bit_stuffing.specs.Found.{found_at, pieces_of, listed, answer_of, lent_of}
 use Rattle.bit_stuffing.specs.Deframer.{DeframerStands}
 use Rattle.bit_stuffing.proofs.Found.{pieces-none, pieces-more}
-use Rattle.shared_terms.specs.declared.role.Role.{Role}
 use Rattle.command_base.proofs.Saying.{Said-Said, Said-PartlySaid, OnlySays-trans, on-ok-map, on-err-map, if-err-map}
-use Rattle.command_base.specs.Readings.{IsLine, AreLines}
-use Rattle.command_base.specs.Heard.{Listening, Heard, Hears, PartlyHeard, LeftAt}
-use Rattle.command_base.specs.Stops.{SayFails}
+use Rattle.command_base.specs.Heard.{Heard, PartlyHeard, LeftAt}
 use Rattle.command_base.proofs.PieceLines.{AreLines-more}
 
 -- what is found at the last of the bits, where a piece is answered there

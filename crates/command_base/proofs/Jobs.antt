@@ -1,21 +1,18 @@
 -- From how a command answers to what every command promises.
-use Rattle.std.proofs.Common.{◌≡◌, ◌≢◌, ◌⊎◌, ◌∙◌, ◌≤◌, inl, inr, ℕ, List, [], ◌∷◌, Result, Ok, Err, refl, sym, subst, arith}
-use Rattle.outside_calls.specs.Folder.{FolderState, GoesOn, Said, Rose, CountsStand}
-use Rattle.outside_calls.proofs.Steps.{KeepsName-trans, Rose-later, FaultsStand-trans, CountsStand-trans}
-use Rattle.outside_calls.specs.declared.folder.FolderFault.{FolderFault}
+use Rattle.command_base.proofs.Names.{◌≡◌, ◌≢◌, ◌⊎◌, ◌∙◌, ◌≤◌, inl, inr, ℕ, List, [], ◌∷◌, Result, Ok, Err, refl, sym, subst, arith}
+use Rattle.command_base.proofs.Names.{SaysStop, IsRefusal, IsFolderFault, PassesNoneOver, IsOwn, ReadFails, WriteFails, SayFails}
+use Rattle.command_base.proofs.Names.{StopCounts, fault_status, stop_status, Tells, Status, Stop, Own, Read, Write, Say, OnlyOutputs-refl}
+use Rattle.command_base.proofs.Names.{KeepsName-trans, Rose-later, FaultsStand-trans, CountsStand-trans, FolderState, GoesOn, Said, Rose}
+use Rattle.command_base.proofs.Names.{CountsStand, OnlyOutputs, FolderFault}
 use Rattle.outside_calls.specs.declared.folder.FolderFault.TheVariants as folder
-use Rattle.command_base.specs.declared.status.Status.{Status}
 use Rattle.command_base.specs.declared.status.Status.TheVariants as status
-use Rattle.command_base.specs.declared.stop.Stop.{Stop}
-use Rattle.command_base.specs.declared.stop.Stop.TheVariants.{Own, Read, Write, Say, NoMemory}
-use Rattle.command_base.specs.Status.{IsRefusal, IsFolderFault, PassesNoneOver}
-use Rattle.outside_calls.specs.Outputs.{KeepsAll, OnlyOutputs, SomeRose}
+use Rattle.command_base.specs.declared.stop.Stop.TheVariants.{NoMemory}
+use Rattle.outside_calls.specs.Outputs.{KeepsAll, SomeRose}
 use Rattle.command_base.specs.Inputs.{FailsToHold}
-use Rattle.command_base.specs.Stops.{IsOwn, ReadFails, WriteFails, SayFails, StopCounts, EndCounts, fault_status, stop_status, end_status}
-use Rattle.command_base.specs.Job.{Job, SaysLast, SaysStop, Answers, Shared}
+use Rattle.command_base.specs.Stops.{EndCounts, end_status}
+use Rattle.command_base.specs.Job.{Job, SaysLast, Answers, Shared}
 use Rattle.command_base.specs.Sound.{NoneRose, IsSound, DoneUnlessMemory}
-use Rattle.command_base.specs.Tells.{Tells}
-use Rattle.outside_calls.proofs.OnlyOutputs.{OnlyOutputs-refl, OnlyOutputs-says}
+use Rattle.outside_calls.proofs.OnlyOutputs.{OnlyOutputs-says}
 use Rattle.outside_calls.proofs.Putting.{SomeRose-earlier, SomeRose-later}
 use Rattle.command_base.proofs.Answering.{IsPlain, done-plain, read-plain, usage-plain, tells-plain, tells-fault, tells-memory}
 use Rattle.command_base.proofs.Answering.{tells-refusal, told-or-memory, stand-later}

@@ -1,3 +1,4 @@
+mod Names
 pub mod Differing
 pub mod Saying
 pub mod Reading

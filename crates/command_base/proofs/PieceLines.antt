@@ -1,15 +1,13 @@
 -- Lines of pieces, one more at a time.
-use Rattle.std.proofs.Common.{◌≡◌, ◌∙◌, ◌↔◌, ℕ, List, [], ◌∷◌, ◌++◌, length, Result, Ok, Err, IfOk, refl, sym, ap, subst, append-nil}
-use Rattle.std.proofs.Common.{append_assoc}
+use Rattle.command_base.proofs.Names.{◌≡◌, ◌∙◌, ℕ, List, [], ◌∷◌, ◌++◌, length, Result, Ok, Err, refl, sym, ap, subst, append-nil}
+use Rattle.command_base.proofs.Names.{append_assoc, Found, Piece, IsLine, AreLines, Role}
+use Rattle.std.proofs.Common.{◌↔◌, IfOk}
 use Rattle.frame_check.specs.declared.check.Check.TheVariants.{Sixteen}
-use Rattle.bit_stuffing.specs.declared.piece.Piece.{Piece}
-use Rattle.bit_stuffing.specs.Found.{Found}
-use Rattle.shared_terms.specs.declared.role.Role.{Role}
 use Rattle.lapm_frames.specs.declared.frame.Frame.{Frame}
 use Rattle.lapm_frames.specs.declared.fault.CheckedFault.{CheckedFault}
 use Rattle.lapm_frames.specs.declared.fault.CheckedFault.TheVariants as checks
 use Rattle.lapm_frames.specs.Checked.{IsCheckedFault, SpellsFrame}
-use Rattle.command_base.specs.Readings.{Reading, ReadsWhole, ReadsPiece, IsLine, AreLines, reading_of, reading_line}
+use Rattle.command_base.specs.Readings.{Reading, ReadsWhole, ReadsPiece, reading_of, reading_line}
 
 -- what a whole piece of these octets is, by how it was read
 pub whole-read : (sender : Role) (octets : List ℕ) (read : Result Frame CheckedFault) → IfOk read (SpellsFrame Sixteen sender 0 octets)

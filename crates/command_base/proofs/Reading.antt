@@ -1,16 +1,15 @@
 -- An input that is read on, piece by piece.
-use Rattle.std.proofs.Common.{◌≡◌, ◌∙◌, ℕ, ◌+◌, ◌-◌, ◌≤◌, ◌<◌, min, List, [], ◌++◌, IsTrue, length, take, take-add, drop, refl, sym, ap}
-use Rattle.std.proofs.Common.{subst, arith, length-append, length-drop, inl, ◌∷◌, Err, IsErrOf}
-use Rattle.std.proofs.lemmas.List.{take-append-drop, take_all, drop_all}
+use Rattle.command_base.proofs.Names.{◌≡◌, ◌∙◌, ℕ, ◌+◌, ◌-◌, ◌≤◌, ◌<◌, min, List, [], ◌++◌, IsTrue, length, take, drop, refl, sym, ap}
+use Rattle.command_base.proofs.Names.{subst, arith, length-append, length-drop, inl, ◌∷◌, Err, IsErrOf, take-append-drop, take_all, ReadTo}
+use Rattle.command_base.proofs.Names.{ReadFails, GoesOn-trans, KeepsName-trans, OnlyReads-trans, CountsStand-trans, FolderState, octets_at}
+use Rattle.command_base.proofs.Names.{GoesOn, KeepsName, OnlyReads, HasCause, FaultsStand, CountsStand, FolderFault, Failed, NoMemory}
+use Rattle.std.proofs.Common.{take-add}
+use Rattle.std.proofs.lemmas.List.{drop_all}
 use Rattle.frame_check.specs.Octets.{AreOctets}
 use Rattle.shared_terms.specs.Prefix.{IsPrefixOf}
-use Rattle.outside_calls.specs.Folder.{FolderState, TellsOctets, octets_at, GoesOn, KeepsName, OnlyReads, HasCause, FaultsStand}
-use Rattle.outside_calls.specs.Folder.{CountsStand}
-use Rattle.outside_calls.specs.declared.folder.FolderFault.{FolderFault}
-use Rattle.outside_calls.specs.declared.folder.FolderFault.TheVariants.{Failed, NoMemory}
-use Rattle.outside_calls.proofs.Steps.{GoesOn-trans, KeepsName-trans, OnlyReads-trans, CountsStand-trans, told_later, octets-kept}
-use Rattle.command_base.specs.Inputs.{IsWithin, IsLonger, ReadTo}
-use Rattle.command_base.specs.Stops.{ReadFails}
+use Rattle.outside_calls.specs.Folder.{TellsOctets}
+use Rattle.outside_calls.proofs.Steps.{told_later, octets-kept}
+use Rattle.command_base.specs.Inputs.{IsWithin, IsLonger}
 
 -- an input that is within its limit, or longer, or is octets, was so before others were read
 pub within-earlier : (old mid : FolderState) (name : List ℕ) (limit : ℕ) → OnlyReads old mid → IsWithin mid name limit

@@ -1,15 +1,9 @@
 -- Saying one thing behind another.
-use Rattle.std.proofs.Common.{inl, inr, IsErrOf, ◌≡◌, ◌∙◌, ℕ, List, ◌++◌, Option, Some, None, Result, Ok, Err, OnOk, OnErr, IfErr, arith}
-use Rattle.std.proofs.Common.{refl, sym, ap, append_assoc}
-use Rattle.std.specs.Option.{option_map}
-use Rattle.outside_calls.specs.Folder.{FolderState, GoesOn, FaultsStand, OnlySays, HasCause, Said, PartlySaid}
-use Rattle.outside_calls.proofs.Steps.{GoesOn-trans, KeepsName-trans, Rose-later}
-use Rattle.outside_calls.specs.declared.folder.FolderFault.{FolderFault}
-use Rattle.outside_calls.specs.declared.folder.FolderFault.TheVariants.{Failed, NoMemory}
-use Rattle.command_base.specs.declared.status.Status.{Status}
-use Rattle.command_base.specs.declared.status.Status.TheVariants.{WriteFault}
-use Rattle.command_base.specs.Stops.{fault_status}
-use Rattle.command_base.specs.Tells.{Tells}
+use Rattle.command_base.proofs.Names.{inl, inr, IsErrOf, ◌≡◌, ◌∙◌, ℕ, List, ◌++◌, Option, Some, None, Result, Ok, Err, OnErr, arith, refl}
+use Rattle.command_base.proofs.Names.{sym, ap, append_assoc, option_map, fault_status, Tells, Status, WriteFault, GoesOn-trans}
+use Rattle.command_base.proofs.Names.{KeepsName-trans, Rose-later, FolderState, GoesOn, FaultsStand, OnlySays, HasCause, Said, PartlySaid}
+use Rattle.command_base.proofs.Names.{FolderFault, Failed, NoMemory}
+use Rattle.std.proofs.Common.{OnOk, IfErr}
 
 behind : (said : Option (List ℕ)) (first second : List ℕ)
     → option_map (λ s. s ++ second) (option_map (λ s. s ++ first) said) ≡ option_map (λ s. s ++ (first ++ second)) said

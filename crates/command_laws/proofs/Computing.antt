@@ -1,41 +1,30 @@
 -- What is computed of a link is its run over the line of samples, where noise is faint.
-use Rattle.std.proofs.Common.{◌≡◌, ℕ, zero, suc, ◌-◌, ◌<◌, Bool, true, false, cond, List, [], ◌∷◌, length, drop, arith, refl, sym}
-use Rattle.std.proofs.Common.{◌∙◌, ap, subst, Option, Some, None, Result, Ok, Err}
+use Rattle.command_laws.proofs.Names.{◌≡◌, ℕ, zero, suc, ◌-◌, ◌<◌, Bool, true, false, cond, List, [], ◌∷◌, length, drop, arith, refl, sym}
+use Rattle.command_laws.proofs.Names.{◌∙◌, ap, subst, Option, Some, None, Result, Ok, Err, false≢true, All-nil, All-cons, Way, Next, Goes}
+use Rattle.command_laws.proofs.Names.{Ends_run, Stops, IsMade, turn_with, both_said, crossing, speaking, hearing, next, heard_by, made}
+use Rattle.command_laws.proofs.Names.{runs, all_turns, AreOctets, Nothing, Passed, Lost, Sent, ScriptRunsTo, DisplacesNoneIsFaint, Left}
+use Rattle.command_laws.proofs.Names.{OneResult, LineRun, wire_of, link_of, Account, hear, Said, BothDone, AreIsolated, sent_ago}
+use Rattle.command_laws.proofs.Names.{has_message, is_closed, TurnIs, Link, Accounts, Spoken, Turn, Hears, RunOf, arrival, said_at, start}
+use Rattle.command_laws.proofs.Names.{ScriptValue, IsInLimits, delay_of, Both, of, LinkFault, Role, Originator, Answerer}
 use Rattle.std.specs.Prelude.{is_some}
-use Rattle.std.proofs.lemmas.Bool.{false≢true}
 use Rattle.std.proofs.lemmas.List.{length-drop, length-replicate}
-use Rattle.std.proofs.lemmas.List.Elements.{All-nil, All-cons, All-replicate}
-use Rattle.frame_check.specs.Octets.{AreOctets}
-use Rattle.shared_terms.specs.declared.role.Role.{Role}
-use Rattle.shared_terms.specs.declared.role.Role.TheVariants.{Originator, Answerer}
+use Rattle.std.proofs.lemmas.List.Elements.{All-replicate}
 use Rattle.shared_terms.specs.Role.{other}
-use Rattle.shared_terms.specs.Both.{Both, of}
-use Rattle.lapm_frames.specs.declared.sent.Sent.{Sent}
 use Rattle.lapm_frames.specs.declared.sent.Sent.TheVariants as slots
-use Rattle.lapm_frames.specs.declared.heard.Heard.TheVariants.{Nothing, Passed, Lost}
 use Rattle.line_run.specs.Unhindered.{unhindered}
 use Rattle.noise_script.specs.declared.entry.Break.{Break}
-use Rattle.noise_script.specs.Script.{ScriptValue, IsInLimits, delay_of, loses}
-use Rattle.shared_terms.specs.declared.fault.LinkFault.{LinkFault}
-use Rattle.link_account.specs.Account.{Account, check_of}
-use Rattle.link_account.specs.Hear.{hear}
-use Rattle.link_account.specs.Speak.{Said}
-use Rattle.link_run.specs.End.{is_closed}
-use Rattle.link_run.specs.Run.{Link, Accounts, Spoken, Turn, Hears, RunOf, arrival, said_at, start}
-use Rattle.link_run.specs.Carried.{sent_ago, has_message}
-use Rattle.link_run.specs.Outcomes.{Outcome, Done, TurnIs}
+use Rattle.noise_script.specs.Script.{loses}
+use Rattle.link_account.specs.Account.{check_of}
+use Rattle.link_run.specs.Outcomes.{Outcome, Done}
 use Rattle.link_run.specs.Trace.{trace_text}
-use Rattle.line_run.specs.Sampled.{HeardIn, IsHeardOf, LineRun}
-use Rattle.line_run.specs.Scripted.{wire_of, link_of}
-use Rattle.line_run.specs.Ends.{IsDone, Left, OneResult}
-use Rattle.line_ends.specs.Completes.{ScriptRunsTo, DisplacesNone, DisplacesNoneIsFaint, AreOfOctets}
-use Rattle.command_laws.specs.Worked.Made.{Way, Next, Goes, Ends_run, Stops, Made, IsMade, EndsAs, turn_with, both_said, crossing}
-use Rattle.command_laws.specs.Worked.Made.{speaking, hearing}
-use Rattle.command_laws.specs.Worked.Made.{next}
-use Rattle.command_laws.specs.Worked.Made.{heard_by, made, runs, with_last, all_turns}
-use Rattle.link_pair.specs.Pairs.Ends.{BothDone, end_of, PairRunsTo}
+use Rattle.line_run.specs.Sampled.{HeardIn, IsHeardOf}
+use Rattle.line_run.specs.Ends.{IsDone}
+use Rattle.line_ends.specs.Completes.{DisplacesNone, AreOfOctets}
+use Rattle.command_laws.specs.Worked.Made.{Made, EndsAs}
+use Rattle.command_laws.specs.Worked.Made.{with_last}
+use Rattle.link_pair.specs.Pairs.Ends.{end_of, PairRunsTo}
 use Rattle.xid_params.specs.Offers.{IsAllowed}
-use Rattle.link_pair.specs.Pairs.Laws.{AreShort, AreIsolated, UndisplacedPairsAreIsolated, HasPairEnd, EachPairEnds}
+use Rattle.link_pair.specs.Pairs.Laws.{AreShort, UndisplacedPairsAreIsolated, HasPairEnd, EachPairEnds}
 use Rattle.link_pair.proofs.Pairs.Fitting.{none-beside}
 use Rattle.link_pair.proofs.Pairs.Clear.{bits_in, due, due_of, due-heard, due-well}
 use Rattle.link_pair.proofs.Pairs.Isolating.{IsolationLaws, MaySend, clear-on, agrees-on}

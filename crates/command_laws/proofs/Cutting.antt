@@ -1,27 +1,25 @@
 -- The frames of slots of which the first bits aren't heard.
-use Rattle.std.proofs.Common.{◌≡◌, ◌⊎◌, inl, inr, ℕ, ◌+◌, ◌-◌, ◌*◌, ◌<◌, ◌≤◌, Bool, true, false, List, [], ◌∷◌, ◌++◌, All, length}
-use Rattle.std.proofs.Common.{map, take, drop, min, Some, None, arith, append_assoc, length-append, refl, sym, ◌∙◌, ap, subst}
-use Rattle.std.proofs.lemmas.List.{append-nil, map-append, take-append-drop, length-take, get_or-append-add, get_or_append_left}
+use Rattle.command_laws.proofs.Names.{◌≡◌, ◌⊎◌, inl, inr, ℕ, ◌+◌, ◌-◌, ◌*◌, ◌<◌, ◌≤◌, Bool, true, false, List, [], ◌∷◌, ◌++◌, All, length}
+use Rattle.command_laws.proofs.Names.{map, take, drop, Some, None, arith, length-append, refl, sym, ◌∙◌, ap, subst, append-nil, map-append}
+use Rattle.command_laws.proofs.Names.{take-append-drop, All-nil, All-cons, All-head, All-tail, Found, pieces_of, wholes, AreWholeOrAborted}
+use Rattle.command_laws.proofs.Names.{Plain, Flags, LastPiecesAreFound, Piece, HEAD, TAIL, Signal, slot_of, slots_of, signal_bits, AreFit}
+use Rattle.command_laws.proofs.Names.{IsPrefixOf}
+use Rattle.std.proofs.Common.{min, append_assoc}
+use Rattle.std.proofs.lemmas.List.{length-take, get_or-append-add, get_or_append_left}
 use Rattle.std.proofs.lemmas.Grind.{common_steps}
-use Rattle.std.proofs.lemmas.List.Elements.{All-nil, All-cons, All-head, All-tail, All-append, All-weaker}
-use Rattle.shared_terms.specs.Prefix.{IsPrefixOf}
-use Rattle.bit_stuffing.specs.declared.piece.Piece.{Piece}
+use Rattle.std.proofs.lemmas.List.Elements.{All-append, All-weaker}
 use Rattle.bit_stuffing.specs.declared.piece.Piece.TheVariants.{Whole, Ragged, Aborted, TooLong, TooShort}
-use Rattle.bit_stuffing.specs.declared.slot_writer.TheConstants.{HEAD, TAIL}
 use Rattle.bit_stuffing.specs.Flags.{bit_of, flag, FlagEndsAt}
-use Rattle.bit_stuffing.specs.Found.{Found, pieces_of}
 use Rattle.bit_stuffing.specs.Slots.{flags, fill, rest_of_flag, framed, opening, slot_bits, sent_bits, next_phase, phase_from}
 use Rattle.bit_stuffing.specs.Slots.{phase_after, flags_behind, AreSlots}
-use Rattle.bit_stuffing.specs.Slots.Slot.{Plain, Flags}
-use Rattle.bit_stuffing.specs.Sent.{Added, FoundIn, whole_at, aborted_at, octets_if_whole, wholes, AreWholeOrAborted}
-use Rattle.bit_stuffing.specs.Tails.{behind, Misses, LastPiecesAreFound}
+use Rattle.bit_stuffing.specs.Sent.{Added, FoundIn, whole_at, aborted_at, octets_if_whole}
+use Rattle.bit_stuffing.specs.Tails.{behind, Misses}
 use Rattle.bit_stuffing.proofs.Found.{pieces-none}
 use Rattle.bit_stuffing.proofs.Sent.{found-is-sent, pieces-stay}
 use Rattle.bit_stuffing.proofs.Tails.{flag-ahead, flag-front, flag-longer}
-use Rattle.detection.specs.Slots.{Signal, slot_of, slots_of, signal_bits}
 use Rattle.detection.specs.Slots.Signal.{PatternSlot, MarkSlot, FlagSlot}
 use Rattle.sample_line.proofs.Passing.{slot-added}
-use Rattle.line_run.specs.Fitting.{Fits, AreFit}
+use Rattle.line_run.specs.Fitting.{Fits}
 use Rattle.line_run.specs.Laws.{FirstOnesFit, SlotsThatFitAreSlots, SlotsHaveSize}
 
 -- ---- lists of pieces

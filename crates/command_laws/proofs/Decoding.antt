@@ -1,31 +1,20 @@
 -- A file that was encoded is decoded.
-use Rattle.std.proofs.Common.{◌≡◌, ◌∙◌, inl, inr, ◌⊎◌, ℕ, ◌<◌, ◌≤◌, Bool, List, [], ◌∷◌, ◌++◌, length, slice_index, Some, None}
-use Rattle.std.proofs.Common.{refl, sym, ap, subst, arith, append-nil, length-append}
-use Rattle.std.specs.List.{flat_map}
+use Rattle.command_laws.proofs.Names.{◌≡◌, ◌∙◌, inl, inr, ◌⊎◌, ℕ, ◌<◌, ◌≤◌, Bool, List, [], ◌∷◌, ◌++◌, length, slice_index, Some, None}
+use Rattle.command_laws.proofs.Names.{refl, sym, ap, subst, arith, length-append, flat_map, content-same, IsSound, Status, Done, NoMemory}
+use Rattle.command_laws.proofs.Names.{LostIs, AreOctets, octets-held, FolderState, octets_at, mode_number, sample_octets, samples_in, Rate}
+use Rattle.command_laws.proofs.Names.{Trellis, Quarters, tap_of, Mode, Call, Answer, trellis_at, DemodulatesAt, Sample}
+use Rattle.std.proofs.Common.{append-nil}
 use Rattle.frame_check.specs.Bits.{bits_of}
-use Rattle.frame_check.specs.Octets.{AreOctets}
 use Rattle.frame_check.proofs.BitLists.{length-bits_of, same_octets}
-use Rattle.scramblers.specs.declared.mode.Mode.{Mode}
-use Rattle.scramblers.specs.declared.mode.Mode.TheVariants.{Call, Answer}
-use Rattle.scramblers.specs.Mode.{tap_of}
 use Rattle.scramblers.proofs.Readings.{Descrambles_once}
-use Rattle.symbol_map.specs.declared.sample.Sample.{Sample}
-use Rattle.exact_decoder.specs.Surviving.Survivors.{IsLeast, LostIs}
-use Rattle.outside_calls.specs.Folder.{FolderState, held_at, octets_at}
-use Rattle.outside_calls.proofs.Steps.{octets-held}
-use Rattle.recordings.specs.declared.rate.Rate.{Rate}
-use Rattle.recordings.specs.declared.rate.Rate.TheVariants.{Trellis, Quarters}
-use Rattle.recordings.specs.Recording.{mode_number, header_at, sample_octets}
+use Rattle.exact_decoder.specs.Surviving.Survivors.{IsLeast}
+use Rattle.outside_calls.specs.Folder.{held_at}
+use Rattle.recordings.specs.Recording.{header_at}
 use Rattle.signal_commands.specs.Encoding.Recorder.{IsRecordingOf}
-use Rattle.recordings.specs.Samples.{samples_in}
-use Rattle.command_base.specs.declared.status.Status.{Status}
-use Rattle.command_base.specs.declared.status.Status.TheVariants.{Done, NoMemory}
-use Rattle.command_base.specs.Sound.{IsSound}
-use Rattle.command_base.proofs.Headers.{content-same}
 use Rattle.signal_commands.specs.Encoding.Words.{EncodeNames}
 use Rattle.signal_commands.specs.Encoding.Headline as encode
 use Rattle.signal_commands.specs.Decoding.Words.{DecodeNames, inputs_of, outputs_of}
-use Rattle.signal_commands.specs.Decoding.Rates.{trellis_at, line_at, DemodulatesAt}
+use Rattle.signal_commands.specs.Decoding.Rates.{line_at}
 use Rattle.signal_commands.specs.Decoding.Headline as decode
 use Rattle.signal_commands.specs.Decoding.Completes.{IsRecording, Completes}
 use Rattle.command_laws.specs.Files.{AreOfFile, FilesComeBack}

@@ -1,23 +1,15 @@
 -- What a pair leaves of a link is what a run of that link alone leaves.
-use Rattle.std.proofs.Common.{◌≡◌, ℕ, List, [], ◌∷◌, refl, sym, ◌∙◌, subst}
-use Rattle.outside_calls.specs.Folder.{FolderState, octets_at}
+use Rattle.command_laws.proofs.Names.{◌≡◌, ℕ, List, [], ◌∷◌, refl, sym, ◌∙◌, subst, Status, ScriptRunsTo, DisplacesNoneIsFaint, RunEnd}
+use Rattle.command_laws.proofs.Names.{Left, OneResult, wire_of, link_of, BothDone, AreIsolated, ScriptSpelling, ScriptsAreOne}
+use Rattle.command_laws.proofs.Names.{BreaksAreOctets, ScriptValue, FolderState, octets_at, EndsRun, RunNames, Both}
 use Rattle.outside_calls.specs.Outputs.{HoldEach, KeepsEach, OnlyOutputs}
 use Rattle.outside_calls.proofs.Putting.{HoldEach-kept}
-use Rattle.shared_terms.specs.Both.{Both}
-use Rattle.noise_script.specs.Script.{ScriptValue}
-use Rattle.noise_script.specs.Grammar.{ScriptSpelling}
-use Rattle.noise_script.specs.Laws.{ScriptsAreOne, BreaksAreOctets}
-use Rattle.line_run.specs.Ends.{RunEnd, Left, OneResult}
 use Rattle.line_run.specs.Ends as runs
-use Rattle.line_run.specs.Scripted.{wire_of, link_of}
-use Rattle.line_ends.specs.Completes.{ScriptRunsTo, DisplacesNoneIsFaint}
-use Rattle.command_base.specs.declared.status.Status.{Status}
 use Rattle.command_base.specs.declared.status.Status.TheVariants as status
 use Rattle.command_base.specs.Job.{Answers}
 use Rattle.command_base.specs.Lines.{done_line}
 use Rattle.command_base.proofs.Jobs.{last-only, done-of}
 use Rattle.run_inputs.specs.declared.limits.TheConstants.{LIMITS}
-use Rattle.run_inputs.specs.Words.{RunNames}
 use Rattle.run_inputs.specs.Words as alone
 use Rattle.line_run.specs.Names.{Written}
 use Rattle.line_run.specs.Names as written
@@ -25,11 +17,10 @@ use Rattle.line_world.specs.Turns.{held_of}
 use Rattle.run_commands.specs.Running.Ends.{run_job}
 use Rattle.run_commands.specs.Running.Ends as run_ends
 use Rattle.run_commands.proofs.Running.Headline as run_answers
-use Rattle.link_pair.specs.Pairs.Ends.{Which, First, Second, PairEnd, BothDone}
-use Rattle.link_pair.specs.Pairs.Laws.{AreIsolated, FaintPairsAreIsolated}
+use Rattle.link_pair.specs.Pairs.Ends.{Which, First, Second, PairEnd}
+use Rattle.link_pair.specs.Pairs.Laws.{FaintPairsAreIsolated}
 use Rattle.link_pair.specs.Words.{Names, inputs_of, run_of}
 use Rattle.link_pair.specs.Ends.{RanTo, pair_job}
-use Rattle.run_inputs.specs.Answers.{EndsRun}
 use Rattle.link_pair.specs.Answers.{EndsPair}
 use Rattle.link_pair.specs.Headline.{AreTold}
 use Rattle.command_laws.specs.Isolates.{HoldSame, AreLeftAlike, FaintLinksAreAlone, UndisplacedLinksAreAlone}

@@ -1,3 +1,4 @@
+mod Names
 pub mod Tapping
 mod Tracing
 mod Sent

@@ -1,23 +1,13 @@
 -- What is computed is a run by the definitions.
-use Rattle.std.proofs.Common.{◌≡◌, ℕ, zero, suc, ◌-◌, Bool, cond, true, false, List, [], ◌∷◌, length, refl, ap, Option, Some, None, Result}
-use Rattle.std.proofs.Common.{Ok, Err}
+use Rattle.command_laws.proofs.Names.{◌≡◌, ℕ, zero, suc, ◌-◌, Bool, cond, true, false, List, [], ◌∷◌, length, refl, ap, Option, Some, None}
+use Rattle.command_laws.proofs.Names.{Result, Ok, Err, Way, Next, Goes, Ends_run, Stops, turn_with, both_said, crossing, speaking, hearing}
+use Rattle.command_laws.proofs.Names.{next, heard_by, made, runs, IsMade, Nothing, Passed, Lost, Account, hear, Said, sent_ago, has_message}
+use Rattle.command_laws.proofs.Names.{is_closed, TurnIs, Link, Accounts, Turn, Spoken, arrival, Hears, said_at, RunOf, start, of, LinkFault}
+use Rattle.command_laws.proofs.Names.{Role, Originator, Answerer}
 use Rattle.std.specs.Prelude.{is_ok}
-use Rattle.shared_terms.specs.declared.role.Role.{Role}
-use Rattle.shared_terms.specs.declared.role.Role.TheVariants.{Originator, Answerer}
-use Rattle.shared_terms.specs.Both.{of}
 use Rattle.lapm_frames.specs.declared.heard.Heard.{Heard}
-use Rattle.lapm_frames.specs.declared.heard.Heard.TheVariants.{Nothing, Passed, Lost}
-use Rattle.shared_terms.specs.declared.fault.LinkFault.{LinkFault}
-use Rattle.link_account.specs.Account.{Account}
-use Rattle.link_account.specs.Hear.{hear}
-use Rattle.link_account.specs.Speak.{Said}
-use Rattle.link_run.specs.End.{is_closed}
-use Rattle.link_run.specs.Run.{Link, Accounts, Turn, Spoken, arrival, Hears, Speaks, IsSilent, said_at, GoingTurn, RunOf, start}
-use Rattle.link_run.specs.Carried.{sent_ago, has_message, Crosses, Carries, IsCarried}
-use Rattle.link_run.specs.Outcomes.{TurnIs}
-use Rattle.command_laws.specs.Worked.Made.{Way, Next, Goes, Ends_run, Stops, turn_with, both_said, crossing, speaking, hearing, next}
-use Rattle.command_laws.specs.Worked.Made.{heard_by}
-use Rattle.command_laws.specs.Worked.Made.{made, runs, IsMade}
+use Rattle.link_run.specs.Run.{Speaks, IsSilent, GoingTurn}
+use Rattle.link_run.specs.Carried.{Crosses, Carries, IsCarried}
 
 abbrev IsNext : Link → List Turn → Accounts → Next → Type 0
 IsNext link ts ends (Goes t later) = GoingTurn link ts ends t later

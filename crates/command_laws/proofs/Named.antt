@@ -1,9 +1,7 @@
 -- A frame with the check of 16 bits is read as itself.
-use Rattle.std.proofs.Common.{◌≡◌, ◌∙◌, ℕ, List, sym, ap, subst}
+use Rattle.command_laws.proofs.Names.{◌≡◌, ◌∙◌, ℕ, List, sym, ap, subst, Piece, Role}
 use Rattle.frame_check.specs.declared.check.Check.TheVariants.{Sixteen}
 use Rattle.frame_check.proofs.Checks.{fronts-one}
-use Rattle.shared_terms.specs.declared.role.Role.{Role}
-use Rattle.bit_stuffing.specs.declared.piece.Piece.{Piece}
 use Rattle.lapm_frames.specs.declared.frame.Frame.{Frame}
 use Rattle.lapm_frames.specs.Frame.{FrameSpelling}
 use Rattle.lapm_frames.specs.Checked.{check_heard, SpellsFrame}

@@ -1,45 +1,23 @@
 -- What a pickup finds in the middle of a recording that a tap told.
-use Rattle.std.proofs.Common.{◌≡◌, ◌∙◌, inl, inr, ℕ, zero, suc, ◌+◌, ◌*◌, ◌%◌, ◌<◌, ◌≤◌, Bool, List, [], ◌∷◌, ◌++◌, length}
-use Rattle.std.proofs.Common.{map, take, drop, slice_index}
-use Rattle.std.proofs.Common.{refl, sym, ap, subst, arith, None}
+use Rattle.command_laws.proofs.Names.{◌≡◌, ◌∙◌, inl, inr, ℕ, zero, suc, ◌+◌, ◌*◌, ◌<◌, ◌≤◌, Bool, List, [], ◌∷◌, ◌++◌, length, map, take}
+use Rattle.command_laws.proofs.Names.{drop, slice_index, refl, sym, ap, subst, arith, None, append-nil, map-append, take-append-drop}
+use Rattle.command_laws.proofs.Names.{take_all, Found, pieces_of, wholes, AreWholeOrAborted, LastPiecesAreFound, HEAD, TAIL, content-same}
+use Rattle.command_laws.proofs.Names.{Status, Done, frames_sent, Signal, slots_of, signal_bits, LostIs, line_depth, Modulates, AreFit}
+use Rattle.command_laws.proofs.Names.{signals, bits_of, Tapping, tapping, line_of, Tells, Turn, IsInLimits, FolderState, octets_at}
+use Rattle.command_laws.proofs.Names.{mode_number, header_of, samples_in, Trellis, mode_of, tap_of, Mode, Call, Answer, of, IsPrefixOf}
+use Rattle.command_laws.proofs.Names.{Role, Originator, Answerer, Sample}
+use Rattle.std.proofs.Common.{◌%◌}
 use Rattle.std.proofs.Math.Nat.{mul_assoc}
-use Rattle.std.proofs.lemmas.List.{append-nil, append_cancel_left, map-append, take-append-drop, take_all}
-use Rattle.shared_terms.specs.Prefix.{IsPrefixOf}
-use Rattle.scramblers.specs.declared.mode.Mode.{Mode}
-use Rattle.scramblers.specs.declared.mode.Mode.TheVariants.{Call, Answer}
-use Rattle.scramblers.specs.Mode.{tap_of}
-use Rattle.symbol_map.specs.declared.sample.Sample.{Sample}
+use Rattle.std.proofs.lemmas.List.{append_cancel_left}
 use Rattle.symbol_map.specs.Distance.{quarter_turned}
-use Rattle.exact_decoder.specs.Surviving.Survivors.{LostIs}
-use Rattle.exact_decoder.specs.Surviving.V32.{any_trellis, line_depth}
-use Rattle.bit_stuffing.specs.declared.slot_writer.TheConstants.{HEAD, TAIL}
-use Rattle.bit_stuffing.specs.Found.{Found, pieces_of}
-use Rattle.bit_stuffing.specs.Sent.{wholes, AreWholeOrAborted}
-use Rattle.bit_stuffing.specs.Tails.{LastPiecesAreFound}
+use Rattle.exact_decoder.specs.Surviving.V32.{any_trellis}
 use Rattle.bit_stuffing.proofs.Sent.{all-expected}
-use Rattle.detection.specs.Slots.{Signal, slots_of, signal_bits}
-use Rattle.shared_terms.specs.declared.role.Role.{Role}
-use Rattle.shared_terms.specs.declared.role.Role.TheVariants.{Originator, Answerer}
-use Rattle.sample_line.specs.Mode.{mode_of}
-use Rattle.shared_terms.specs.Both.{of}
-use Rattle.outside_calls.specs.Folder.{FolderState, octets_at, Said}
-use Rattle.line_coding.specs.Modulates.{Modulates}
-use Rattle.recordings.specs.declared.rate.Rate.TheVariants.{Trellis}
-use Rattle.recordings.specs.Recording.{mode_number, header_of}
-use Rattle.recordings.specs.Samples.{samples_in}
-use Rattle.noise_script.specs.Script.{IsInLimits}
-use Rattle.link_run.specs.Run.{Turn}
-use Rattle.line_run.specs.Fitting.{AreFit}
-use Rattle.line_run.specs.Sampled.{signals, bits_of}
+use Rattle.outside_calls.specs.Folder.{Said}
 use Rattle.line_run.specs.Scripted.{SlotsHaveRoom}
 use Rattle.line_tap.specs.Ends.{TapEnd}
-use Rattle.line_tap.specs.Tapping.{Tapping, tapping, line_of, Tells}
-use Rattle.command_base.specs.declared.status.Status.{Status}
-use Rattle.command_base.specs.declared.status.Status.TheVariants.{Done}
 use Rattle.command_base.specs.Lines.{pieces_line}
 use Rattle.command_base.specs.Readings.{AreLines}
 use Rattle.command_base.specs.Recordings.{sender_of}
-use Rattle.command_base.proofs.Headers.{content-same}
 use Rattle.line_tap.specs.Names.{TapNames}
 use Rattle.line_tap.specs.Headline as tap
 use Rattle.signal_commands.specs.PickingUp.Gives.{GivesPieces}
@@ -48,7 +26,7 @@ use Rattle.signal_commands.specs.PickingUp.Middles.{turned_by, middle_of, AreNea
 use Rattle.signal_commands.proofs.PickingUp.Middles.{near-front}
 use Rattle.signal_commands.specs.PickingUp.Headline as pickup
 use Rattle.signal_commands.specs.PickingUp.Completes.{IsRecording}
-use Rattle.command_laws.specs.Pickups.{frames_sent, FindsFrames, SaysFrames, IsMiddle, EndsThere, told_symbols, told_turns}
+use Rattle.command_laws.specs.Pickups.{FindsFrames, SaysFrames, IsMiddle, EndsThere, told_symbols, told_turns}
 use Rattle.command_laws.specs.Pickups.{PickupsFindWhatIsTold, PickupsFindWhatTapsName}
 use Rattle.command_laws.proofs.Cutting.{SlotLaws, CutFinds, cut-finds}
 use Rattle.line_tap.proofs.ToldFit.{FitLaws, told-fit}

@@ -1,10 +1,10 @@
 -- What was sent without noise at either rate: its labels are least alone, and carry its bits; its samples stand in their octets.
-use Rattle.std.proofs.Common.{◌≡◌, ◌∙◌, ℕ, suc, ◌*◌, ◌<◌, Bool, true, false, ◌&&◌, nat_eq, nat_lt, List, [], ◌∷◌, ◌++◌, length}
-use Rattle.std.proofs.Common.{map, refl, sym, ap, subst, arith, All, None, length-append}
-use Rattle.std.specs.List.{flat_map, range_with_len}
-use Rattle.std.proofs.lemmas.Bool.{false≢true, and_parts, eqb-true, lt-ltb}
-use Rattle.std.proofs.lemmas.List.Elements.{All-nil, All-cons, All-head, All-tail}
-use Rattle.symbol_map.specs.declared.sample.Sample.{Sample}
+use Rattle.command_laws.proofs.Names.{◌≡◌, ◌∙◌, ℕ, suc, ◌*◌, ◌<◌, Bool, true, false, List, [], ◌∷◌, ◌++◌, length, map, refl, sym, ap, subst}
+use Rattle.command_laws.proofs.Names.{arith, All, None, length-append, false≢true, All-nil, All-cons, All-head, All-tail, flat_map, LostIs}
+use Rattle.command_laws.proofs.Names.{line_depth, sample_octets, samples_in, Rate, Trellis, Quarters, trellis_at, DemodulatesAt, Sample}
+use Rattle.std.proofs.Common.{◌&&◌, nat_eq, nat_lt}
+use Rattle.std.specs.List.{range_with_len}
+use Rattle.std.proofs.lemmas.Bool.{and_parts, eqb-true, lt-ltb}
 use Rattle.symbol_map.specs.Points.{point_of}
 use Rattle.symbol_map.specs.Distance.{distance_of}
 use Rattle.symbol_map.specs.Laws.{NoDistanceIsEqual}
@@ -14,20 +14,13 @@ use Rattle.trellis_tables.specs.Sequences.{Leads}
 use Rattle.trellis_tables.specs.Table.{next_state}
 use Rattle.trellis_tables.specs.V32Laws.{v32_bounded}
 use Rattle.trellis_tables.proofs.Sequences.{Leads-below}
-use Rattle.exact_decoder.specs.Surviving.Survivors.{LostIs}
-use Rattle.exact_decoder.specs.Surviving.V32.{line_depth}
 use Rattle.exact_decoder.specs.Laws.{IsOnlyLeast, OnlySentIsLeast}
 use Rattle.noise_bound.specs.NoiselessLaws.{NeverLost}
 use Rattle.line_coding.proofs.Readings as line
 use Rattle.rate_4800.specs.Code as quarters
 use Rattle.rate_4800.proofs.Twos as quarter_bits
-use Rattle.recordings.specs.declared.rate.Rate.{Rate}
-use Rattle.recordings.specs.declared.rate.Rate.TheVariants.{Trellis, Quarters}
-use Rattle.recordings.specs.Recording.{sample_octets}
 use Rattle.signal_commands.specs.Encoding.Recorder.{ModulatesAt}
-use Rattle.recordings.specs.Samples.{samples_in}
 use Rattle.recordings.proofs.Samples.{samples_in-append}
-use Rattle.signal_commands.specs.Decoding.Rates.{trellis_at, DemodulatesAt}
 
 -- the laws that this rests on
 pub record SentLaws : Type 0 where

@@ -1,32 +1,20 @@
 -- From a recorded run to the tap of its recordings.
-use Rattle.std.proofs.Common.{◌≡◌, ◌⊎◌, inl, inr, ◌∙◌, ℕ, ◌*◌, IsTrue, List, [], ◌∷◌, ◌++◌, Some, refl, sym, ap, subst, arith}
-use Rattle.frame_check.specs.Octets.{AreOctets}
-use Rattle.outside_calls.specs.Folder.{FolderState, octets_at}
+use Rattle.command_laws.proofs.Names.{◌≡◌, ◌⊎◌, inl, inr, ◌∙◌, ℕ, ◌*◌, IsTrue, List, [], ◌∷◌, ◌++◌, Some, refl, sym, ap, subst, arith}
+use Rattle.command_laws.proofs.Names.{NoMemory, slots_of, AreOctets, LineRun, signals, wire_of, link_of, tapping, Accounts, Turn}
+use Rattle.command_laws.proofs.Names.{ScriptSpelling, BreaksAreOctets, ScriptValue, IsInLimits, delay_of, octets-held, FolderState}
+use Rattle.command_laws.proofs.Names.{octets_at, header_of, mode_of, Both, of, Role, Originator, Answerer}
 use Rattle.outside_calls.specs.Outputs.{Holds}
-use Rattle.outside_calls.proofs.Steps.{octets-held}
 use Rattle.bit_stuffing.proofs.Fill.{phase-low}
-use Rattle.detection.specs.Slots.{slots_of}
-use Rattle.shared_terms.specs.declared.role.Role.{Role}
-use Rattle.shared_terms.specs.declared.role.Role.TheVariants.{Originator, Answerer}
-use Rattle.sample_line.specs.Mode.{mode_of}
-use Rattle.shared_terms.specs.Both.{Both, of}
-use Rattle.recordings.specs.Recording.{header_of}
-use Rattle.noise_script.specs.Script.{ScriptValue, IsInLimits, delay_of}
-use Rattle.noise_script.specs.Grammar.{ScriptSpelling}
-use Rattle.noise_script.specs.Laws.{BreaksAreOctets}
-use Rattle.link_run.specs.Run.{Accounts, Turn}
 use Rattle.link_run.specs.Laws.{agreed_srej}
 use Rattle.link_run.specs.Taken.{taken_octets}
-use Rattle.line_run.specs.Sampled.{LineRun, signals}
 use Rattle.line_run.specs.Ends.{RunsLeaveWhatPassed}
 use Rattle.line_run.specs.Recorded.{IsRecorded, Tapes}
-use Rattle.line_run.specs.Scripted.{wire_of, link_of, ScriptsMayPlay, ScriptsHaveDelays, SlotsAreCodable}
+use Rattle.line_run.specs.Scripted.{ScriptsMayPlay, ScriptsHaveDelays, SlotsAreCodable}
 use Rattle.line_run.specs.Stream.{AllSendable}
 use Rattle.line_ends.specs.Completes.{OctetsAreSendable}
-use Rattle.line_tap.specs.Tapping.{tapping, phase_behind}
+use Rattle.line_tap.specs.Tapping.{phase_behind}
 use Rattle.line_tap.specs.Ends.{TapOf, told_end}
 use Rattle.line_tap.specs.Laws.{AreCoded, RecordingsTellRuns}
-use Rattle.command_base.specs.declared.status.Status.TheVariants.{NoMemory}
 use Rattle.line_world.specs.Tapes.{HoldTapes}
 use Rattle.line_tap.specs.Completes.{AreRight, Answered}
 use Rattle.command_laws.specs.Taps.{LeftAlike, LeavesTheSame, TapsLeaveWhatRunsLeft}

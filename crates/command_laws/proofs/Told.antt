@@ -1,28 +1,19 @@
 -- The slots of turns that recordings told: they fit, their frames are those that were sent, and their bits are those of the samples.
-use Rattle.std.proofs.Common.{◌≡◌, ◌∙◌, ℕ, ◌+◌, ◌*◌, ◌≤◌, List, [], ◌∷◌, ◌++◌, length, take, refl, sym, ap, subst, arith}
-use Rattle.std.proofs.Common.{length-append, ◌<◌, Option, Some, None}
-use Rattle.std.proofs.lemmas.List.Elements.{All-nil}
-use Rattle.std.proofs.lemmas.List.{append-nil, append_assoc, map-append, take_all}
+use Rattle.command_laws.proofs.Names.{◌≡◌, ◌∙◌, ℕ, ◌+◌, ◌*◌, ◌≤◌, List, [], ◌∷◌, ◌++◌, length, take, refl, sym, ap, subst, arith}
+use Rattle.command_laws.proofs.Names.{length-append, ◌<◌, Option, Some, None, append-nil, map-append, take_all, All-nil, Plain, Flags}
+use Rattle.command_laws.proofs.Names.{frames_sent, Signal, slot_of, slots_of, Sent, Modulates, signals, bits_of, Tapping, line_of, Tells}
+use Rattle.command_laws.proofs.Names.{Spoken, Turn, samples_in, mode_of, tap_of, of, Role}
+use Rattle.std.proofs.lemmas.List.{append_assoc}
 use Rattle.frame_check.specs.declared.check.Check.{Check}
-use Rattle.scramblers.specs.Mode.{tap_of}
 use Rattle.bit_stuffing.specs.Slots.{Slot}
-use Rattle.bit_stuffing.specs.Slots.Slot.{Plain, Flags}
 use Rattle.bit_stuffing.specs.Slots as slots
-use Rattle.detection.specs.Slots.{Signal, slot_of, slots_of}
-use Rattle.shared_terms.specs.declared.role.Role.{Role}
-use Rattle.sample_line.specs.Mode.{mode_of}
-use Rattle.shared_terms.specs.Both.{of}
-use Rattle.line_coding.specs.Modulates.{Modulates}
-use Rattle.recordings.specs.Samples.{samples_in}
-use Rattle.lapm_frames.specs.declared.sent.Sent.{Sent}
 use Rattle.lapm_frames.specs.declared.sent.Sent.TheVariants as sent
 use Rattle.sample_line.specs.Signals.{signal_of}
-use Rattle.link_run.specs.Run.{Spoken, Turn}
 use Rattle.link_run.specs.Listened.{check_by}
-use Rattle.line_run.specs.Sampled.{signal_in, signals, bits_of}
+use Rattle.line_run.specs.Sampled.{signal_in}
 use Rattle.line_run.proofs.Bits.{signals-more, bits-more}
-use Rattle.line_tap.specs.Tapping.{Tapping, line_of, terms_of, octets_of, Tells, told}
-use Rattle.command_laws.specs.Pickups.{frame_in, frame_sent, frames_sent}
+use Rattle.line_tap.specs.Tapping.{terms_of, octets_of, told}
+use Rattle.command_laws.specs.Pickups.{frame_in, frame_sent}
 
 -- ---- their frames
 

@@ -1,22 +1,17 @@
 -- The trace that a run leaves is its own.
-use Rattle.std.proofs.Common.{◌≡◌, ◌≢◌, true, ℕ, IsTrue, List, [], ◌∷◌, refl, sym, ◌∙◌, subst}
-use Rattle.outside_calls.specs.Folder.{FolderState, octets_at}
+use Rattle.command_laws.proofs.Names.{◌≡◌, ◌≢◌, true, ℕ, IsTrue, List, [], ◌∷◌, refl, sym, ◌∙◌, subst, IsSound, Status, Done, RunEnd}
+use Rattle.command_laws.proofs.Names.{wire_of, link_of, ScriptSpelling, ScriptsAreOne, ScriptValue, octets-held, FolderState, octets_at}
+use Rattle.command_laws.proofs.Names.{EndsRun, RunNames}
 use Rattle.outside_calls.specs.Outputs.{IsNoneOf, AreNoneOf}
-use Rattle.outside_calls.proofs.Steps.{octets-kept, octets-held}
-use Rattle.noise_script.specs.Script.{ScriptValue}
-use Rattle.noise_script.specs.Grammar.{ScriptSpelling}
-use Rattle.noise_script.specs.Laws.{ScriptsAreOne}
-use Rattle.line_run.specs.Ends.{RunEnd, RunsTo}
-use Rattle.line_run.specs.Scripted.{wire_of, link_of}
-use Rattle.command_base.specs.declared.status.Status.{Status}
-use Rattle.command_base.specs.declared.status.Status.TheVariants.{Done, LinkLost, NotDetected, LineLost, ChanceMatch}
+use Rattle.outside_calls.proofs.Steps.{octets-kept}
+use Rattle.line_run.specs.Ends.{RunsTo}
+use Rattle.command_base.specs.declared.status.Status.TheVariants.{LinkLost, NotDetected, LineLost, ChanceMatch}
 use Rattle.command_base.specs.Apart.{are_apart}
-use Rattle.command_base.specs.Sound.{IsSound, DoneUnlessMemory}
-use Rattle.run_inputs.specs.Words.{RunNames, inputs_of, outputs_of}
+use Rattle.command_base.specs.Sound.{DoneUnlessMemory}
+use Rattle.run_inputs.specs.Words.{inputs_of, outputs_of}
 use Rattle.run_commands.specs.Running.Headline as run
 use Rattle.trace_audit.specs.Words as audit
 use Rattle.trace_audit.specs.Completes.{AreRight, InputsRunTo, Completes}
-use Rattle.run_inputs.specs.Answers.{EndsRun}
 use Rattle.command_laws.specs.Traces.{audit_of, TracesOfRunsAreTrue}
 
 -- names that are apart

@@ -1,14 +1,11 @@
 -- The answer at each bit, as a relation and as a function.
-use Rattle.std.proofs.Common.{◌≡◌, ℕ, zero, suc, ◌+◌, ◌-◌, ◌<◌, inl, inr, Bool, true, false, ◌||◌, if◌then◌else◌, List, [], ◌∷◌, ◌++◌}
-use Rattle.std.proofs.Common.{length, get_or, take, drop, reverse, Option, Some, None, arith, length-append, refl, sym, ◌∙◌, ap}
-use Rattle.std.specs.Bool.{beq}
-use Rattle.std.specs.List.{ends_with}
-use Rattle.std.specs.Cmp.Lexicographic.{pointwise}
-use Rattle.std.proofs.lemmas.Bool.{false≢true, cases_lt, or_left, or_right}
-use Rattle.std.proofs.lemmas.List.{drop_at, take-append-drop}
-use Rattle.lapm_frames.specs.declared.seen.Seen.{Seen}
-use Rattle.lapm_frames.specs.declared.seen.Seen.TheVariants.{Odp, Adp}
-use Rattle.detection.specs.Patterns.{twice, EndsPattern, IsGap, IsSeen, some_below, some_gap, ends_pattern, seen_at}
+use Rattle.detection.proofs.Names.{◌≡◌, ℕ, zero, suc, ◌+◌, ◌-◌, ◌<◌, inl, inr, Bool, true, false, ◌||◌, if◌then◌else◌, List, [], ◌∷◌, ◌++◌}
+use Rattle.detection.proofs.Names.{length, get_or, take, drop, reverse, Option, Some, None, arith, length-append, refl, sym, ◌∙◌, ap}
+use Rattle.detection.proofs.Names.{false≢true, cases_lt, take-append-drop, beq, pointwise, ends_with, twice, EndsPattern, IsGap, IsSeen}
+use Rattle.detection.proofs.Names.{Seen, Odp, Adp}
+use Rattle.std.proofs.lemmas.Bool.{or_left, or_right}
+use Rattle.std.proofs.lemmas.List.{drop_at}
+use Rattle.detection.specs.Patterns.{some_below, some_gap, ends_pattern, seen_at}
 use Rattle.detection.proofs.Readings.{backwards, reverse-twice}
 
 -- a test of the last bits

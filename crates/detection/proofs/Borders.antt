@@ -1,18 +1,11 @@
 -- A pattern never reaches over a border of slots.
-use Rattle.std.proofs.Common.{◌≡◌, ◌⊎◌, inl, inr, ℕ, ◌+◌, ◌-◌, ◌/◌, ◌%◌, ◌<◌, ◌≤◌, Bool, true, false, List, [], ◌∷◌, ◌++◌, length, get_or}
-use Rattle.std.proofs.Common.{take, drop, Option, arith, append_assoc, length-append, refl, sym, ◌∙◌, ap, subst}
-use Rattle.std.proofs.lemmas.Bool.{cases_lt, false≢true}
-use Rattle.std.proofs.lemmas.List.{append-nil, take-append-drop, length-take-le, length-replicate, get_or-take, get_or-replicate}
-use Rattle.std.proofs.lemmas.List.{get_or_append_left, get_or-append_right, get_or-append-add}
-use Rattle.bit_stuffing.specs.Flags.{flag}
-use Rattle.bit_stuffing.specs.Slots.{Slot, flags, opening, slot_bits, next_phase, bits_from, phase_from, IsSlot, AreSlots}
-use Rattle.bit_stuffing.specs.Slots.Slot.{Flags}
-use Rattle.bit_stuffing.proofs.Sizes.{length-slot_bits}
-use Rattle.lapm_frames.specs.declared.seen.Seen.{Seen}
-use Rattle.lapm_frames.specs.declared.seen.Seen.TheVariants.{Odp, Adp}
-use Rattle.detection.specs.Patterns.{second, ones, twice, EndsPattern}
-use Rattle.detection.specs.Slots.{Signal, patterns, pattern_bits, slot_of, slots_of}
-use Rattle.detection.specs.Slots.Signal.{PatternSlot, MarkSlot, FlagSlot}
+use Rattle.detection.proofs.Names.{◌≡◌, ◌⊎◌, inl, inr, ℕ, ◌+◌, ◌-◌, ◌/◌, ◌%◌, ◌<◌, ◌≤◌, Bool, true, false, List, [], ◌∷◌, ◌++◌, length}
+use Rattle.detection.proofs.Names.{get_or, take, drop, Option, arith, append_assoc, length-append, refl, sym, ◌∙◌, ap, subst, cases_lt}
+use Rattle.detection.proofs.Names.{false≢true, append-nil, take-append-drop, length-take-le, length-replicate, get_or-take}
+use Rattle.detection.proofs.Names.{get_or-replicate, get_or_append_left, get_or-append_right, get_or-append-add, length-slot_bits, flag}
+use Rattle.detection.proofs.Names.{flags, opening, slot_bits, next_phase, IsSlot, AreSlots, Flags, second, ones, twice, EndsPattern, Signal}
+use Rattle.detection.proofs.Names.{patterns, pattern_bits, slot_of, slots_of, PatternSlot, MarkSlot, FlagSlot, Seen, Odp, Adp}
+use Rattle.bit_stuffing.specs.Slots.{Slot, bits_from, phase_from}
 use Rattle.detection.proofs.Calm.{Calm, calm-behind, no_eight, no_eight-at, slot-begins, slot-calm}
 use Rattle.detection.proofs.Twice.{length-twice, start-zero, gap-ones, second-zero, before_last, Longer, Over, split-ends}
 

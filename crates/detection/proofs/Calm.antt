@@ -1,13 +1,11 @@
 -- Flags and frames have at most six ones in a row.
-use Rattle.std.proofs.Common.{◌≡◌, ℕ, zero, suc, ◌+◌, ◌-◌, ◌/◌, ◌%◌, ◌<◌, ◌≤◌, Bool, true, false, List, [], ◌∷◌, ◌++◌, length, get_or, take}
-use Rattle.std.proofs.Common.{drop, Option, Some, None, arith, append_assoc, length-drop, refl, sym, ◌∙◌, ap, subst}
-use Rattle.std.proofs.lemmas.List.{take-append-drop, get_or-take, get_or-drop, get_or-replicate, get_or_default, same_lists, length-take-le}
+use Rattle.detection.proofs.Names.{◌≡◌, ℕ, zero, suc, ◌+◌, ◌-◌, ◌/◌, ◌%◌, ◌<◌, ◌≤◌, Bool, true, false, List, [], ◌∷◌, ◌++◌, length, get_or}
+use Rattle.detection.proofs.Names.{take, drop, Option, Some, None, arith, append_assoc, length-drop, refl, sym, ◌∙◌, ap, subst}
+use Rattle.detection.proofs.Names.{take-append-drop, get_or-take, get_or-drop, get_or-replicate, get_or_default, same_lists, length-take-le}
+use Rattle.detection.proofs.Names.{flag, flags, opening, slot_bits, Flags, ones}
 use Rattle.frame_check.specs.Bits.{bits_of}
-use Rattle.bit_stuffing.specs.Flags.{flag}
 use Rattle.bit_stuffing.specs.Stuffing.{stuffed}
-use Rattle.bit_stuffing.specs.Slots.{flags, fill, rest_of_flag, framed, opening, slot_bits}
-use Rattle.bit_stuffing.specs.Slots.Slot.{Flags}
-use Rattle.detection.specs.Patterns.{ones}
+use Rattle.bit_stuffing.specs.Slots.{fill, rest_of_flag, framed}
 
 -- bits of which so many ones may stand at the head, and at most six in a row behind a zero
 abbrev pub Calm : List Bool → ℕ → Type 0

@@ -1,17 +1,12 @@
 -- Where patterns end in a pattern slot.
-use Rattle.std.proofs.Common.{◌≡◌, inl, inr, ℕ, zero, suc, ◌+◌, ◌-◌, ◌*◌, ◌/◌, ◌%◌, ◌<◌, ◌≤◌, Bool, true, false, not, ◌&&◌, ◌||◌}
-use Rattle.std.proofs.Common.{if◌then◌else◌, nat_eq, nat_lt, List, ◌++◌, length, get_or, take, Option, Some, None, lit≤, arith}
-use Rattle.std.proofs.Common.{append_assoc, length-append, refl, sym, ◌∙◌, ap}
-use Rattle.std.specs.Bool.{beq}
-use Rattle.std.specs.List.{ends_with}
-use Rattle.std.specs.Cmp.Lexicographic.{pointwise}
-use Rattle.std.proofs.lemmas.Bool.{cases_lt, false≢true, eqb-true, and_parts, le-ltb, ltb-true}
-use Rattle.std.proofs.lemmas.List.{take-append-le, length-take-le, length-replicate, get_or-take, get_or-replicate, get_or-append_right}
-use Rattle.std.proofs.lemmas.List.{get_or-append-add}
-use Rattle.lapm_frames.specs.declared.seen.Seen.{Seen}
-use Rattle.lapm_frames.specs.declared.seen.Seen.TheVariants.{Odp, Adp}
-use Rattle.detection.specs.Patterns.{second, ones, twice, EndsPattern, IsGap}
-use Rattle.detection.specs.Slots.{patterns, pattern_bits}
+use Rattle.detection.proofs.Names.{◌≡◌, inl, inr, ℕ, zero, suc, ◌+◌, ◌-◌, ◌*◌, ◌/◌, ◌%◌, ◌<◌, ◌≤◌, Bool, true, false, ◌||◌, if◌then◌else◌}
+use Rattle.detection.proofs.Names.{nat_eq, List, ◌++◌, length, get_or, take, Option, Some, None, lit≤, arith, append_assoc, length-append}
+use Rattle.detection.proofs.Names.{refl, sym, ◌∙◌, ap, cases_lt, false≢true, eqb-true, take-append-le, length-take-le, length-replicate}
+use Rattle.detection.proofs.Names.{get_or-take, get_or-replicate, get_or-append_right, get_or-append-add, beq, pointwise, ends_with, second}
+use Rattle.detection.proofs.Names.{ones, twice, EndsPattern, IsGap, patterns, pattern_bits, Seen, Odp, Adp}
+use Rattle.std.proofs.Common.{not, ◌&&◌}
+use Rattle.std.proofs.Common.{nat_lt}
+use Rattle.std.proofs.lemmas.Bool.{and_parts, le-ltb, ltb-true}
 use Rattle.detection.specs.Sights.{sights_from}
 use Rattle.detection.proofs.Answered.{same-bits, text-ends}
 use Rattle.detection.proofs.Written.{ones-append}

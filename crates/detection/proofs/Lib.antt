@@ -1,3 +1,4 @@
+mod Names
 mod Registers
 mod Quiet
 mod Readings

@@ -1,14 +1,8 @@
 -- The bits of a slot tell what it carries.
-use Rattle.std.proofs.Common.{◌≡◌, ℕ, zero, suc, ◌<◌, Bool, true, false, List, Option, refl, sym, ap}
-use Rattle.std.proofs.Common.{arith, slice_index_or}
-use Rattle.lapm_frames.specs.declared.seen.Seen.{Seen}
-use Rattle.lapm_frames.specs.declared.seen.Seen.TheVariants.{Odp, Adp}
-use Rattle.bit_stuffing.specs.Slots.{slot_bits, IsSlot}
-use Rattle.bit_stuffing.specs.Slots.Slot.{Flags}
+use Rattle.detection.proofs.Names.{◌≡◌, ℕ, zero, suc, ◌<◌, Bool, true, false, List, Option, refl, sym, ap, arith, slot_bits, IsSlot, Flags}
+use Rattle.detection.proofs.Names.{ones, Signal, pattern_bits, slot_of, PatternSlot, MarkSlot, FlagSlot, Seen, Odp, Adp}
+use Rattle.std.proofs.Common.{slice_index_or}
 use Rattle.bit_stuffing.proofs.OneFrame.{one-frame}
-use Rattle.detection.specs.Patterns.{ones}
-use Rattle.detection.specs.Slots.{Signal, pattern_bits, slot_of}
-use Rattle.detection.specs.Slots.Signal.{PatternSlot, MarkSlot, FlagSlot}
 
 -- two lists that differ at a place are not one
 differ : (place : ℕ) (a b : List Bool) → slice_index_or a place false ≡ false → slice_index_or b place false ≡ true → a ≡ b → ⊥

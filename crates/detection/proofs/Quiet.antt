@@ -1,21 +1,15 @@
 -- Four bits, or eight, with which no pattern ends.
-use Rattle.std.proofs.Common.{◌≡◌, inl, inr, ℕ, ◌+◌, ◌-◌, ◌*◌, ◌/◌, ◌%◌, ◌^◌, ◌<◌, ◌≤◌, min, Bool, true}
-use Rattle.std.proofs.Common.{List, ◌++◌, length, get_or, take, drop, reverse, None, bit_and, bit_or, lit≤, arith, length-append}
-use Rattle.std.proofs.Common.{refl, sym}
-use Rattle.std.proofs.Common.{◌∙◌, ap, subst, append_assoc}
-use Rattle.std.specs.Bool.{beq}
-use Rattle.std.specs.Cmp.Lexicographic.{pointwise}
-use Rattle.std.specs.Int.{bit_at}
-use Rattle.std.proofs.lemmas.Bool.{cases_lt}
-use Rattle.std.proofs.lemmas.List.{append-nil, reverse-append, length-reverse, take-append-drop, length-drop, get_or_append_left}
-use Rattle.std.proofs.lemmas.List.{get_or-append_right, get_or-replicate}
-use Rattle.std.proofs.lemmas.Nat.{shr-shr, or_shifted}
-use Rattle.std.proofs.lemmas.Nat.Bits.{bit_at_and, bit_at_cat_low, bit_at_cat_high, bit_at-zero}
-use Rattle.frame_check.specs.Bits.{number, low_bits}
-use Rattle.lapm_frames.specs.declared.seen.Seen.{Seen}
-use Rattle.detection.specs.Patterns.{ones, seen_at, EndsPattern, second}
+use Rattle.detection.proofs.Names.{◌≡◌, inl, inr, ℕ, ◌+◌, ◌-◌, ◌*◌, ◌/◌, ◌%◌, ◌^◌, ◌<◌, ◌≤◌, Bool, true, List, ◌++◌, length, get_or, take}
+use Rattle.detection.proofs.Names.{drop, reverse, None, bit_or, lit≤, arith, length-append, refl, sym, ◌∙◌, ap, subst, append_assoc}
+use Rattle.detection.proofs.Names.{cases_lt, append-nil, reverse-append, take-append-drop, get_or_append_left, get_or-append_right}
+use Rattle.detection.proofs.Names.{get_or-replicate, shr-shr, or_shifted, bit_at_cat_low, beq, pointwise, bit_at, ones, EndsPattern, second}
+use Rattle.detection.proofs.Names.{Holds, ReaderStands, number, low_bits, Seen}
+use Rattle.std.proofs.Common.{min}
+use Rattle.std.proofs.Common.{bit_and}
+use Rattle.std.proofs.lemmas.List.{length-reverse, length-drop}
+use Rattle.std.proofs.lemmas.Nat.Bits.{bit_at_and, bit_at_cat_high, bit_at-zero}
+use Rattle.detection.specs.Patterns.{seen_at}
 use Rattle.detection.specs.Sights.{sights_of}
-use Rattle.detection.specs.Reader.{Holds, ReaderStands}
 use Rattle.detection.proofs.Answered.{seen-once, same-bits}
 use Rattle.detection.proofs.Inside.{each_below, at_each}
 use Rattle.detection.proofs.Registers.{spelled, bit_at-rem}

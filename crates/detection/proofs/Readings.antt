@@ -1,14 +1,12 @@
 -- Patterns, read from their end.
-use Rattle.std.proofs.Common.{◌≡◌, ℕ, zero, suc, ◌+◌, ◌-◌, ◌≤◌, Bool, true, false, List, [], ◌∷◌, ◌++◌, reverse, Option, Some, None, lit≤}
-use Rattle.std.proofs.Common.{arith, append_assoc, refl, sym, ◌∙◌, ap, subst}
+use Rattle.detection.proofs.Names.{◌≡◌, ℕ, zero, suc, ◌+◌, ◌-◌, ◌≤◌, Bool, true, false, List, [], ◌∷◌, ◌++◌, reverse, Option, Some, None}
+use Rattle.detection.proofs.Names.{lit≤, arith, append_assoc, refl, sym, ◌∙◌, ap, subst, false≢true, reverse-append}
+use Rattle.detection.proofs.Names.{replicate-append-replicate, first, second, ones, twice, EndsPattern, IsGap, Holds, EndsCharacter}
+use Rattle.detection.proofs.Names.{LeftBehind, LeftBehindOnce, Seen, Odp, Adp}
 use Rattle.std.specs.Bool.{IsTrue}
 use Rattle.std.specs.Option.{is_some}
-use Rattle.std.proofs.lemmas.Bool.{false≢true}
-use Rattle.std.proofs.lemmas.List.{reverse-append, reverse-reverse, append_cancel_left, replicate-append-replicate}
-use Rattle.lapm_frames.specs.declared.seen.Seen.{Seen}
-use Rattle.lapm_frames.specs.declared.seen.Seen.TheVariants.{Odp, Adp}
-use Rattle.detection.specs.Patterns.{first, second, ones, twice, EndsPattern, IsGap}
-use Rattle.detection.specs.Reader.{Holds, EndsCharacter, EndsOnce, LeftBehind, LeftBehindOnce}
+use Rattle.std.proofs.lemmas.List.{reverse-reverse, append_cancel_left}
+use Rattle.detection.specs.Reader.{EndsOnce}
 
 -- the ones at the head
 abbrev pub leading : List Bool → ℕ

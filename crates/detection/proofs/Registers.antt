@@ -1,18 +1,14 @@
 -- A number whose low bits are the latest bits of a stream.
-use Rattle.std.proofs.Common.{◌≡◌, ℕ, zero, suc, ◌+◌, ◌-◌, ◌*◌, ◌/◌, ◌%◌, ◌^◌, ◌<◌, ◌≤◌, inl, inr, Bool, true, false, nat_eq, List, [], ◌∷◌}
-use Rattle.std.proofs.Common.{◌++◌, length, get_or, drop, reverse, bit_or, arith, length-append, length-drop, refl, sym, ◌∙◌, ap, subst}
-use Rattle.std.specs.Int.{bit_at, trailing_ones}
-use Rattle.std.specs.Int.Width.{w128}
-use Rattle.std.proofs.lemmas.Bool.{cases_lt, false≢true}
-use Rattle.std.proofs.lemmas.List.{length-replicate, reverse-append, get_or-replicate, get_or_append_left, get_or-append_right, get_or-drop}
-use Rattle.std.proofs.lemmas.List.{get_or_default, get_or_past, same_lists}
-use Rattle.std.proofs.lemmas.Nat.{shr-shr, shr_split, or_shifted}
-use Rattle.std.proofs.lemmas.Nat.Bits.{bit_at-lt, bit_at-suc, bit_at_lowest, bit_at_ones, bit_at_cat_low, bit_at-trailing_ones}
+use Rattle.detection.proofs.Names.{◌≡◌, ℕ, zero, suc, ◌+◌, ◌-◌, ◌*◌, ◌/◌, ◌%◌, ◌^◌, ◌<◌, ◌≤◌, inl, inr, Bool, true, false, nat_eq, List, []}
+use Rattle.detection.proofs.Names.{◌∷◌, ◌++◌, length, get_or, drop, reverse, bit_or, arith, length-append, length-drop, refl, sym, ◌∙◌, ap}
+use Rattle.detection.proofs.Names.{subst, cases_lt, false≢true, length-replicate, reverse-append, get_or-replicate, get_or_append_left}
+use Rattle.detection.proofs.Names.{get_or-append_right, get_or-drop, get_or_default, same_lists, shr-shr, or_shifted, bit_at_cat_low}
+use Rattle.detection.proofs.Names.{bit_at, trailing_ones, w128, ones, Holds, ReaderStands, EndsCharacter, number, low_bits}
+use Rattle.std.proofs.lemmas.List.{get_or_past}
+use Rattle.std.proofs.lemmas.Nat.{shr_split}
+use Rattle.std.proofs.lemmas.Nat.Bits.{bit_at-lt, bit_at-suc, bit_at_lowest, bit_at_ones, bit_at-trailing_ones}
 use Rattle.std.proofs.lemmas.Nat.Bits.{same_from_bits_below}
-use Rattle.frame_check.specs.Bits.{number, low_bits}
 use Rattle.frame_check.proofs.BitLists.{length-low_bits, get_or-low_bits}
-use Rattle.detection.specs.Patterns.{ones}
-use Rattle.detection.specs.Reader.{Holds, ReaderStands, EndsCharacter}
 
 pub number-lt : (b : Bool) → number b < 2
 number-lt q0 = grind (arith)

@@ -1,16 +1,14 @@
 -- What is seen in slots is what was sent in them.
-use Rattle.std.proofs.Common.{◌≡◌, ℕ, suc, ◌+◌, ◌<◌, ◌≤◌, Bool, true, false, if◌then◌else◌, List, [], ◌∷◌, ◌++◌, All, length, take, Option}
-use Rattle.std.proofs.Common.{Some, None, arith, append_assoc, refl, sym, ◌∙◌, ap, subst}
-use Rattle.std.proofs.lemmas.Bool.{false≢true}
-use Rattle.std.proofs.lemmas.List.{map-append, length-replicate}
+use Rattle.detection.proofs.Names.{◌≡◌, ℕ, suc, ◌+◌, ◌<◌, ◌≤◌, Bool, true, false, if◌then◌else◌, List, [], ◌∷◌, ◌++◌, All, length, take}
+use Rattle.detection.proofs.Names.{Option, Some, None, arith, append_assoc, refl, sym, ◌∙◌, ap, subst, false≢true, map-append}
+use Rattle.detection.proofs.Names.{length-replicate, length-slot_bits, slot_bits, next_phase, IsSlot, AreSlots, EndsPattern, IsSeen, Signal}
+use Rattle.detection.proofs.Names.{pattern_bits, slot_of, slots_of, PatternSlot, MarkSlot, FlagSlot, Seen}
 use Rattle.std.proofs.lemmas.List.Elements.{All-head, All-tail}
-use Rattle.bit_stuffing.specs.Slots.{slot_bits, next_phase, phase_after, IsSlot, AreSlots}
+use Rattle.bit_stuffing.specs.Slots.{phase_after}
 use Rattle.bit_stuffing.proofs.Fill.{bits-append, next-low}
-use Rattle.bit_stuffing.proofs.Sizes.{length-slot_bits, length-empty, length-opening}
-use Rattle.lapm_frames.specs.declared.seen.Seen.{Seen}
-use Rattle.detection.specs.Patterns.{EndsPattern, IsSeen, seen_at}
-use Rattle.detection.specs.Slots.{Signal, CanCarry, pattern_bits, slot_of, slots_of, signal_bits}
-use Rattle.detection.specs.Slots.Signal.{PatternSlot, MarkSlot, FlagSlot}
+use Rattle.bit_stuffing.proofs.Sizes.{length-empty, length-opening}
+use Rattle.detection.specs.Patterns.{seen_at}
+use Rattle.detection.specs.Slots.{CanCarry, signal_bits}
 use Rattle.detection.specs.Sights.{sights_of, seen_in, EndsInSlot, IsSent}
 use Rattle.detection.proofs.Answered.{seen-once}
 use Rattle.detection.proofs.Written.{pattern-plain, mark-plain}

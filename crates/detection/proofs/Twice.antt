@@ -1,10 +1,7 @@
 -- The bits of two whole patterns, by place.
-use Rattle.std.proofs.Common.{◌≡◌, ◌⊎◌, inl, inr, ℕ, ◌+◌, ◌-◌, ◌*◌, ◌<◌, ◌≤◌, Bool, true, false, List, [], ◌∷◌, ◌++◌, length, get_or, drop}
-use Rattle.std.proofs.Common.{arith, append_assoc, length-append, refl, sym, ◌∙◌, ap}
-use Rattle.std.proofs.lemmas.List.{length-replicate, get_or-replicate, get_or_append_left, get_or-append_right}
-use Rattle.lapm_frames.specs.declared.seen.Seen.{Seen}
-use Rattle.lapm_frames.specs.declared.seen.Seen.TheVariants.{Odp, Adp}
-use Rattle.detection.specs.Patterns.{first, second, ones, twice}
+use Rattle.detection.proofs.Names.{◌≡◌, ◌⊎◌, inl, inr, ℕ, ◌+◌, ◌-◌, ◌*◌, ◌<◌, ◌≤◌, Bool, true, false, List, [], ◌∷◌, ◌++◌, length, get_or}
+use Rattle.detection.proofs.Names.{drop, arith, append_assoc, length-append, refl, sym, ◌∙◌, ap, length-replicate, get_or-replicate}
+use Rattle.detection.proofs.Names.{get_or_append_left, get_or-append_right, first, second, ones, twice, Seen, Odp, Adp}
 
 pub length-first : (seen : Seen) → length (first seen) ≡ 9
 length-first q0 = grind (arith)

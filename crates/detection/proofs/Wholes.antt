@@ -1,6 +1,5 @@
 -- How many quads the bits of a slot have.
-use Rattle.std.proofs.Common.{ℕ, ◌*◌, ◌≡◌, Bool, List, length, arith}
-use Rattle.bit_stuffing.specs.BitSlot.{line_bits}
+use Rattle.detection.proofs.Names.{ℕ, ◌*◌, ◌≡◌, Bool, List, length, arith, line_bits}
 use Rattle.bit_stuffing.proofs.Written.{length-line_bits}
 
 -- so many quads are a slot's

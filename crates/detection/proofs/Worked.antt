@@ -1,9 +1,7 @@
 -- Worked values of the definitions.
-use Rattle.std.proofs.Common.{◌≡◌, true, false, [], ◌∷◌, ◌++◌, refl, Some, None}
-use Rattle.bit_stuffing.specs.BitSlot.{line_bits}
-use Rattle.lapm_frames.specs.declared.seen.Seen.TheVariants.{Odp, Adp}
-use Rattle.detection.specs.Patterns.{ones, first, second, twice, seen_at}
-use Rattle.detection.specs.Slots.{pattern}
+use Rattle.detection.proofs.Names.{◌≡◌, true, false, [], ◌∷◌, ◌++◌, refl, Some, None, line_bits, ones, first, second, twice, pattern, Odp}
+use Rattle.detection.proofs.Names.{Adp}
+use Rattle.detection.specs.Patterns.{seen_at}
 
 sixteen : seen_at (twice Odp 16 16 16) ≡ Some Odp
 unfolding seen_at

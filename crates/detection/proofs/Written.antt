@@ -1,13 +1,8 @@
 -- The bits of pattern slots and of mark slots.
-use Rattle.std.proofs.Common.{◌≡◌, ℕ, zero, suc, ◌+◌, ◌-◌, ◌≤◌, true, List, [], ◌∷◌, ◌++◌, arith, append_assoc, refl, sym, ◌∙◌, ap, subst}
-use Rattle.std.proofs.lemmas.List.{append-nil, replicate-append-replicate}
-use Rattle.bit_stuffing.specs.BitSlot.{line_bits}
-use Rattle.bit_stuffing.specs.Slots.{IsPlain}
+use Rattle.detection.proofs.Names.{◌≡◌, ℕ, zero, suc, ◌+◌, ◌-◌, ◌≤◌, true, List, [], ◌∷◌, ◌++◌, arith, append_assoc, refl, sym, ◌∙◌, ap}
+use Rattle.detection.proofs.Names.{subst, append-nil, replicate-append-replicate, line_bits, IsPlain, ones, pattern, patterns, pattern_bits}
+use Rattle.detection.proofs.Names.{Seen, Odp, Adp}
 use Rattle.bit_stuffing.proofs.Sizes.{plain-by_tests, plain-grows}
-use Rattle.lapm_frames.specs.declared.seen.Seen.{Seen}
-use Rattle.lapm_frames.specs.declared.seen.Seen.TheVariants.{Odp, Adp}
-use Rattle.detection.specs.Patterns.{ones}
-use Rattle.detection.specs.Slots.{pattern, patterns, pattern_bits}
 
 pub line_bits-append : (quads more : List ℕ) → line_bits (quads ++ more) ≡ line_bits quads ++ line_bits more
 line_bits-append [] more = refl

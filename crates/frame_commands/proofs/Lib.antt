@@ -1,2 +1,3 @@
+mod Names
 pub mod Listing
 pub mod Explaining

@@ -1,17 +1,16 @@
 -- What two ends of a play know of each other: once the originator has heard the answer to its offer, both have the terms of both offers.
-use Rattle.std.proofs.Common.{◌≡◌, ◌≢◌, ◌∙◌, ◌⊎◌, inl, inr, ℕ, ◌≤◌, Bool, true, false, cond, List, [], ◌∷◌, ◌++◌, refl, sym, ap, subst}
-use Rattle.std.proofs.Common.{arith, Option, Some, None, Ok}
-use Rattle.link_account.proofs.Names.{is_some, AllByRecursion, false≢true, Role, Originator, Answerer, is_originator, other, Check, Frame}
-use Rattle.link_account.proofs.Names.{Sabme, Disc, Xid, Arrived, Sent, Offer, Terms, agree, offer_in, written, Account, check_of, fresh}
-use Rattle.link_account.proofs.Names.{Slot, arrives, hear, without_adp, Said, frame_for, ready_frame, nr_of, speak}
+use Rattle.gateway.proofs.Names.{◌≡◌, ◌∙◌, ◌⊎◌, inl, inr, ℕ, ◌≤◌, Bool, true, false, cond, List, [], ◌∷◌, ◌++◌, refl, sym, ap, subst, arith}
+use Rattle.gateway.proofs.Names.{Option, Some, None, Ok, has_number, false≢true, Role, Originator, Answerer, other, Check, Frame, Arrived}
+use Rattle.gateway.proofs.Names.{Sent, Account, check_of, fresh, Slot, arrives, hear, Said, speak, linked-alike, tries-alike, Phase}
+use Rattle.gateway.proofs.Names.{Detecting, Negotiating, Establishing, Connected, Releasing, Closed, Setup}
+use Rattle.std.proofs.Common.{◌≢◌}
+use Rattle.link_account.proofs.Names.{is_some, AllByRecursion, is_originator}
+use Rattle.link_account.proofs.Names.{Sabme, Disc, Xid, Offer, Terms, agree, offer_in, written}
+use Rattle.link_account.proofs.Names.{without_adp, frame_for, ready_frame, nr_of}
 use Rattle.frame_check.specs.declared.check.Check.TheVariants.{Sixteen, ThirtyTwo}
-use Rattle.lapm_frames.specs.Frame.{has_number}
-use Rattle.link_account.specs.declared.setup.Setup.{Setup}
-use Rattle.link_account.specs.declared.phase.Phase.{Phase}
-use Rattle.link_account.specs.declared.phase.Phase.TheVariants.{Detecting, Negotiating, Establishing, Connected, Releasing, Closed}
 use Rattle.link_account.specs.declared.answer.Answer.{Answer}
 use Rattle.link_account.proofs.HearWays.{numbers-alike}
-use Rattle.link_account.proofs.SpeakWays.{Tries, linked-alike, tries-alike, retimed}
+use Rattle.link_account.proofs.SpeakWays.{Tries, retimed}
 use Rattle.lapm_frames.specs.declared.arrived.Arrived.TheVariants as arrivals
 use Rattle.lapm_frames.specs.declared.sent.Sent.TheVariants as slots
 use Rattle.link_account.specs.declared.answer.Answer.TheVariants as answers

@@ -1,27 +1,18 @@
 -- How many samples a decoder has read, and which one lost the line.
-use Rattle.std.proofs.Common.{◌≡◌, ℕ, zero, suc, ◌+◌, ◌<◌, ◌≤◌, ℤ, Bool, List, ◌++◌, length, take, drop, Option, Some, None, inl}
-use Rattle.std.proofs.Common.{inr}
-use Rattle.std.proofs.Common.{refl, sym, ◌∙◌, ap, subst, arith, append_assoc, length-append}
+use Rattle.gateway.proofs.Names.{◌≡◌, ℕ, zero, suc, ◌+◌, ◌<◌, ◌≤◌, ℤ, Bool, List, ◌++◌, length, take, drop, Option, Some, None, inl, inr}
+use Rattle.gateway.proofs.Names.{refl, sym, ◌∙◌, ap, subst, arith, append_assoc, length-append, take-append-le, take-append-drop, take_all}
+use Rattle.gateway.proofs.Names.{length-take-le, DecoderStands, IsReleased, LostIs, HasDecoded, decoding_of, samples_in, ReadsAs, AnyReader}
+use Rattle.gateway.proofs.Names.{LineKind, Reading, SamplesRead, Mode, Sample}
 use Rattle.std.proofs.Math.Seq.{take-append-add}
 use Rattle.std.proofs.lemmas.Bool.{cases_lt}
-use Rattle.std.proofs.lemmas.List.{take-append-le, take-append-drop, take_all, length-take-le}
-use Rattle.scramblers.specs.declared.mode.Mode.{Mode}
-use Rattle.symbol_map.specs.declared.sample.Sample.{Sample}
-use Rattle.exact_decoder.specs.Decoder.{Decoding, DecoderStands, heard}
+use Rattle.exact_decoder.specs.Decoder.{Decoding, heard}
 use Rattle.exact_decoder.specs.Surviving.Trellises.{Trellis, trellis_of}
-use Rattle.exact_decoder.specs.Surviving.Survivors.{IsReleased, IsLost, LostIs}
+use Rattle.exact_decoder.specs.Surviving.Survivors.{IsLost}
 use Rattle.exact_decoder.proofs.Surviving.Fronts.{over-before, over-more}
 use Rattle.exact_decoder.proofs.Pushed.{none-some}
-use Rattle.line_coding.specs.Reading.{Reading, SamplesRead}
-use Rattle.gateway.specs.declared.any_reader.AnyReader.{AnyReader}
 use Rattle.gateway.specs.declared.any_reader.AnyReader.TheVariants as readers
-use Rattle.gateway.specs.declared.any_reader.LineKind.{LineKind}
 use Rattle.gateway.specs.declared.any_reader.LineKind.TheVariants as lines
 use Rattle.gateway.specs.declared.decoder.SampleDecoder.{SampleDecoder}
-use Rattle.gateway.specs.Decoded.{HasDecoded}
-use Rattle.gateway.specs.Decoding.{decoding_of}
-use Rattle.gateway.specs.Given.{samples_in}
-use Rattle.gateway.specs.Reads.{ReadsAs}
 
 pub length-samples_in : (count : ℕ) (parts : List ℤ) → length (samples_in count parts) ≡ count
 length-samples_in zero parts = refl

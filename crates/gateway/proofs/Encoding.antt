@@ -1,8 +1,6 @@
 -- Bits that are read in twos and fours, and a sample that is put behind those that are given.
-use Rattle.std.proofs.Common.{◌≡◌, ℕ, zero, suc, ◌+◌, ◌*◌, ◌%◌, ◌<◌, ◌≤◌, ℤ, pos, Bool, List, [], ◌∷◌, ◌++◌, length, get_or, set, nat_eq}
-use Rattle.std.proofs.Common.{refl, arith, get_or-set_same, get_or-set_other, length-set, append_assoc}
-use Rattle.symbol_map.specs.declared.sample.Sample.{Sample}
-use Rattle.gateway.specs.Given.{heard, samples_in}
+use Rattle.gateway.proofs.Names.{◌≡◌, ℕ, zero, suc, ◌+◌, ◌*◌, ◌%◌, ◌<◌, ◌≤◌, ℤ, pos, Bool, List, [], ◌∷◌, ◌++◌, length, get_or, set, nat_eq}
+use Rattle.gateway.proofs.Names.{refl, arith, get_or-set_same, get_or-set_other, length-set, append_assoc, heard, samples_in, Sample}
 
 pub heard-two : (bits : List ℕ) (at : ℕ) (c d : Bool) → nat_eq (get_or bits at 0 % 2) 1 ≡ c → nat_eq (get_or bits (at + 1) 0 % 2) 1 ≡ d
     → heard (at + 2) bits ≡ heard at bits ++ c ∷ d ∷ []

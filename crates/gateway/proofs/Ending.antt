@@ -1,20 +1,15 @@
 -- What a reader's tail and its bits make of the line's end.
-use Rattle.std.proofs.Common.{ℕ, Bool, List, ◌++◌}
-use Rattle.scramblers.specs.declared.mode.Mode.{Mode}
-use Rattle.symbol_map.specs.declared.sample.Sample.{Sample}
-use Rattle.symbol_map.specs.Points.{point_of}
-use Rattle.trellis_tables.specs.Table.{next_state}
-use Rattle.exact_decoder.specs.Surviving.V32.{at_beginning, line_depth}
-use Rattle.line_coding.specs.Reading.{Reading, SamplesRead, IsFinished}
-use Rattle.line_coding.specs.Demodulates.{DemodulatorStands}
+use Rattle.gateway.proofs.Names.{ℕ, Bool, List, ◌++◌, at_beginning, Read, ReadsAs, LineKind, DemodulatorStands, Reading, SamplesRead, Mode}
+use Rattle.gateway.proofs.Names.{point_of, Sample, next_state}
+use Rattle.exact_decoder.specs.Surviving.V32.{line_depth}
+use Rattle.line_coding.specs.Reading.{IsFinished}
 use Rattle.line_coding.specs.declared.demodulator.Demodulator.{Demodulator}
 use Rattle.rate_4800.specs.Code.{next_state as next_quarter, point_of as quarter_of}
 use Rattle.rate_4800.specs.Demodulates.{DemodulatorStands as QuarterDemodulatorStands}
 use Rattle.rate_4800.specs.declared.demodulator.Demodulator.{Demodulator as QuarterDemodulator}
 use Rattle.gateway.specs.declared.any_reader.AnyReader.TheVariants as readers
-use Rattle.gateway.specs.declared.any_reader.LineKind.{LineKind}
 use Rattle.gateway.specs.declared.any_reader.LineKind.TheVariants as lines
-use Rattle.gateway.specs.Reads.{Read, ReadsAs, Ends}
+use Rattle.gateway.specs.Reads.{Ends}
 
 pub begun-ends : (line : LineKind) (mode : Mode) (r : Reading Demodulator) (samples : List Sample) (before more : List Bool) (tail : List ℕ)
     (d : Demodulator)

@@ -1,17 +1,16 @@
 -- Where a frame alone ends among the bits of a slot.
-use Rattle.std.proofs.Common.{ℕ, zero, suc, ◌+◌, ◌-◌, ◌*◌, ◌≡◌, ◌<◌, ◌≤◌, ◌∷◌, ◌++◌, Bool, true, false, List, [], Option, Some, None}
-use Rattle.std.proofs.Common.{nat_eq, get_or, length, take, refl, ap, sym, subst, ◌∙◌, arith, append_assoc, length-append, zero-add}
+use Rattle.gateway.proofs.Names.{ℕ, zero, suc, ◌+◌, ◌-◌, ◌*◌, ◌≡◌, ◌<◌, ◌≤◌, ◌∷◌, ◌++◌, Bool, true, false, List, [], Option, Some, None}
+use Rattle.gateway.proofs.Names.{nat_eq, get_or, length, take, refl, ap, sym, subst, ◌∙◌, arith, append_assoc, length-append, is_some}
+use Rattle.gateway.proofs.Names.{line_bits, answer_of, pieces_of, opening, slot_bits, Flags, given}
+use Rattle.std.proofs.Common.{zero-add}
 use Rattle.std.proofs.Common.{true≢false}
 use Rattle.std.specs.Option.{option_map}
-use Rattle.std.specs.Prelude.{All, is_some}
+use Rattle.std.specs.Prelude.{All}
 use Rattle.std.proofs.lemmas.List.{append-nil}
 use Rattle.std.proofs.Math.Seq.{take-append_seam}
-use Rattle.bit_stuffing.specs.BitSlot.{line_bits}
-use Rattle.bit_stuffing.specs.Found.{Found, answer_of, found_at, listed, pieces_of}
+use Rattle.bit_stuffing.specs.Found.{Found, found_at, listed}
 use Rattle.bit_stuffing.specs.Sent.{Added, SlotAdds, whole_at}
-use Rattle.bit_stuffing.specs.Slots.{AreSlots, IsFrame, Slot, fill, opening, slot_bits}
-use Rattle.bit_stuffing.specs.Slots.Slot.{Flags}
-use Rattle.gateway.specs.Given.{given}
+use Rattle.bit_stuffing.specs.Slots.{AreSlots, IsFrame, Slot, fill}
 use Rattle.gateway.specs.FrameBits.{OpensFrame}
 use Rattle.gateway.proofs.Slotted.{length-given}
 

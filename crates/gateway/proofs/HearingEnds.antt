@@ -1,23 +1,18 @@
 -- What an endpoint hears and says, by what its end of the link does.
-use Rattle.std.proofs.Common.{arith, ◌≡◌, ℕ, Option, Result, Ok, Err, subst}
+use Rattle.gateway.proofs.Names.{arith, ◌≡◌, ℕ, Option, Result, Ok, Err, subst, HeardAs, SaysAs, Arrives, told_as, Carried, Told}
+use Rattle.gateway.proofs.Names.{IsSendable, StandsFor, AnyEnd}
 use Rattle.frame_check.specs.declared.check.Check.{Check}
 use Rattle.shared_terms.specs.declared.role.Role.{Role}
 use Rattle.shared_terms.specs.Role.{other}
 use Rattle.shared_terms.specs.declared.fault.LinkFault.{LinkFault}
 use Rattle.lapm_frames.specs.declared.arrived.Arrived.{Arrived}
 use Rattle.lapm_frames.specs.declared.sent.Sent.{Sent}
-use Rattle.lapm_frames.specs.Sendable.{IsSendable}
 use Rattle.link_account.specs.Account.{Account, check_of, given_break, after_given}
 use Rattle.link_account.specs.Speak.{Said}
-use Rattle.lapm_link.specs.declared.any_end.AnyEnd.{AnyEnd}
 use Rattle.lapm_link.specs.declared.any_end.AnyEnd.TheVariants.{Closed}
 use Rattle.lapm_link.specs.declared.closed.Broken.{Broken}
-use Rattle.lapm_link.specs.Stands.{StandsFor, Speaks}
+use Rattle.lapm_link.specs.Stands.{Speaks}
 use Rattle.lapm_link.specs.Stands as stands
-use Rattle.gateway.specs.declared.turns.Carried.{Carried}
-use Rattle.gateway.specs.declared.turns.Told.{Told}
-use Rattle.gateway.specs.Turns.{Arrives, told_as}
-use Rattle.gateway.specs.Endpoints.{HeardAs, SaysAs}
 
 -- what arrives, by the check and the sender that the code uses
 pub arrives-as : (check : Check) (sender role : Role) (carried : Carried) (arrived : Arrived) (a : Account) → check ≡ check_of a

@@ -1,30 +1,25 @@
 -- The calls that are made of two ends are the events of a play.
-use Rattle.std.proofs.Common.{◌≡◌, ◌∙◌, ℕ, ◌+◌, ◌<◌, ◌≤◌, ◌&&◌, Bool, true, false, cond, nat_le, nat_lt, List, [], ◌∷◌, ◌++◌, length}
-use Rattle.std.proofs.Common.{Option, Some, None, Result, Ok, Err, refl, sym, ap, subst, take, drop, inl, inr, arith, length-append}
-use Rattle.link_account.proofs.Names.{is_some, take-append-drop, append_assoc, nat_tests, false≢true, Check, Role, Originator, Answerer}
-use Rattle.link_account.proofs.Names.{other, Both, of, IsPrefixOf, LinkFault, Frame, Arrived, Sent, ReadsWritten, Account, fresh, check_of}
-use Rattle.link_account.proofs.Names.{wants, piece_size, after_given, after_offer, after_break_asked, after_busy, is_connected, hear, Said}
-use Rattle.link_account.proofs.Names.{speak, Slot, Play, arrives, MayPlay, KeepsTaken}
+use Rattle.gateway.proofs.Names.{◌≡◌, ◌∙◌, ℕ, ◌+◌, ◌<◌, ◌≤◌, Bool, true, false, cond, List, [], ◌∷◌, ◌++◌, length, Option, Some, None}
+use Rattle.gateway.proofs.Names.{Result, Ok, Err, refl, sym, ap, subst, take, drop, inl, inr, arith, length-append, take-append-le}
+use Rattle.gateway.proofs.Names.{take_more, HeardAs, SaysAs, Arrives, told_as, Carried, Told, has_number, IsSendable, StandsFor, AnyEnd}
+use Rattle.gateway.proofs.Names.{false≢true, Check, Role, Originator, Answerer, other, Frame, Arrived, Sent, Account, fresh, check_of, hear}
+use Rattle.gateway.proofs.Names.{Said, speak, Slot, arrives, KeepsTaken, has_begun, Phase, Setup}
+use Rattle.std.proofs.Common.{◌&&◌, nat_le, nat_lt}
+use Rattle.link_account.proofs.Names.{is_some, take-append-drop, append_assoc, nat_tests}
+use Rattle.link_account.proofs.Names.{Both, of, IsPrefixOf, LinkFault, ReadsWritten}
+use Rattle.link_account.proofs.Names.{wants, piece_size, after_given, after_offer, after_break_asked, after_busy, is_connected}
+use Rattle.link_account.proofs.Names.{Play, MayPlay}
 use Rattle.std.specs.Prelude.{slice_index_or}
-use Rattle.std.proofs.lemmas.List.{take-append-le, take_more}
-use Rattle.lapm_frames.specs.Frame.{IsFrame, has_number}
-use Rattle.lapm_frames.specs.Sendable.{IsSendable}
+use Rattle.lapm_frames.specs.Frame.{IsFrame}
 use Rattle.lapm_frames.specs.Checked.{checked, SpellsFrame}
-use Rattle.link_account.specs.declared.setup.Setup.{Setup}
 use Rattle.link_account.specs.Account.{after_delivery, delivers}
-use Rattle.link_account.specs.Play.{Side, Event, spoken, heard, happens, play, start, seen_from}
+use Rattle.link_account.specs.Play.{Event, heard, happens, start, seen_from}
 use Rattle.link_account.proofs.Events.{side, at, slot_of, play-append, hears-event, passes-event, loses-event, speaks-event, gives-event}
 use Rattle.link_account.proofs.Events.{delivers-event, asked-event, busy-event, offered-event}
-use Rattle.link_account.specs.declared.phase.Phase.{Phase}
-use Rattle.link_account.specs.Laws.{played, TakesInOrder, has_begun, WantsAnswers, BreaksForWantAlone}
-use Rattle.lapm_link.specs.declared.any_end.AnyEnd.{AnyEnd}
-use Rattle.lapm_link.specs.Stands.{StandsFor}
-use Rattle.gateway.specs.declared.turns.Carried.{Carried}
-use Rattle.gateway.specs.declared.turns.Told.{Told}
+use Rattle.link_account.specs.Laws.{played, TakesInOrder, WantsAnswers, BreaksForWantAlone}
 use Rattle.gateway.specs.declared.link.Endpoint.{Endpoint}
 use Rattle.gateway.specs.declared.link.BreakAsked.{BreakAsked}
-use Rattle.gateway.specs.Turns.{Arrives, told_as}
-use Rattle.gateway.specs.Endpoints.{HeardAs, SaysAs, OfferedAs, AnswersBreak, longest_wanted, is_taken}
+use Rattle.gateway.specs.Endpoints.{OfferedAs, AnswersBreak, longest_wanted, is_taken}
 use Rattle.gateway.specs.Histories.{EndSide, Move, Speaks, Passes, Is_lost, Hears_nothing, Is_offered, Is_asked, Is_delivered, Is_busy}
 use Rattle.gateway.specs.Histories.{CarriesTold, HearsNothing, SpeaksOf, LosesOf, PassesOf, OfferedOf, AskedOf, DeliveredOf}
 use Rattle.gateway.specs.Histories.{SpeakingBreaksForWant, HearingNeverBreaks, IsMade, Step, Begins, History, HistoriesArePlays}

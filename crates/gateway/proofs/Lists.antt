@@ -1,13 +1,12 @@
 -- What hearing and speaking make of the segments of an account: those offered, those taken, and how many are given.
-use Rattle.std.proofs.Common.{arith, ◌≡◌, ◌∙◌, ◌⊎◌, inl, inr, ℕ, Bool, true, false, List, [], ◌++◌, refl, sym, ap, Ok}
-use Rattle.link_account.proofs.Names.{append-nil, Arrived, Outgoing, Incoming, after_take, after_kind, kind_of, offset, KeepsTaken, Took}
-use Rattle.link_account.proofs.Names.{Account, hear, trying, Said, speak}
+use Rattle.gateway.proofs.Names.{arith, ◌≡◌, ◌∙◌, ◌⊎◌, inl, inr, ℕ, Bool, true, false, List, [], ◌++◌, refl, sym, ap, Ok, Arrived}
+use Rattle.gateway.proofs.Names.{KeepsTaken, Account, hear, Said, speak, linked-alike, tries-alike, has_begun, Phase, Detecting}
+use Rattle.gateway.proofs.Names.{Negotiating, Establishing, Connected, Releasing, Closed}
+use Rattle.link_account.proofs.Names.{append-nil, Outgoing, Incoming, after_take, after_kind, kind_of, offset, Took}
+use Rattle.link_account.proofs.Names.{trying}
 use Rattle.lapm_receiver.specs.Incoming.{after_asked}
-use Rattle.link_account.specs.declared.phase.Phase.{Phase}
-use Rattle.link_account.specs.declared.phase.Phase.TheVariants.{Detecting, Negotiating, Establishing, Connected, Releasing, Closed}
-use Rattle.link_account.specs.Laws.{has_begun}
-use Rattle.link_account.proofs.HearWays.{NumberKeeps, acked, acked_back, acked-keeps, acked_back-keeps, resumed-keeps, refused}
-use Rattle.link_account.proofs.SpeakWays.{linked-alike, tries-alike, next-keeps}
+use Rattle.link_account.proofs.HearWays.{NumberKeeps, acked-keeps, acked_back-keeps, resumed-keeps}
+use Rattle.link_account.proofs.SpeakWays.{next-keeps}
 use Rattle.link_account.proofs.HearWays as hears
 use Rattle.link_account.proofs.SpeakWays as speaks
 

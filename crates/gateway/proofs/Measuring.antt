@@ -1,12 +1,9 @@
 -- An octet more that a meter measures.
-use Rattle.std.proofs.Common.{◌≡◌, ◌∙◌, ℕ, suc, ◌+◌, ◌*◌, ◌/◌, ◌%◌, ◌<◌, ℤ, pos, Bool, List, [], ◌∷◌, ◌++◌, get_or, refl, sym, ap, subst}
-use Rattle.std.proofs.Common.{arith, append_assoc}
-use Rattle.frame_check.specs.Bits.{low_bits, octet_bits, bits_of}
+use Rattle.gateway.proofs.Names.{◌≡◌, ◌∙◌, ℕ, suc, ◌+◌, ◌*◌, ◌/◌, ◌%◌, ◌<◌, ℤ, pos, Bool, List, [], ◌∷◌, ◌++◌, get_or, refl, sym, ap, subst}
+use Rattle.gateway.proofs.Names.{arith, append_assoc, low_bits, bits_of, heard, samples_in, Mode, Sample}
+use Rattle.frame_check.specs.Bits.{octet_bits}
 use Rattle.frame_check.proofs.BitLists.{bits_of-snoc}
-use Rattle.scramblers.specs.declared.mode.Mode.{Mode}
-use Rattle.symbol_map.specs.declared.sample.Sample.{Sample}
 use Rattle.noise_bound.specs.Margins.{Measured, MarginStands}
-use Rattle.gateway.specs.Given.{heard, samples_in}
 
 -- two fours are an octet
 pub two-fours : (a b : ℕ) → a < 16 → b < 16 → low_bits 4 a ++ low_bits 4 b ≡ octet_bits (a + 16 * b)

@@ -1,19 +1,11 @@
 -- What labels that begin others carry, at either rate.
-use Rattle.std.proofs.Common.{◌≡◌, ◌∙◌, ℕ, zero, suc, ◌*◌, ◌≤◌, Bool, List, [], ◌∷◌, ◌++◌, length, take, drop, refl, sym, ap, subst, arith}
-use Rattle.std.proofs.Common.{append_assoc}
-use Rattle.std.specs.List.{flat_map}
+use Rattle.gateway.proofs.Names.{◌≡◌, ◌∙◌, ℕ, zero, suc, ◌*◌, ◌≤◌, Bool, List, [], ◌∷◌, ◌++◌, length, take, drop, refl, sym, ap, subst}
+use Rattle.gateway.proofs.Names.{arith, append_assoc, take-append-drop, take-append-le, take_all, flat_map, low_bits, first-stay, line_of}
+use Rattle.gateway.proofs.Names.{Demodulates, Descrambles_once, tap_of, Descrambles, Mode, IsPrefixOf}
 use Rattle.std.proofs.Math.Seq.{take-nil}
-use Rattle.std.proofs.lemmas.List.{take-append-drop, take-append-le, take_all}
-use Rattle.frame_check.specs.Bits.{low_bits}
-use Rattle.shared_terms.specs.Prefix.{IsPrefixOf}
-use Rattle.scramblers.specs.declared.mode.Mode.{Mode}
-use Rattle.scramblers.specs.Mode.{tap_of}
-use Rattle.scramblers.specs.Scrambles.{Descrambles}
-use Rattle.scramblers.proofs.Readings.{Descrambles_once, Descrambles_from_Scrambles, Scrambles_from_Descrambles, Scrambles-take}
+use Rattle.scramblers.proofs.Readings.{Descrambles_from_Scrambles, Scrambles_from_Descrambles, Scrambles-take}
 use Rattle.trellis_tables.specs.Differential.Turned.{unturned}
 use Rattle.trellis_tables.proofs.Turning.Inverses.{unturned-take}
-use Rattle.line_coding.specs.Demodulates.{line_of, Demodulates}
-use Rattle.line_coding.proofs.Readings.{first-stay}
 use Rattle.rate_4800.specs.Demodulates as quarter
 
 pub some-tap : (mode : Mode) → 1 ≤ tap_of mode

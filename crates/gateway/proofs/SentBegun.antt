@@ -1,40 +1,23 @@
 -- What was sent at 9600 bit/s comes back.
-use Rattle.std.proofs.Common.{append-nil, ◌≡◌, ◌∙◌, ℕ, ◌+◌, ◌≤◌, Bool, List, [], ◌∷◌, ◌++◌, length, map, take, drop, None, refl, sym, ap}
-use Rattle.std.proofs.Common.{subst, arith, append_assoc, length-append}
-use Rattle.std.proofs.lemmas.List.{take-append-drop, take-map}
-use Rattle.frame_check.specs.Bits.{bits_of}
-use Rattle.shared_terms.specs.Prefix.{IsPrefixOf}
-use Rattle.scramblers.specs.declared.mode.Mode.{Mode}
-use Rattle.scramblers.specs.Mode.{tap_of}
-use Rattle.scramblers.proofs.Readings.{Descrambles_once}
-use Rattle.symbol_map.specs.declared.sample.Sample.{Sample}
+use Rattle.gateway.proofs.Names.{append-nil, ◌≡◌, ◌∙◌, ℕ, ◌+◌, ◌≤◌, Bool, List, [], ◌∷◌, ◌++◌, length, map, take, drop, None, refl, sym, ap}
+use Rattle.gateway.proofs.Names.{subst, arith, append_assoc, length-append, take-append-drop, take-map, DecoderStands, bits_of, decoding_of}
+use Rattle.gateway.proofs.Names.{HasEncoded, ReadsAs, FollowsSent, AnyReader, SampleEncoder, four-each, Demodulates, line_of, length-points}
+use Rattle.gateway.proofs.Names.{distances, IsNear, Descrambles_once, tap_of, Mode, IsPrefixOf, point_of, Sample, far_from, Leads, cost}
+use Rattle.gateway.proofs.Names.{next_state}
 use Rattle.symbol_map.specs.Distance.{distance_of}
-use Rattle.symbol_map.specs.Points.{point_of}
-use Rattle.trellis_tables.specs.Laws.{far_from}
-use Rattle.trellis_tables.specs.Sequences.{Leads, cost}
-use Rattle.trellis_tables.specs.Table.{next_state}
 use Rattle.trellis_tables.proofs.Sequences.{Leads-take}
-use Rattle.exact_decoder.specs.Decoder.{DecoderStands}
 use Rattle.exact_decoder.specs.Laws.{IsOnlyLeast}
-use Rattle.line_coding.specs.Demodulates.{Demodulates, line_of}
 use Rattle.line_coding.specs.Modulates.{Modulates}
-use Rattle.line_coding.proofs.Readings.{comes-back, four-each}
+use Rattle.line_coding.proofs.Readings.{comes-back}
 use Rattle.line_coding.proofs.Standing.{modulated, demodulated}
-use Rattle.noise_bound.specs.Margins.{distances}
-use Rattle.noise_bound.specs.Near.{only, sure, IsNear}
+use Rattle.noise_bound.specs.Near.{only, sure}
 use Rattle.noise_bound.specs.NoiselessLaws.{OnlySentIsLeast, DecodesNoiseless}
 use Rattle.noise_bound.specs.Laws.{SureIsNear}
 use Rattle.noise_bound.specs.NoisyLaws.{DecodesNear}
-use Rattle.noise_bound.proofs.NoiselessCosts.{length-points}
-use Rattle.gateway.specs.declared.any_reader.AnyReader.{AnyReader}
 use Rattle.gateway.specs.declared.any_reader.AnyReader.TheVariants as readers
 use Rattle.gateway.specs.declared.any_reader.LineKind.TheVariants as lines
-use Rattle.gateway.specs.declared.encoder.SampleEncoder.{SampleEncoder}
 use Rattle.gateway.specs.declared.encoder.SampleEncoder.TheVariants as encoders
-use Rattle.gateway.specs.Decoding.{decoding_of}
-use Rattle.gateway.specs.Encoded.{HasEncoded}
-use Rattle.gateway.specs.Reads.{ReadsAs}
-use Rattle.gateway.specs.SignalLaws.{FollowsSent, SentBitsComeBack, SentBitsComeSoon, AllBitsComeBack, SureBitsAreGiven}
+use Rattle.gateway.specs.SignalLaws.{SentBitsComeBack, SentBitsComeSoon, AllBitsComeBack, SureBitsAreGiven}
 use Rattle.gateway.proofs.Sent.{some-tap, begins-more, take-front, carries-first}
 
 -- distances from points are what labels cost

@@ -1,38 +1,23 @@
 -- What was sent at 9600 bit/s comes back from the middle of the line, by however many quarters its points are turned.
-use Rattle.std.proofs.Common.{◌≡◌, ◌∙◌, ℕ, zero, suc, ◌+◌, ◌*◌, ◌<◌, ◌≤◌, Bool, List, [], ◌∷◌, ◌++◌, length, map, take, drop, refl, sym, ap}
-use Rattle.std.proofs.Common.{subst, arith, append_assoc, length-append, length-drop, lt-ltb}
-use Rattle.std.specs.List.{flat_map}
-use Rattle.std.proofs.lemmas.List.{take-append-drop, take-map, drop-map, drop-take, length-map, length-take-le}
-use Rattle.frame_check.specs.Bits.{low_bits}
-use Rattle.shared_terms.specs.Prefix.{IsPrefixOf}
-use Rattle.scramblers.specs.declared.mode.Mode.{Mode}
-use Rattle.scramblers.specs.Mode.{tap_of}
-use Rattle.scramblers.specs.Scrambles.{Descrambles}
-use Rattle.symbol_map.specs.declared.sample.Sample.{Sample}
+use Rattle.gateway.proofs.Names.{◌≡◌, ◌∙◌, ℕ, zero, suc, ◌+◌, ◌*◌, ◌<◌, ◌≤◌, Bool, List, [], ◌∷◌, ◌++◌, length, map, take, drop, refl, sym}
+use Rattle.gateway.proofs.Names.{ap, subst, arith, append_assoc, length-append, take-append-drop, take-map, length-take-le, flat_map}
+use Rattle.gateway.proofs.Names.{low_bits, decoding_of, ReadsAs, AnyReader, four-each, first-stay, Demodulates, length-points, distances}
+use Rattle.gateway.proofs.Names.{IsNear, tap_of, Descrambles, Mode, IsPrefixOf, point_of, Sample, far_from, Leads, cost, next_state}
+use Rattle.std.proofs.Common.{length-drop, lt-ltb}
+use Rattle.std.proofs.lemmas.List.{drop-map, drop-take, length-map}
 use Rattle.symbol_map.specs.Laws.{turned_label}
-use Rattle.symbol_map.specs.Points.{point_of}
-use Rattle.trellis_tables.specs.Laws.{far_from}
-use Rattle.trellis_tables.specs.Sequences.{Leads, cost}
-use Rattle.trellis_tables.specs.Table.{next_state}
 use Rattle.trellis_tables.proofs.Sequences.{Leads-split}
 use Rattle.exact_decoder.specs.Surviving.V32.{at_any}
-use Rattle.line_coding.specs.Demodulates.{Demodulates}
 use Rattle.line_coding.specs.Laws.{ReadersPickUp, MiddleIsSent}
 use Rattle.line_coding.specs.PickedUp.{IsPickedUp}
-use Rattle.line_coding.proofs.Readings.{four-each, first-stay}
 use Rattle.line_coding.proofs.Quads.{quads-turned}
-use Rattle.noise_bound.specs.Margins.{distances}
-use Rattle.noise_bound.specs.Near.{sure_of_any, IsNear}
+use Rattle.noise_bound.specs.Near.{sure_of_any}
 use Rattle.noise_bound.specs.NoisyLaws.{DecodesNearOfAny}
 use Rattle.line_coding.proofs.TurnedLabels.{leads-within}
-use Rattle.noise_bound.proofs.NoiselessCosts.{length-points}
 use Rattle.line_coding.proofs.TurnedSequences.{all_states_turn}
 use Rattle.noise_bound.proofs.Turned.{near-turns}
-use Rattle.gateway.specs.declared.any_reader.AnyReader.{AnyReader}
 use Rattle.gateway.specs.declared.any_reader.AnyReader.TheVariants as readers
 use Rattle.gateway.specs.declared.any_reader.LineKind.TheVariants as lines
-use Rattle.gateway.specs.Decoding.{decoding_of}
-use Rattle.gateway.specs.Reads.{ReadsAs}
 use Rattle.gateway.specs.SignalLaws.{turned_by, FollowsMiddle, MiddleBitsComeBack}
 use Rattle.gateway.proofs.Sent.{some-tap, take-front}
 use Rattle.gateway.proofs.SentBegun.{distances-cost, first-labels}

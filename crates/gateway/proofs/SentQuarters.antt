@@ -1,16 +1,13 @@
 -- What was sent at 4800 bit/s comes back.
-use Rattle.std.proofs.Common.{◌≡◌, ◌∙◌, ℕ, ◌*◌, ◌<◌, Bool, List, [], ◌∷◌, ◌++◌, length, map, take, drop, get_or, Option, Some, None}
-use Rattle.std.proofs.Common.{refl, sym, ap, subst, arith, append-nil, append_assoc, length-append, All}
+use Rattle.gateway.proofs.Names.{◌≡◌, ◌∙◌, ℕ, ◌*◌, ◌<◌, Bool, List, [], ◌∷◌, ◌++◌, length, map, take, drop, get_or, Option, Some, None}
+use Rattle.gateway.proofs.Names.{refl, sym, ap, subst, arith, append-nil, append_assoc, length-append, take-append-drop, take-map}
+use Rattle.gateway.proofs.Names.{length-take-le, IsReleased, LostIs, decoding_of, HasEncoded, ReadsAs, FollowsSent, AnyReader}
+use Rattle.gateway.proofs.Names.{SampleEncoder, Descrambles_once, tap_of, Mode, Sample}
+use Rattle.std.proofs.Common.{All}
 use Rattle.std.specs.List.{range_with_len}
-use Rattle.std.proofs.lemmas.List.{take-append-drop, take-map, length-take-le}
 use Rattle.std.proofs.lemmas.List.Elements.{All-nil, All-cons, All-head, All-tail}
-use Rattle.scramblers.specs.declared.mode.Mode.{Mode}
-use Rattle.scramblers.specs.Mode.{tap_of}
-use Rattle.scramblers.proofs.Readings.{Descrambles_once}
-use Rattle.symbol_map.specs.declared.sample.Sample.{Sample}
 use Rattle.trellis_tables.specs.Differential.Turned.{turned, turned_at}
 use Rattle.trellis_tables.proofs.Turning.Places.{length-unturned}
-use Rattle.exact_decoder.specs.Surviving.Survivors.{IsReleased, LostIs}
 use Rattle.exact_decoder.proofs.Surviving.Least.{some-released}
 use Rattle.exact_decoder.specs.Decoder.{heard}
 use Rattle.rate_4800.specs.Code.{point_of}
@@ -20,15 +17,10 @@ use Rattle.rate_4800.specs.Laws.{quarters, AllAreReleased, NearOnesAreRead}
 use Rattle.rate_4800.proofs.Reading.{quarters_have_laws}
 use Rattle.rate_4800.proofs.Standing.{modulated, demodulated}
 use Rattle.rate_4800.proofs.Twos.{comes-back}
-use Rattle.gateway.specs.declared.any_reader.AnyReader.{AnyReader}
 use Rattle.gateway.specs.declared.any_reader.AnyReader.TheVariants as readers
 use Rattle.gateway.specs.declared.any_reader.LineKind.TheVariants as lines
-use Rattle.gateway.specs.declared.encoder.SampleEncoder.{SampleEncoder}
 use Rattle.gateway.specs.declared.encoder.SampleEncoder.TheVariants as encoders
-use Rattle.gateway.specs.Decoding.{decoding_of}
-use Rattle.gateway.specs.Encoded.{HasEncoded}
-use Rattle.gateway.specs.Reads.{ReadsAs}
-use Rattle.gateway.specs.SignalLaws.{AreEachNear, half_way, FollowsSent, QuarterBitsComeBack, AllQuarterBitsComeBack}
+use Rattle.gateway.specs.SignalLaws.{AreEachNear, half_way, QuarterBitsComeBack, AllQuarterBitsComeBack}
 use Rattle.gateway.proofs.Sent.{some-tap, begins-more, take-front, quarters-carry-first, length-twos}
 
 -- what stands at a place

@@ -1,17 +1,14 @@
 -- The bits of a slot, and the room that it needs.
-use Rattle.std.proofs.Common.{ℕ, zero, suc, ◌+◌, ◌-◌, ◌*◌, ◌/◌, ◌≡◌, ◌<◌, ◌≤◌, ◌∷◌, ◌++◌, List, [], Option, Some, None}
-use Rattle.std.proofs.Common.{get_or, length, take, refl, ap, sym, subst, ◌∙◌, arith, length-append}
+use Rattle.gateway.proofs.Names.{ℕ, zero, suc, ◌+◌, ◌-◌, ◌*◌, ◌/◌, ◌≡◌, ◌<◌, ◌≤◌, ◌∷◌, ◌++◌, List, [], Option, Some, None, get_or, length}
+use Rattle.gateway.proofs.Names.{take, refl, ap, sym, subst, ◌∙◌, arith, length-append, take_more, line_bits, opening, slot_bits, Flags}
+use Rattle.gateway.proofs.Names.{Signal, slots_of, low_bits, given}
 use Rattle.std.proofs.lemmas.Grind.{flat_map-append}
 use Rattle.std.proofs.Math.Logic.{∥∥₁_map}
-use Rattle.std.proofs.lemmas.List.{map-append, take_more}
-use Rattle.frame_check.specs.Bits.{low_bits}
-use Rattle.bit_stuffing.specs.BitSlot.{line_bits}
-use Rattle.bit_stuffing.specs.Slots.{Slot, IsSlot, opening, phase_after, sent_bits, slot_bits}
-use Rattle.bit_stuffing.specs.Slots.Slot.{Flags}
+use Rattle.std.proofs.lemmas.List.{map-append}
+use Rattle.bit_stuffing.specs.Slots.{Slot, IsSlot, phase_after, sent_bits}
 use Rattle.bit_stuffing.specs.SlotWriter.{Writer, WriterStands}
-use Rattle.detection.specs.Slots.{CanCarry, Signal, signal_bits, slot_of, slots_of}
+use Rattle.detection.specs.Slots.{CanCarry, signal_bits, slot_of}
 use Rattle.detection.specs.Slots.Signal.{FlagSlot}
-use Rattle.gateway.specs.Given.{given}
 
 pub length-given : (k : ℕ) (octets : List ℕ) → length (given k octets) ≡ k
 length-given zero octets = refl

@@ -1,11 +1,8 @@
 -- What two ends agree on has room in both.
-use Rattle.std.proofs.Common.{◌≡◌, ℕ, ◌≤◌, min, Bool, true, arith, ◌&&◌}
-use Rattle.shared_terms.specs.declared.role.Role.{Role}
-use Rattle.shared_terms.specs.declared.role.Role.TheVariants.{Originator, Answerer}
-use Rattle.xid_params.specs.declared.offer.Offer.{Offer}
+use Rattle.lapm_link.proofs.Names.{◌≡◌, ℕ, ◌≤◌, Bool, true, arith, ◌&&◌, Setup, Role, Originator, Answerer, Offer}
+use Rattle.std.proofs.Common.{min}
 use Rattle.xid_params.specs.Offers.{IsAllowed}
 use Rattle.xid_params.specs.Terms.{lowered}
-use Rattle.link_account.specs.declared.setup.Setup.{Setup}
 use Rattle.lapm_link.specs.Fits.{Fits, agreed_by}
 
 -- a window is at least one segment, at most what either end has, and at most 64 with SREJ

@@ -1,11 +1,7 @@
 -- What an end that isn't connected keeps of its account as that goes on.
-use Rattle.std.proofs.Common.{◌≡◌, ℕ, Bool, Option}
-use Rattle.xid_params.specs.declared.terms.Terms.{Terms}
-use Rattle.link_account.specs.declared.setup.Setup.{Setup}
+use Rattle.lapm_link.proofs.Names.{◌≡◌, ℕ, Bool, Option, IsUnlinked, Account, Setup, Terms}
 use Rattle.link_account.specs.declared.answer.Answer.{Answer}
 use Rattle.link_account.specs.declared.phase.Phase.{Phase}
-use Rattle.link_account.specs.Account.{Account}
-use Rattle.lapm_link.specs.Stands.{IsUnlinked}
 
 -- phase, terms and tries may change
 pub moved : {setup : Setup} {answer : Option Answer} {a : Account} (p : Phase) (t : Terms) (due : Bool) (set count : ℕ)

@@ -1,3 +1,4 @@
+mod Names
 mod Kept
 mod Saying
 mod Telling

@@ -1,23 +1,14 @@
 -- What a step gives whose condition holds, and the end once it has been said.
-use Rattle.std.proofs.Common.{arith, ◌≡◌, ℕ, Bool, true, false, Option, Some, None, Result, Ok, Err, ap}
-use Rattle.xid_params.specs.declared.terms.Terms.{Terms}
-use Rattle.lapm_receiver.specs.Taking.{Taking}
-use Rattle.link_account.specs.declared.setup.Setup.{Setup}
+use Rattle.lapm_link.proofs.Names.{arith, ◌≡◌, ℕ, Bool, true, false, Option, Some, None, Result, Ok, Err, ap, Sent, Gives, SaysLinked}
+use Rattle.lapm_link.proofs.Names.{Links, Becomes, Speaks, AnyEnd, Connected, Taking, Account, trying, Said, where_says, steps, Owes, Setup}
+use Rattle.lapm_link.proofs.Names.{is_originator, LinkFault, Terms}
 use Rattle.lapm_link.specs.declared.connected.Breaks.{Breaks}
-use Rattle.link_account.specs.declared.owes.Owes.{Owes}
 use Rattle.lapm_link.specs.declared.connected.Wait.{Wait}
-use Rattle.lapm_link.specs.declared.connected.Connected.{Connected}
-use Rattle.lapm_frames.specs.declared.sent.Sent.{Sent}
-use Rattle.link_account.specs.Account.{Account}
-use Rattle.shared_terms.specs.declared.fault.LinkFault.{LinkFault}
 use Rattle.lapm_link.specs.declared.closed.Broken.{Broken}
-use Rattle.lapm_link.specs.declared.any_end.AnyEnd.{AnyEnd}
 use Rattle.link_account.specs.declared.phase.Phase.TheVariants as phases
-use Rattle.shared_terms.specs.Role.{is_originator}
-use Rattle.link_account.specs.Hear.{trying}
-use Rattle.link_account.specs.Speak.{Said, where_says, else_says, steps, on_break_timer, then_tries, after_timers, speak_connected}
+use Rattle.link_account.specs.Speak.{else_says, on_break_timer, then_tries, after_timers, speak_connected}
 use Rattle.link_account.specs.Speak.{speak_releasing}
-use Rattle.lapm_link.specs.Stands.{Gives, SaysLinked, Links, LinksBeside, Becomes, SpeaksLinked, Speaks}
+use Rattle.lapm_link.specs.Stands.{LinksBeside, SpeaksLinked}
 
 pub gives_where : {end : Connected} {sent : Sent} (b : Bool) (said : Said) (a : Account) → b ≡ true → SaysLinked said end sent
     → Gives (where_says b said) a end (Some sent)

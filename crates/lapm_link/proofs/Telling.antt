@@ -1,11 +1,9 @@
 -- What an account tells of an end that stands for it.
-use Rattle.std.proofs.Common.{length, refl, sym, ap, arith, length-drop}
+use Rattle.lapm_link.proofs.Names.{length, refl, sym, ap, arith, Negotiates, Talk, Account}
+use Rattle.std.proofs.Common.{length-drop}
 use Rattle.lapm_link.specs.declared.any_end.AnyEnd.TheVariants as ends
 use Rattle.lapm_link.specs.declared.negotiating.Negotiating.{Negotiating}
-use Rattle.lapm_link.specs.declared.negotiating.Talk.{Talk}
 use Rattle.lapm_link.specs.declared.negotiating.Talk.TheVariants as talks
-use Rattle.link_account.specs.Account.{Account}
-use Rattle.lapm_link.specs.Stands.{Negotiates}
 use Rattle.lapm_link.specs.EndLaws.{Tells, AccountTells}
 
 negotiating : (end : Negotiating) (talk : Talk) (a : Account) → Negotiates talk a → Tells (ends.Negotiating end) a

@@ -1,14 +1,12 @@
 -- What an end delivers, and which breaks it takes: none where it isn't Connected.
-use Rattle.std.proofs.Common.{◌≡◌, ◌≤◌, ℕ, Bool, false, if◌then◌else◌, None, sym, ap, subst, arith}
+use Rattle.lapm_link.proofs.Names.{◌≡◌, ◌≤◌, ℕ, Bool, false, if◌then◌else◌, None, sym, ap, subst, arith, StandsFor, Links, Negotiates}
+use Rattle.lapm_link.proofs.Names.{undelivered_of, AnyEnd, Connected, Talk, Account}
 use Rattle.lapm_receiver.specs.Incoming.{next_delivered, after_delivered}
 use Rattle.break_signals.specs.Breaks.{takes_break, after_ask}
 use Rattle.link_account.specs.declared.phase.Phase.TheVariants as phases
-use Rattle.lapm_link.specs.declared.connected.Connected.{Connected}
-use Rattle.lapm_link.specs.declared.negotiating.Talk.{Talk}
-use Rattle.lapm_link.specs.declared.any_end.AnyEnd.{AnyEnd}
 use Rattle.lapm_link.specs.declared.any_end.AnyEnd.TheVariants as ends
-use Rattle.link_account.specs.Account.{Account, is_connected, delivers, after_delivery, takes_own, after_break_asked}
-use Rattle.lapm_link.specs.Stands.{StandsFor, Links, Negotiates, TakesNothing, undelivered_of}
+use Rattle.link_account.specs.Account.{is_connected, delivers, after_delivery, takes_own, after_break_asked}
+use Rattle.lapm_link.specs.Stands.{TakesNothing}
 
 -- an end of another variant
 abbrev pub IsUnconnected : AnyEnd → Type 0

@@ -1,9 +1,7 @@
 -- Bits that are put behind a list in fours.
-use Rattle.std.proofs.Common.{◌≡◌, ◌∙◌, ℕ, ◌+◌, ◌*◌, ◌<◌, ◌/◌, ◌%◌, Bool, List, [], ◌∷◌, ◌++◌, refl, sym, ap, arith}
-use Rattle.std.proofs.Common.{append-nil, append_assoc, nat_eq}
-use Rattle.std.specs.List.{flat_map}
+use Rattle.line_coding.proofs.Names.{◌≡◌, ◌∙◌, ℕ, ◌+◌, ◌*◌, ◌<◌, ◌/◌, ◌%◌, Bool, List, [], ◌∷◌, ◌++◌, refl, sym, ap, arith, append-nil}
+use Rattle.line_coding.proofs.Names.{append_assoc, nat_eq, flat_map, low_bits, octet_bits}
 use Rattle.std.proofs.lemmas.Grind.{flat_map-append}
-use Rattle.frame_check.specs.Bits.{low_bits, octet_bits}
 
 pub fours-more : (line : List Bool) (quads : List ℕ) (quad : ℕ) (four : List Bool) → line ≡ flat_map (low_bits 4) quads
     → low_bits 4 quad ≡ four → line ++ four ≡ flat_map (low_bits 4) (quads ++ quad ∷ [])

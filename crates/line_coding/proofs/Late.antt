@@ -1,9 +1,7 @@
 -- Once the register of a descrambler is full, it doesn't matter where it began.
-use Rattle.std.proofs.Common.{◌≡◌, ◌∙◌, ℕ, ◌+◌, ◌-◌, ◌<◌, ◌≤◌, Bool, false, List, length, drop, get_or, nat_lt, refl, sym, ap, arith}
-use Rattle.std.proofs.lemmas.Bool.Decides.{nat_tests}
-use Rattle.std.proofs.lemmas.List.{ext_get_or, get_or-drop, length-drop}
-use Rattle.scramblers.specs.Stream.{earlier}
-use Rattle.scramblers.specs.Scrambles.{Descrambles}
+use Rattle.line_coding.proofs.Names.{◌≡◌, ◌∙◌, ℕ, ◌+◌, ◌-◌, ◌<◌, ◌≤◌, Bool, false, List, length, drop, get_or, refl, sym, ap, arith}
+use Rattle.line_coding.proofs.Names.{nat_tests, ext_get_or, get_or-drop, length-drop, Descrambles, earlier}
+use Rattle.std.proofs.Common.{nat_lt}
 use Rattle.scramblers.proofs.Readings.{depends_on_three}
 
 earlier-some : (bits : List Bool) (i k : ℕ) → k ≤ i → earlier bits i k ≡ get_or bits (i - k) false

@@ -1,3 +1,4 @@
+mod Names
 pub mod Fours
 pub mod Standing
 pub mod Readings

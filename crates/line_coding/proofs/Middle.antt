@@ -1,13 +1,6 @@
 -- What is picked up.
-use Rattle.std.proofs.Common.{◌≡◌, ◌∙◌, ◌+◌, ◌*◌, Bool, List, map, drop, sym, ap, subst}
-use Rattle.std.specs.List.{flat_map}
-use Rattle.frame_check.specs.Bits.{low_bits}
-use Rattle.scramblers.specs.Scrambles.{Descrambles}
-use Rattle.scramblers.proofs.Readings.{Descrambles_once}
-use Rattle.symbol_map.specs.Laws.{turned_label}
-use Rattle.trellis_tables.specs.LabelReader.{quads_of}
-use Rattle.line_coding.specs.Demodulates.{line_of}
-use Rattle.line_coding.specs.PickedUp.{line_behind}
+use Rattle.line_coding.proofs.Names.{◌≡◌, ◌∙◌, ◌+◌, ◌*◌, Bool, List, map, drop, sym, ap, subst, flat_map, low_bits, line_of, line_behind}
+use Rattle.line_coding.proofs.Names.{Descrambles_once, Descrambles, turned_label, quads_of}
 use Rattle.line_coding.specs.Laws.{PickedUpOnce, TurnedAreAlike, MiddleIsSent}
 use Rattle.line_coding.proofs.Quads.{quads-turned, quads-drop, fours-drop}
 use Rattle.line_coding.proofs.Late.{late}

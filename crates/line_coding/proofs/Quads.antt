@@ -1,15 +1,11 @@
 -- Quads behind the first one don't depend on what stood before, nor on a turn.
-use Rattle.std.proofs.Common.{◌≡◌, ◌∙◌, ℕ, zero, suc, ◌+◌, ◌-◌, ◌*◌, ◌<◌, ◌≤◌, List, [], ◌∷◌, length, map, drop, get_or, nat_eq, false}
-use Rattle.std.proofs.Common.{refl, sym, ap, arith}
-use Rattle.std.specs.List.{flat_map}
+use Rattle.line_coding.proofs.Names.{◌≡◌, ◌∙◌, ℕ, zero, suc, ◌+◌, ◌-◌, ◌*◌, ◌<◌, ◌≤◌, List, [], ◌∷◌, length, map, drop, get_or, nat_eq}
+use Rattle.line_coding.proofs.Names.{false, refl, sym, ap, arith, nat_tests, ext_get_or, get_or-drop, length-drop, length-map, flat_map}
+use Rattle.line_coding.proofs.Names.{low_bits, turned_label, length-quads_of, quads_of}
 use Rattle.std.proofs.Math.Seq.{drop-nil}
-use Rattle.std.proofs.lemmas.Bool.Decides.{nat_tests}
-use Rattle.std.proofs.lemmas.List.{ext_get_or, get_or-drop, length-drop, length-map}
-use Rattle.frame_check.specs.Bits.{low_bits}
 use Rattle.trellis_tables.specs.Differential.Turned.{before}
-use Rattle.symbol_map.specs.Laws.{turned_label}
-use Rattle.trellis_tables.specs.LabelReader.{quad_at, quads_of}
-use Rattle.trellis_tables.proofs.Readings.{length-quads_of, get_or-quads_of, get_or-map, quads_of-turned}
+use Rattle.trellis_tables.specs.LabelReader.{quad_at}
+use Rattle.trellis_tables.proofs.Readings.{get_or-quads_of, get_or-map, quads_of-turned}
 
 -- turned labels have the same quads but for the first
 pub quads-turned : (labels : List ℕ) → drop 1 (quads_of (map turned_label labels)) ≡ drop 1 (quads_of labels)

@@ -1,16 +1,11 @@
 -- What a reader picks up.
-use Rattle.std.proofs.Common.{◌∙◌, ℕ, ◌≤◌, Bool, false, List, length, map, drop, sym, subst, arith}
+use Rattle.line_coding.proofs.Names.{◌∙◌, ℕ, ◌≤◌, Bool, false, List, length, map, drop, sym, subst, arith, line_of, Demodulates}
+use Rattle.line_coding.proofs.Names.{line_behind, tap_of, Descrambles, earlier, Mode, quads_of}
 use Rattle.std.specs.List.{range_with_len}
 use Rattle.std.proofs.lemmas.List.FromFn.{length-map-range_with_len, get_or-map-range_with_len}
 use Rattle.frame_check.specs.Xor.{xor}
-use Rattle.scramblers.specs.declared.mode.Mode.{Mode}
-use Rattle.scramblers.specs.Mode.{tap_of}
-use Rattle.scramblers.specs.Stream.{bit_at_place, earlier}
-use Rattle.scramblers.specs.Scrambles.{Descrambles}
-use Rattle.trellis_tables.specs.LabelReader.{quads_of}
-use Rattle.line_coding.specs.Demodulates.{line_of, Demodulates}
+use Rattle.scramblers.specs.Stream.{bit_at_place}
 use Rattle.line_coding.proofs.Standing.{demodulated}
-use Rattle.line_coding.specs.PickedUp.{line_behind}
 use Rattle.line_coding.specs.Laws.{ReadersPickUp}
 use Rattle.line_coding.proofs.Quads.{fours-drop}
 use Rattle.line_coding.proofs.Late.{late}

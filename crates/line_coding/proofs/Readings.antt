@@ -1,15 +1,12 @@
 -- Bits that labels carry: one list of them, and of the first labels the first of them.
-use Rattle.std.proofs.Common.{◌≡◌, ◌∙◌, ℕ, zero, suc, ◌*◌, ◌<◌, ◌≤◌, Bool, List, [], ◌∷◌, ◌++◌, refl, sym, ap, subst, arith, length, take}
+use Rattle.line_coding.proofs.Names.{◌≡◌, ◌∙◌, ℕ, zero, suc, ◌*◌, ◌<◌, ◌≤◌, Bool, List, [], ◌∷◌, ◌++◌, refl, sym, ap, subst, arith, length}
+use Rattle.line_coding.proofs.Names.{flat_map, low_bits, line_of, Demodulates, Scrambles, Descrambles, length-quads_of, quads_of}
+use Rattle.std.proofs.Common.{take}
 use Rattle.std.proofs.Common.{All}
-use Rattle.std.specs.List.{flat_map}
 use Rattle.std.proofs.Math.Seq.{take-nil}
-use Rattle.frame_check.specs.Bits.{low_bits}
-use Rattle.scramblers.specs.Scrambles.{Scrambles, Descrambles}
 use Rattle.scramblers.proofs.Readings.{Descrambles_from_Scrambles, Scrambles_from_Descrambles, Scrambles-take}
 use Rattle.trellis_tables.specs.Encoder.{Encodes}
-use Rattle.trellis_tables.specs.LabelReader.{quads_of}
-use Rattle.trellis_tables.proofs.Readings.{length-quads_of, quads_of_Encodes, quads_of-take}
-use Rattle.line_coding.specs.Demodulates.{line_of, Demodulates}
+use Rattle.trellis_tables.proofs.Readings.{quads_of_Encodes, quads_of-take}
 
 pub length-fours : (quads : List ℕ) → length (flat_map (low_bits 4) quads) ≡ 4 * length quads
 length-fours [] = refl

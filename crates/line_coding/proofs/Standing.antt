@@ -1,16 +1,13 @@
 -- What a modulator and a demodulator of either mode have made.
-use Rattle.std.proofs.Common.{arith, ℕ, Bool, List}
-use Rattle.scramblers.specs.declared.mode.Mode.{Mode}
-use Rattle.scramblers.specs.Mode.{tap_of}
-use Rattle.scramblers.specs.Scrambles.{Scrambles, Descrambles}
-use Rattle.symbol_map.specs.declared.sample.Sample.{Sample}
+use Rattle.line_coding.proofs.Names.{arith, ℕ, Bool, List, Demodulates, DescramblesAs, ModulatorStands, tap_of, Scrambles, Descrambles}
+use Rattle.line_coding.proofs.Names.{Mode, Sample}
 use Rattle.line_coding.specs.declared.modulator.Modulator.{Modulator}
 use Rattle.line_coding.specs.declared.demodulator.Demodulator.{Demodulator}
 use Rattle.line_coding.specs.declared.scrambling.ModeScrambler.{ModeScrambler}
 use Rattle.line_coding.specs.declared.scrambling.ModeDescrambler.{ModeDescrambler}
-use Rattle.line_coding.specs.Modes.{ScramblesAs, DescramblesAs}
-use Rattle.line_coding.specs.Modulates.{Modulates, ModulatorStands}
-use Rattle.line_coding.specs.Demodulates.{Demodulates, DemodulatorStands}
+use Rattle.line_coding.specs.Modes.{ScramblesAs}
+use Rattle.line_coding.specs.Modulates.{Modulates}
+use Rattle.line_coding.specs.Demodulates.{DemodulatorStands}
 
 scrambled-as : (mode : Mode) (s : ModeScrambler) (input line : List Bool) → ScramblesAs mode s input line
     → Scrambles (tap_of mode) input line

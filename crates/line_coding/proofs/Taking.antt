@@ -1,15 +1,11 @@
 -- One label more of a line's middle.
-use Rattle.std.proofs.Common.{◌≡◌, ◌∙◌, ℕ, ◌+◌, ◌*◌, ◌/◌, ◌%◌, ◌<◌, Bool, List, [], ◌∷◌, ◌++◌, length, drop, min, nat_eq, length-append}
-use Rattle.std.proofs.Common.{append-nil, refl, sym, ap, subst, arith}
+use Rattle.line_coding.proofs.Names.{◌≡◌, ◌∙◌, ℕ, ◌+◌, ◌*◌, ◌/◌, ◌%◌, ◌<◌, Bool, List, [], ◌∷◌, ◌++◌, length, drop, nat_eq, append-nil}
+use Rattle.line_coding.proofs.Names.{refl, sym, ap, subst, arith, at_any, low_bits, Middle, MiddleRead, Mode, Sample}
+use Rattle.std.proofs.Common.{min, length-append}
 use Rattle.std.proofs.Math.ListN.{drop_of_length-le}
 use Rattle.std.proofs.Math.Seq.{drop-append-add}
 use Rattle.std.proofs.lemmas.List.{drop-append-le}
-use Rattle.frame_check.specs.Bits.{low_bits}
-use Rattle.scramblers.specs.declared.mode.Mode.{Mode}
-use Rattle.symbol_map.specs.declared.sample.Sample.{Sample}
-use Rattle.exact_decoder.specs.Surviving.V32.{at_any}
 use Rattle.line_coding.specs.V32.{LineReading, LineRead}
-use Rattle.line_coding.specs.MiddleReading.{Middle, MiddleRead}
 
 -- what is behind the first bits once more are there, and how many labels were taken
 record Behind (all more given : List Bool) (taken : ℕ) : Type 0 where

@@ -1,10 +1,9 @@
 -- Lists of labels that are turned, and turned back.
-use Rattle.std.proofs.Common.{◌≡◌, ℕ, suc, ◌<◌, Bool, true, List, [], ◌∷◌, map, nat_eq, refl, arith, ◌∙◌, ap, subst}
-use Rattle.std.specs.Prelude.{All}
+use Rattle.line_coding.proofs.Names.{◌≡◌, ℕ, suc, ◌<◌, Bool, true, List, [], ◌∷◌, map, nat_eq, refl, arith, ◌∙◌, ap, subst, All}
+use Rattle.line_coding.proofs.Names.{turned_label}
 use Rattle.std.proofs.lemmas.Bool.{eqb-true}
 use Rattle.std.proofs.lemmas.List.Elements.{All-cons}
 use Rattle.symbol_map.specs.Finite.{each_below, at_each}
-use Rattle.symbol_map.specs.Laws.{turned_label}
 use Rattle.trellis_tables.specs.Sequences.{Leads}
 use Rattle.trellis_tables.specs.Table.{next_state}
 use Rattle.trellis_tables.specs.V32Laws.{v32_bounded, v32_within}

@@ -1,14 +1,10 @@
 -- Whether one of finitely many does something can be told, where it can be told of each. Numbers, octets, and the frames that can be sent
 -- are finitely many.
-use Rattle.std.proofs.Common.{inl, inr, ℕ, zero, suc, ◌<◌, ◌≤◌, Bool, true, false, List, [], ◌∷◌, length, arith}
-use Rattle.std.proofs.lemmas.List.Elements.{All-nil, All-cons, All-head, All-tail}
-use Rattle.frame_check.specs.Octets.{AreOctets}
+use Rattle.line_tap.proofs.Names.{inl, inr, ℕ, zero, suc, ◌<◌, ◌≤◌, Bool, true, false, List, [], ◌∷◌, length, arith, All-nil, All-cons}
+use Rattle.line_tap.proofs.Names.{All-head, All-tail, AreOctets, IsSendable, Frame, I, Ui, Decided}
 use Rattle.frame_check.specs.declared.sizes.TheConstants.{INFO}
-use Rattle.lapm_frames.specs.declared.frame.Frame.{Frame}
-use Rattle.lapm_frames.specs.declared.frame.Frame.TheVariants.{I, Rr, Rnr, Rej, Srej, Sabme, Disc, Ua, Dm, Frmr, Ui, Xid, Test}
-use Rattle.lapm_frames.specs.Sendable.{IsSendable}
+use Rattle.lapm_frames.specs.declared.frame.Frame.TheVariants.{Rr, Rnr, Rej, Srej, Sabme, Disc, Ua, Dm, Frmr, Xid, Test}
 use Rattle.lapm_frames.specs.declared.sent.Sent.TheVariants as sent
-use Rattle.line_ends.proofs.Deciding.{Decided}
 
 -- one of two
 any-flag : (P : Bool → Type 0) → ((flag : Bool) → Decided (P flag)) → Decided ((flag : Bool) × P flag)

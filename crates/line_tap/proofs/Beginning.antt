@@ -1,19 +1,11 @@
 -- A tap before its first turn.
-use Rattle.std.proofs.Common.{◌≡◌, ℕ, ◌*◌, ◌≤◌, Bool, true, [], length, arith, refl, sym, ◌∙◌, ap, subst, min}
-use Rattle.shared_terms.specs.declared.role.Role.TheVariants.{Originator, Answerer}
+use Rattle.line_tap.proofs.Names.{◌≡◌, ℕ, ◌*◌, ◌≤◌, Bool, true, [], length, arith, refl, sym, ◌∙◌, ap, subst, min, both_sent_by, ReadsOn}
+use Rattle.line_tap.proofs.Names.{TapAfter, Tapping, tapping, line_of, terms_of, no_octets, Tap, AreWaiting, check_by, Originator, Answerer}
+use Rattle.line_tap.proofs.Names.{agree, Terms}
 use Rattle.xid_params.specs.declared.offer.Offer.{Offer}
-use Rattle.xid_params.specs.declared.terms.Terms.{Terms}
 use Rattle.xid_params.specs.Offers.{IsAllowed}
-use Rattle.xid_params.specs.Terms.{lowered, agree}
-use Rattle.line_run.specs.Stream.{both_sent_by}
-use Rattle.line_world.specs.Lines.{AreWaiting}
-use Rattle.link_run.specs.Listened.{check_by}
-use Rattle.line_tap.specs.Tapping.{Tapping, tapping, line_of, terms_of}
-use Rattle.line_tap.specs.declared.tapping.Tap.{Tap}
-use Rattle.line_tap.specs.End.{ReadsOn}
+use Rattle.xid_params.specs.Terms.{lowered}
 use Rattle.line_tap.specs.EndListener.{ListensFor}
-use Rattle.line_tap.specs.Tap.{TapAfter}
-use Rattle.line_tap.specs.Turns.{no_octets}
 
 lowered-low : (b : Bool) (n : ℕ) → 1 ≤ n → 1 ≤ lowered b n
 lowered-low b n h = grind (arith)

@@ -1,24 +1,16 @@
 -- Bits and the samples that they become: each tells the other, the first of one the first of the other; and samples as octets.
-use Rattle.std.proofs.Common.{◌≡◌, ◌∙◌, ◌*◌, ◌<◌, ◌≤◌, ℕ, suc, Bool, true, false, ◌&&◌, nat_eq, List, [], ◌∷◌, ◌++◌, length}
-use Rattle.std.proofs.Common.{take, map, refl, sym, ap, subst, arith, All, length-append}
+use Rattle.line_tap.proofs.Names.{◌≡◌, ◌∙◌, ◌*◌, ◌<◌, ◌≤◌, ℕ, suc, Bool, true, false, nat_eq, List, [], ◌∷◌, ◌++◌, length, take, map, refl}
+use Rattle.line_tap.proofs.Names.{sym, ap, subst, arith, All, length-append, take-append_seam, eqb-true, All-head, All-tail, Demodulates}
+use Rattle.line_tap.proofs.Names.{Modulates, samples_in, carried, Descrambles_once, each_below, at_each, PointsDiffer, NoDistanceIsEqual}
+use Rattle.line_tap.proofs.Names.{point_of, Sample, next_state}
+use Rattle.std.proofs.Common.{◌&&◌}
 use Rattle.std.specs.List.{flat_map}
-use Rattle.std.proofs.lemmas.Bool.{eqb-true}
-use Rattle.std.proofs.Math.Seq.{take-append_seam}
-use Rattle.std.proofs.lemmas.List.Elements.{All-head, All-tail}
-use Rattle.scramblers.proofs.Readings.{Descrambles_once}
-use Rattle.symbol_map.specs.declared.sample.Sample.{Sample}
-use Rattle.symbol_map.specs.Points.{point_of}
 use Rattle.symbol_map.specs.Distance.{distance_of}
-use Rattle.symbol_map.specs.Laws.{PointsDiffer, NoDistanceIsEqual}
-use Rattle.symbol_map.specs.Finite.{each_below, at_each}
-use Rattle.trellis_tables.specs.Table.{next_state}
 use Rattle.trellis_tables.specs.V32Laws.{v32_bounded}
 use Rattle.trellis_tables.proofs.Sequences.{Leads-below}
-use Rattle.line_coding.specs.Modulates.{Modulates}
-use Rattle.line_coding.specs.Demodulates.{line_of, Demodulates}
-use Rattle.sample_line.proofs.Once.{carried, modulates-take}
+use Rattle.line_coding.specs.Demodulates.{line_of}
+use Rattle.sample_line.proofs.Once.{modulates-take}
 use Rattle.recordings.specs.Recording.{sample_octets}
-use Rattle.recordings.specs.Samples.{samples_in}
 use Rattle.recordings.proofs.Samples.{samples_in-append}
 
 pub small : (tap : ℕ) (bits : List Bool) (samples : List Sample) → (h : Modulates tap bits samples) → All (λ label. label < 32) h.labels

@@ -1,38 +1,19 @@
 -- From every answer to that which right inputs have.
-use Rattle.std.proofs.Common.{◌≡◌, ◌⊎◌, inl, inr, ℕ, ◌≤◌, ◌<◌, true, nat_eq, List, [], ◌++◌, length, take, drop, IsTrue, Result, sym}
-use Rattle.std.proofs.Common.{◌∙◌, ap, subst, arith}
+use Rattle.line_tap.proofs.Names.{◌≡◌, ◌⊎◌, inl, inr, ℕ, ◌≤◌, ◌<◌, true, nat_eq, List, [], ◌++◌, length, take, drop, IsTrue, Result, sym}
+use Rattle.line_tap.proofs.Names.{◌∙◌, ap, subst, arith, false≢true, nat_tests, last-only, Answers, turns_line, Status, Stop, Left, TapEnd}
+use Rattle.line_tap.proofs.Names.{IsNotHeader, HasNoHeader, TellsOnce, TapNames, outputs_of, recordings_of, IsRefused, Tapped, Ends}
+use Rattle.line_tap.proofs.Names.{tap_job, tapping, held_of, ScriptValue, IsInLimits, HoldEach-kept, FolderState, octets_at, HoldEach}
+use Rattle.line_tap.proofs.Names.{OnlyOutputs, header_of, RefusesOwn, Mode, Call, Answer, Both, Originator, Answerer}
 use Rattle.std.specs.Prelude.{slice_index}
-use Rattle.std.proofs.lemmas.Bool.Decides.{nat_tests}
-use Rattle.std.proofs.lemmas.Bool.{false≢true}
-use Rattle.scramblers.specs.declared.mode.Mode.{Mode}
-use Rattle.scramblers.specs.declared.mode.Mode.TheVariants.{Call, Answer}
-use Rattle.outside_calls.specs.Folder.{FolderState, octets_at}
-use Rattle.outside_calls.specs.Outputs.{HoldEach, OnlyOutputs}
-use Rattle.outside_calls.proofs.Putting.{HoldEach-kept}
-use Rattle.shared_terms.specs.declared.role.Role.TheVariants.{Originator, Answerer}
-use Rattle.shared_terms.specs.Both.{Both}
-use Rattle.recordings.specs.Recording.{header_of}
-use Rattle.noise_script.specs.Script.{ScriptValue, IsInLimits}
 use Rattle.noise_script.specs.Laws.{ScriptsAreOne, NoFaultInScripts}
-use Rattle.line_run.specs.Ends.{Left}
-use Rattle.line_tap.specs.Tapping.{tapping}
-use Rattle.line_tap.specs.Ends.{TapEnd, TapOf}
+use Rattle.line_tap.specs.Ends.{TapOf}
 use Rattle.line_tap.specs.Ends as ends
-use Rattle.line_tap.specs.Laws.{TellsOnce}
-use Rattle.command_base.specs.declared.status.Status.{Status}
 use Rattle.command_base.specs.declared.status.Status.TheVariants.{BadScript, BadRecording, TooLong, NoMemory}
-use Rattle.command_base.specs.declared.stop.Stop.{Stop}
 use Rattle.command_base.specs.declared.stop.Stop.TheVariants as stops
 use Rattle.command_base.specs.Inputs.{IsWithin, IsLonger}
-use Rattle.command_base.specs.Job.{Answers}
-use Rattle.command_base.specs.Lines.{turns_line}
-use Rattle.command_base.proofs.Jobs.{Comes, is_done, is_own, is_memory, comes-to, last-only}
-use Rattle.run_inputs.specs.Inputs.{RefusesOwn}
-use Rattle.line_tap.specs.Names.{TapNames, outputs_of, recordings_of}
-use Rattle.line_tap.specs.Turn.{held_of}
+use Rattle.command_base.proofs.Jobs.{Comes, is_done, is_own, is_memory, comes-to}
 use Rattle.line_tap.specs.declared.limits.TheConstants.{LIMITS}
-use Rattle.line_tap.specs.Headers.{IsNotHeader, HasNoHeader}
-use Rattle.line_tap.specs.Outcomes.{IsRefused, Tapped, TappedBy, EndsBy, Ends, tap_job}
+use Rattle.line_tap.specs.Outcomes.{TappedBy, EndsBy}
 use Rattle.line_tap.specs.Answers.{answer_of}
 use Rattle.line_tap.specs.Completes.{AreRight, Answered, Completes}
 use Rattle.line_tap.proofs.Headline.{keeps-each}

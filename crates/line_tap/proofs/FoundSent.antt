@@ -1,38 +1,24 @@
 -- What is found in a slot of flags is what was sent in it.
-use Rattle.std.proofs.Common.{◌≡◌, ◌∙◌, inl, inr, ℕ, zero, suc, ◌+◌, ◌-◌, ◌*◌, ◌/◌, ◌%◌, ◌<◌, ◌≤◌, Bool, true, false, nat_eq, List, []}
-use Rattle.std.proofs.Common.{◌∷◌, ◌++◌, All, length, take, drop, map}
-use Rattle.std.proofs.Common.{slice_index, Option, Some, None, refl, sym, ap, subst, arith, append-nil, length-append}
-use Rattle.std.specs.Prelude.{IfSome}
-use Rattle.std.proofs.Math.Seq.{drop-append_seam}
-use Rattle.std.proofs.lemmas.Bool.{false≢true}
-use Rattle.std.proofs.lemmas.List.{append_assoc, drop-drop, get_or-append-add, get_or_append_left, length-take-le, take-append-drop}
-use Rattle.frame_check.specs.Bits.{low_bits, bits_of}
-use Rattle.frame_check.specs.declared.check.Check.{Check}
+use Rattle.line_tap.proofs.Names.{◌≡◌, ◌∙◌, inl, inr, ℕ, zero, suc, ◌+◌, ◌-◌, ◌*◌, ◌/◌, ◌%◌, ◌<◌, ◌≤◌, Bool, true, false, nat_eq, List, []}
+use Rattle.line_tap.proofs.Names.{◌∷◌, ◌++◌, All, length, take, drop, map, slice_index, Option, Some, None, refl, sym, ap, subst, arith}
+use Rattle.line_tap.proofs.Names.{append-nil, length-append, drop-append_seam, false≢true, append_assoc, length-take-le, take-append-drop}
+use Rattle.line_tap.proofs.Names.{IfSome, pieces-none, line_bits, Kept, bit_of, Found, lent_of, pieces_of, wholes, rest_of_flag, opening}
+use Rattle.line_tap.proofs.Names.{slot_bits, stuffed, HEAD, TAIL, low_bits, Check, SpellsFrame, checked, address_of, control_octet}
+use Rattle.line_tap.proofs.Names.{tail_octets, spelled, parts_of, Frame, CodableFits, CodableIsSendable, SpelledInOctets, flagged}
+use Rattle.line_tap.proofs.Names.{AreBitsOf, EndsFirst, FindsSent, IsAt, part, Seeker, IsCodable, Role}
+use Rattle.std.proofs.lemmas.List.{drop-drop, get_or-append-add, get_or_append_left}
+use Rattle.frame_check.specs.Bits.{bits_of}
 use Rattle.frame_check.specs.Division.{check_of}
-use Rattle.bit_stuffing.specs.declared.slot_writer.TheConstants.{HEAD, TAIL}
-use Rattle.bit_stuffing.specs.BitSlot.{line_bits}
-use Rattle.bit_stuffing.specs.Deframer.{Kept}
-use Rattle.bit_stuffing.specs.Flags.{flag, bit_of, FlagEndsAt}
-use Rattle.bit_stuffing.specs.Found.{Found, lent_of, pieces_of}
+use Rattle.bit_stuffing.specs.Flags.{flag, FlagEndsAt}
 use Rattle.bit_stuffing.specs.Pieces.{IsLent}
-use Rattle.bit_stuffing.specs.Stuffing.{stuffed}
-use Rattle.bit_stuffing.specs.Slots.{Slot, flags, fill, framed, rest_of_flag, opening, slot_bits, sent_bits, AreSlots, IsSlot}
+use Rattle.bit_stuffing.specs.Slots.{Slot, flags, fill, framed, sent_bits, AreSlots, IsSlot}
 use Rattle.bit_stuffing.specs.Slots.Slot.{Flags}
-use Rattle.bit_stuffing.specs.Sent.{SlotAdds, wholes, whole_at}
+use Rattle.bit_stuffing.specs.Sent.{SlotAdds, whole_at}
 use Rattle.bit_stuffing.specs.Tails.{LastPiecesAreFound, behind}
-use Rattle.bit_stuffing.proofs.Found.{pieces-none}
-use Rattle.shared_terms.specs.declared.role.Role.{Role}
-use Rattle.lapm_frames.specs.declared.frame.Frame.{Frame}
-use Rattle.lapm_frames.specs.Parts.{parts_of}
-use Rattle.lapm_frames.specs.Frame.{address_of, control_octet, tail_octets, spelled}
-use Rattle.lapm_frames.specs.Checked.{SpellsFrame, checked, check_for}
+use Rattle.lapm_frames.specs.Checked.{check_for}
 use Rattle.lapm_frames.proofs.Checking.{spells}
 use Rattle.lapm_frames.specs.declared.sent.Sent.TheVariants as sent
-use Rattle.line_run.specs.Laws.{CodableFits, CodableIsSendable, SpelledInOctets}
-use Rattle.sample_line.specs.Signals.{IsCodable}
-use Rattle.line_tap.specs.Reading.{flagged}
-use Rattle.line_tap.specs.declared.seeker.Seeker.{Seeker}
-use Rattle.line_tap.specs.Seeking.{AreBitsOf, EndsFirst, FindsSent, IsAt, end_of, part}
+use Rattle.line_tap.specs.Seeking.{end_of}
 use Rattle.line_tap.proofs.Seeking.{OnePiece, one-whole, first-is, piece-long}
 
 pub record FoundLaws : Type 0 where

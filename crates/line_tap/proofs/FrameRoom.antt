@@ -1,17 +1,8 @@
 -- Whether a frame fits a slot, by where it ends.
-use Rattle.std.proofs.Common.{◌≡◌, ◌∙◌, ℕ, ◌-◌, ◌*◌, ◌%◌, ◌≤◌, Option, Some, None, sym, ap, subst, arith}
-use Rattle.std.specs.Prelude.{IfSome, IfNone}
-use Rattle.frame_check.specs.declared.check.Check.{Check}
-use Rattle.bit_stuffing.specs.declared.slot_writer.TheConstants.{TAIL}
-use Rattle.bit_stuffing.specs.Slots.{next_phase}
-use Rattle.detection.specs.Slots.{slot_of}
-use Rattle.shared_terms.specs.declared.role.Role.{Role}
-use Rattle.lapm_frames.specs.declared.frame.Frame.{Frame}
-use Rattle.lapm_frames.specs.Sendable.{IsSendable}
-use Rattle.lapm_frames.specs.declared.sent.Sent.{Sent}
+use Rattle.line_tap.proofs.Names.{◌≡◌, ◌∙◌, ℕ, ◌-◌, ◌*◌, ◌%◌, ◌≤◌, Option, Some, None, sym, ap, subst, arith, IfSome, IfNone, next_phase}
+use Rattle.line_tap.proofs.Names.{TAIL, slot_of, Check, IsSendable, Frame, Sent, EndsAt, signal_of, IsCodable, Role}
 use Rattle.lapm_frames.specs.declared.sent.Sent.TheVariants as sent
-use Rattle.sample_line.specs.Signals.{signal_of, IsCodable}
-use Rattle.line_tap.specs.Seeking.{EndsBy, EndsAt}
+use Rattle.line_tap.specs.Seeking.{EndsBy}
 
 pub frame-codable : (check : Check) (sender : Role) (dlci symbols phase : ℕ) (s : Sent) (frame : Frame) (end : ℕ) (next : Option ℕ)
     → s ≡ sent.Frame frame → IsSendable s → EndsBy check sender dlci phase s end → IfSome next (λ n. end ≤ 4 * (symbols - TAIL))

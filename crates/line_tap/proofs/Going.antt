@@ -1,33 +1,16 @@
 -- Slots that were read go on the line, and the reading goes on.
-use Rattle.std.proofs.Common.{◌≡◌, ℕ, suc, ◌+◌, ◌-◌, ◌*◌, Option, List, [], ◌∷◌, ◌++◌, length, map, arith, refl, sym, ◌∙◌, ap, subst}
-use Rattle.frame_check.specs.declared.check.Check.{Check}
-use Rattle.shared_terms.specs.declared.role.Role.{Role}
-use Rattle.shared_terms.specs.declared.role.Role.TheVariants.{Originator, Answerer}
-use Rattle.shared_terms.specs.Role.{other}
-use Rattle.shared_terms.specs.Both.{Both, of}
-use Rattle.detection.specs.Slots.{Signal}
-use Rattle.lapm_frames.specs.declared.heard.Heard.{Heard}
-use Rattle.lapm_frames.specs.declared.sent.Sent.{Sent}
-use Rattle.noise_script.specs.Script.{ScriptValue}
-use Rattle.sample_line.specs.Signals.{signal_of}
+use Rattle.line_tap.proofs.Names.{◌≡◌, ℕ, suc, ◌+◌, ◌-◌, ◌*◌, Option, List, [], ◌∷◌, ◌++◌, length, map, arith, refl, sym, ◌∙◌, ap, subst}
+use Rattle.line_tap.proofs.Names.{Signal, Check, Heard, Sent, HeardAt, sent_by, both_sent_by, Slot, TapAfter, ReadsToo, HearsThese, IsToGo}
+use Rattle.line_tap.proofs.Names.{turn_in, going_in, Tapping, line_of, terms_of, octets_of, Hears, Sends, GoesOn, told, SlotReader, Hearing}
+use Rattle.line_tap.proofs.Names.{Tap, AreWaiting, check_by, judged_by, given_to, Spoken, Turn, ScriptValue, IsCodedAs, signal_of, Both, of}
+use Rattle.line_tap.proofs.Names.{other, Role, Originator, Answerer}
 use Rattle.sample_line.specs.Line.{Kept}
-use Rattle.sample_line.specs.Coder.{IsCodedAs}
-use Rattle.link_run.specs.Run.{Spoken, Turn}
-use Rattle.link_run.specs.Listened.{check_by, judged_by, given_to}
-use Rattle.line_run.specs.Sampled.{HeardAt}
-use Rattle.line_run.specs.Stream.{Carried, carried_signal, sent_by, both_sent_by}
+use Rattle.line_run.specs.Stream.{Carried, carried_signal}
 use Rattle.line_run.proofs.Streaming.{lone-signals}
 use Rattle.line_world.specs.declared.direction.DelayedLine.{DelayedLine}
 use Rattle.line_world.specs.Way.{CodesNext, HasRoom, Stands, WaitsFor}
-use Rattle.line_world.specs.Lines.{AreWaiting}
 use Rattle.line_world.proofs.Waiting.{codes-next, sends-behind}
-use Rattle.line_tap.specs.declared.reader.SlotReader.{SlotReader}
-use Rattle.line_tap.specs.Tapping.{Tapping, line_of, terms_of, octets_of, Hears, Sends, GoesOn, told}
-use Rattle.line_tap.specs.End.{Slot}
 use Rattle.line_tap.specs.declared.end.TappedEnd.{TappedEnd}
-use Rattle.line_tap.specs.declared.tapping.Tap.{Tap}
-use Rattle.line_tap.specs.declared.tapping.Hearing.{Hearing}
-use Rattle.line_tap.specs.Tap.{TapAfter, ReadsToo, HearsThese, IsToGo, turn_in, going_in}
 use Rattle.line_tap.proofs.SlotNext.{octets-next}
 
 -- ---- the turn that was heard

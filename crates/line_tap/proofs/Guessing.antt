@@ -1,30 +1,11 @@
 -- The bits that are read of a slot's samples are its bits, and what is taken for what was sent in it is what was sent.
-use Rattle.std.proofs.Common.{◌≡◌, ◌∙◌, ◌⊎◌, inl, inr, ℕ, ◌+◌, ◌*◌, ◌<◌, Bool, true, List, ◌++◌, map}
-use Rattle.std.proofs.Common.{Option, Some, None, refl, sym, ap, subst, arith}
-use Rattle.std.proofs.lemmas.List.{map-append}
-use Rattle.std.proofs.lemmas.List.Elements.{All-append}
-use Rattle.frame_check.specs.declared.check.Check.{Check}
-use Rattle.scramblers.proofs.Readings.{Descrambles_once}
-use Rattle.shared_terms.specs.declared.role.Role.{Role}
-use Rattle.symbol_map.specs.declared.sample.Sample.{Sample}
-use Rattle.symbol_map.specs.Points.{point_of}
-use Rattle.symbol_map.specs.Laws.{PointsDiffer}
-use Rattle.bit_stuffing.specs.declared.slot_writer.TheConstants.{HEAD, TAIL}
-use Rattle.bit_stuffing.specs.Slots.{slot_bits, phase_after}
-use Rattle.bit_stuffing.proofs.Fill.{phase-low}
-use Rattle.detection.specs.Slots.{Signal, slot_of, slots_of}
-use Rattle.lapm_frames.specs.declared.frame.Frame.{Frame}
-use Rattle.lapm_frames.specs.declared.sent.Sent.{Sent}
+use Rattle.line_tap.proofs.Names.{◌≡◌, ◌∙◌, ◌⊎◌, inl, inr, ℕ, ◌+◌, ◌*◌, ◌<◌, Bool, true, List, ◌++◌, map, Option, Some, None, refl, sym, ap}
+use Rattle.line_tap.proofs.Names.{subst, arith, map-append, All-append, phase-low, slot_bits, phase_after, HEAD, TAIL, Signal, slot_of}
+use Rattle.line_tap.proofs.Names.{slots_of, Check, Frame, Sent, Demodulates, Modulates, SlotsTellWhatWasSent, AreLabels, is_plain}
+use Rattle.line_tap.proofs.Names.{plain_bits, flagged, IsGuess, FindsSent, carried, bits_behind, signal_of, IsCodable, Descrambles_once}
+use Rattle.line_tap.proofs.Names.{Role, PointsDiffer, point_of, Sample}
 use Rattle.lapm_frames.specs.declared.sent.Sent.TheVariants as sent
-use Rattle.line_coding.specs.Modulates.{Modulates}
-use Rattle.line_coding.specs.Demodulates.{line_of, Demodulates}
-use Rattle.sample_line.specs.Signals.{signal_of, IsCodable}
-use Rattle.sample_line.specs.Line.{bits_behind}
-use Rattle.line_run.specs.Laws.{SlotsTellWhatWasSent}
-use Rattle.line_tap.specs.Labels.{AreLabels}
-use Rattle.line_tap.specs.Seeking.{FindsSent}
-use Rattle.line_tap.specs.Reading.{is_plain, plain_bits, flagged, IsGuess}
-use Rattle.sample_line.proofs.Once.{carried}
+use Rattle.line_coding.specs.Demodulates.{line_of}
 use Rattle.line_tap.proofs.Coding.{small, points-tell}
 use Rattle.line_tap.proofs.Once.{behind-same}
 

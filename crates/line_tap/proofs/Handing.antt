@@ -1,15 +1,12 @@
 -- Segments that a receiver hands over, one after another.
-use Rattle.std.proofs.Common.{◌≡◌, inl, inr, ℕ, zero, suc, ◌+◌, ◌≤◌, ◌<◌, Bool, true, false, cond, nat_lt, List, [], ◌∷◌, ◌++◌, length}
-use Rattle.std.proofs.Common.{drop, arith, refl, sym, ◌∙◌, ap, subst, Some, None}
-use Rattle.std.proofs.lemmas.Bool.{false≢true}
-use Rattle.std.proofs.lemmas.Bool.Decides.{nat_tests}
-use Rattle.std.proofs.lemmas.List.{append-nil, append_assoc}
-use Rattle.std.proofs.lemmas.List.Folds.{concat-append}
-use Rattle.std.specs.Prelude.{slice_index_or, is_some}
-use Rattle.std.specs.List.{concat}
-use Rattle.outside_calls.specs.Folder.{FolderState, GoesOn, Appended, PartlyAppended, Adds}
-use Rattle.lapm_receiver.specs.Incoming.{Incoming, after_delivered, next_delivered}
-use Rattle.lapm_receiver.specs.Taking.{Taking, StandsIn}
+use Rattle.line_tap.proofs.Names.{◌≡◌, inl, inr, ℕ, zero, suc, ◌+◌, ◌≤◌, ◌<◌, Bool, true, false, cond, List, [], ◌∷◌, ◌++◌, length, drop}
+use Rattle.line_tap.proofs.Names.{arith, refl, sym, ◌∙◌, ap, subst, Some, None, false≢true, nat_tests, append_assoc, concat-append, concat}
+use Rattle.line_tap.proofs.Names.{is_some, Incoming, Taking, StandsIn, FolderState, Appended, PartlyAppended}
+use Rattle.std.proofs.Common.{nat_lt}
+use Rattle.std.proofs.lemmas.List.{append-nil}
+use Rattle.std.specs.Prelude.{slice_index_or}
+use Rattle.outside_calls.specs.Folder.{GoesOn, Adds}
+use Rattle.lapm_receiver.specs.Incoming.{after_delivered, next_delivered}
 use Rattle.line_world.proofs.Handing.{adds-more, part-more}
 
 at-front : (n : ℕ) (xs : List (List ℕ)) → n < length xs → drop n xs ≡ slice_index_or xs n [] ∷ drop (suc n) xs

@@ -1,25 +1,11 @@
 -- What is read of a recording to look at its header.
-use Rattle.std.proofs.Common.{◌≡◌, ◌∙◌, inl, inr, ℕ, ◌+◌, ◌≤◌, ◌<◌, List, [], ◌∷◌, IsTrue, length, take, sym, ap, arith}
-use Rattle.std.proofs.lemmas.List.{take_all}
-use Rattle.std.proofs.lemmas.Bool.{cases_lt}
-use Rattle.scramblers.specs.declared.mode.Mode.{Mode}
-use Rattle.scramblers.specs.declared.mode.Mode.TheVariants.{Call, Answer}
-use Rattle.outside_calls.specs.Folder.{FolderState, octets_at}
-use Rattle.outside_calls.specs.Outputs.{SomeRose}
-use Rattle.recordings.specs.Recording.{header_of}
-use Rattle.noise_script.specs.Script.{ScriptValue}
-use Rattle.command_base.specs.declared.stop.Stop.{Stop}
-use Rattle.command_base.specs.declared.stop.Stop.TheVariants.{Own, Read}
-use Rattle.command_base.specs.Inputs.{ReadTo}
+use Rattle.line_tap.proofs.Names.{◌≡◌, ◌∙◌, inl, inr, ℕ, ◌+◌, ◌≤◌, ◌<◌, List, [], ◌∷◌, IsTrue, length, take, sym, ap, arith, cases_lt}
+use Rattle.line_tap.proofs.Names.{take_all, ReadTo, Stop, Own, Read, TapNames, recordings_of, IsRefused, AreReadTo, no_octets, ScriptValue}
+use Rattle.line_tap.proofs.Names.{FolderState, octets_at, SomeRose, header_of, Limits, Mode, Call, Answer}
 use Rattle.command_base.specs.Stops.{StopCounts}
-use Rattle.run_inputs.specs.declared.limits.Limits.{Limits}
 use Rattle.run_inputs.specs.Inputs.{Opens, Refuses}
 use Rattle.line_tap.specs.declared.limits.TheConstants.{TAP_LIMIT}
-use Rattle.line_tap.specs.Names.{TapNames, recordings_of}
-use Rattle.line_tap.specs.Tap.{AreReadTo}
-use Rattle.line_tap.specs.Turns.{no_octets}
 use Rattle.line_tap.specs.Headers.{HasHeader, NoHeader}
-use Rattle.line_tap.specs.Outcomes.{IsRefused}
 
 -- the octets that a header is looked for in
 pub header-octets : (start new : FolderState) (name : List ℕ) (count : ℕ) (piece : List ℕ) → count ≤ 8

@@ -1,27 +1,17 @@
 -- From every answer to the headline, and to the answer that right inputs have.
-use Rattle.std.proofs.Common.{◌≡◌, ◌⊎◌, inl, inr, ℕ, Bool, true, List, [], ◌∷◌, ◌++◌, is_some, refl, ◌∙◌, ap, subst}
-use Rattle.std.specs.Option.{option_map}
-use Rattle.scramblers.specs.declared.mode.Mode.{Mode}
-use Rattle.scramblers.specs.declared.mode.Mode.TheVariants.{Call, Answer}
-use Rattle.outside_calls.specs.Folder.{FolderState}
-use Rattle.outside_calls.specs.Outputs.{KeepsAll, KeepsEach, OnlyOutputs}
-use Rattle.outside_calls.proofs.Putting.{HoldEach-kept}
+use Rattle.line_tap.proofs.Names.{◌≡◌, ◌⊎◌, inl, inr, ℕ, Bool, true, List, [], ◌∷◌, ◌++◌, refl, ◌∙◌, ap, subst, option_map, last-only}
+use Rattle.line_tap.proofs.Names.{Answers, turns_line, Status, LineLost, ChanceMatch, BadTap, TapEnd, HasNoHeader, TapNames, outputs_of}
+use Rattle.line_tap.proofs.Names.{recordings_of, IsRefused, Tapped, Ends, tap_job, held_of, HoldEach-kept, FolderState, KeepsAll, KeepsEach}
+use Rattle.line_tap.proofs.Names.{OnlyOutputs, RefusesOwn, Mode, Call, Answer}
+use Rattle.std.proofs.Common.{is_some}
 use Rattle.line_tap.specs.Answers.{stop_by}
-use Rattle.line_tap.specs.Ends.{TapEnd}
 use Rattle.line_tap.specs.Ends as ends
-use Rattle.command_base.specs.declared.status.Status.{Status}
-use Rattle.command_base.specs.declared.status.Status.TheVariants.{Done, LineLost, ChanceMatch, BadTap}
+use Rattle.command_base.specs.declared.status.Status.TheVariants.{Done}
 use Rattle.command_base.specs.declared.stop.Stop.TheVariants as stops
-use Rattle.command_base.specs.Job.{Answers}
-use Rattle.command_base.specs.Lines.{turns_line}
-use Rattle.command_base.proofs.Jobs.{last-only, done-of, shared-of}
+use Rattle.command_base.proofs.Jobs.{done-of, shared-of}
 use Rattle.run_inputs.proofs.Answering.{stopped-so}
-use Rattle.run_inputs.specs.Inputs.{RefusesOwn}
-use Rattle.line_tap.specs.Names.{TapNames, outputs_of, recordings_of}
-use Rattle.line_tap.specs.Turn.{held_of}
 use Rattle.line_tap.specs.declared.limits.TheConstants.{LIMITS}
-use Rattle.line_tap.specs.Headers.{HasNoHeader}
-use Rattle.line_tap.specs.Outcomes.{IsRefused, Tapped, EndsBy, Ends, tap_job}
+use Rattle.line_tap.specs.Outcomes.{EndsBy}
 use Rattle.line_tap.specs.Headline.{Told, ToldBy, Headline}
 
 pub keeps-each : (a b : FolderState) → OnlyOutputs a b [] → (names : List (List ℕ)) → KeepsEach a b names

@@ -1,34 +1,18 @@
 -- Both ends hear in a turn of a tap, and what they took is delivered.
-use Rattle.std.proofs.Common.{◌≡◌, ℕ, ◌*◌, ◌<◌, ◌≤◌, ◌^◌, List, [], ◌∷◌, ◌++◌, length, arith, refl, sym, ◌∙◌, ap, subst}
-use Rattle.std.specs.Prelude.{is_some}
-use Rattle.frame_check.specs.declared.check.Check.{Check}
-use Rattle.shared_terms.specs.declared.role.Role.{Role}
-use Rattle.shared_terms.specs.declared.role.Role.TheVariants.{Originator, Answerer}
-use Rattle.shared_terms.specs.Role.{other}
-use Rattle.shared_terms.specs.Both.{Both, of}
-use Rattle.lapm_frames.specs.declared.frame.Frame.TheVariants.{I}
-use Rattle.lapm_frames.specs.declared.heard.Heard.{Heard}
-use Rattle.lapm_frames.specs.declared.heard.Heard.TheVariants.{Passed, Chance}
+use Rattle.line_tap.proofs.Names.{◌≡◌, ℕ, ◌*◌, ◌<◌, ◌≤◌, ◌^◌, List, [], ◌∷◌, ◌++◌, length, arith, refl, sym, ◌∙◌, ap, subst, is_some, Check}
+use Rattle.line_tap.proofs.Names.{I, Heard, Passed, Chance, Incoming, Wire, IsHeardOf, IsHeardWell, LineEnd, ScriptsHaveDelays, sent_by}
+use Rattle.line_tap.proofs.Names.{both_sent_by, Listens, Overhears, delivered, IsBehind, TapAfter, IsReady, HearsThese, Tapping, line_of}
+use Rattle.line_tap.proofs.Names.{terms_of, Tells, EndListener, Tap, given_in, given_breaks, judged_by, received, taking_in, given_to}
+use Rattle.line_tap.proofs.Names.{has_passed, is_xid, opens, Turn, IsInLimits, delay_of, Both, of, other, Role, Originator, Answerer, Terms}
 use Rattle.lapm_frames.specs.declared.sent.Sent.TheVariants as slots
-use Rattle.xid_params.specs.declared.terms.Terms.{Terms}
 use Rattle.lapm_receiver.specs.declared.took.Took.{Took}
-use Rattle.lapm_receiver.specs.Incoming.{Incoming, after_kind, kind_of, offset}
-use Rattle.noise_script.specs.Script.{IsInLimits, delay_of}
-use Rattle.link_run.specs.Run.{Turn}
-use Rattle.link_run.specs.Laws.{given_in, given_breaks}
-use Rattle.link_run.specs.Listened.{judged_by, received, taking_in, given_to}
-use Rattle.link_run.specs.Overheard.{has_passed, is_xid, opens}
-use Rattle.line_run.specs.Sampled.{Wire, IsHeardOf, IsHeardWell, EndsLineBy, LineEnd, LineLost, ChanceMatch}
-use Rattle.line_run.specs.Scripted.{ScriptsHaveDelays}
+use Rattle.lapm_receiver.specs.Incoming.{after_kind, kind_of, offset}
+use Rattle.line_run.specs.Sampled.{EndsLineBy, LineLost, ChanceMatch}
 use Rattle.line_run.specs.LineLaws.{LoneSlotsAreDue, LoneSlotsAreCounted}
-use Rattle.line_run.specs.Stream.{AreSent, IsDue, sent_by, both_sent_by}
+use Rattle.line_run.specs.Stream.{AreSent, IsDue}
 use Rattle.line_world.specs.Lines.{AreDue, ArrivesBoth, HaveRoom, PassedFew, from}
 use Rattle.line_world.proofs.Waiting.{passed-few}
-use Rattle.line_tap.specs.Tapping.{Tapping, line_of, terms_of, Tells}
-use Rattle.line_tap.specs.declared.listener.EndListener.{EndListener}
-use Rattle.line_tap.specs.declared.tapping.Tap.{Tap}
-use Rattle.line_tap.specs.EndListener.{Listens, Overhears, ListensToo, delivered}
-use Rattle.line_tap.specs.Tap.{IsBehind, TapAfter, IsReady, HearsThese}
+use Rattle.line_tap.specs.EndListener.{ListensToo}
 
 -- ---- the slots of turns that the recordings tell are due
 

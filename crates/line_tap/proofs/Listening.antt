@@ -1,20 +1,10 @@
 -- What an end is given by what it hears, and hands over.
-use Rattle.std.proofs.Common.{arith, ◌≡◌, ℕ, ◌*◌, ◌≤◌, Bool, true, false, List, ◌++◌, length, refl, sym, subst, Option, Some, None}
-use Rattle.std.proofs.Common.{append-nil}
-use Rattle.std.specs.Prelude.{◌||◌}
-use Rattle.shared_terms.specs.declared.role.Role.{Role}
-use Rattle.lapm_frames.specs.declared.frame.Frame.TheVariants.{I, Ui}
-use Rattle.link_run.specs.Laws.{given_in}
-use Rattle.link_run.specs.Listened.{given_by}
-use Rattle.link_run.specs.Overheard.{opens}
-use Rattle.lapm_frames.specs.declared.heard.Heard.TheVariants.{Passed}
+use Rattle.line_tap.proofs.Names.{arith, ◌≡◌, ℕ, ◌*◌, ◌≤◌, Bool, true, false, List, ◌++◌, length, refl, sym, subst, Option, Some, None}
+use Rattle.line_tap.proofs.Names.{append-nil, ◌||◌, I, Ui, Passed, Incoming, Taking, StandsIn, Listens, IsIdle, delivered, EndListener}
+use Rattle.line_tap.proofs.Names.{given_in, given_by, opens, Role, Terms}
 use Rattle.lapm_frames.specs.declared.sent.Sent.TheVariants as slots
 use Rattle.break_signals.specs.Breaks.{with_given}
-use Rattle.xid_params.specs.declared.terms.Terms.{Terms}
-use Rattle.lapm_receiver.specs.Incoming.{Incoming}
-use Rattle.lapm_receiver.specs.Taking.{Taking, StandsIn}
-use Rattle.line_tap.specs.declared.listener.EndListener.{EndListener}
-use Rattle.line_tap.specs.EndListener.{Listens, IsIdle, HasTaken, delivered}
+use Rattle.line_tap.specs.EndListener.{HasTaken}
 
 -- one break more
 pub with-given : (o : Option ℕ) (lengths : List ℕ) → with_given o lengths ≡ lengths ++ given_in o

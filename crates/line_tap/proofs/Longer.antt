@@ -1,31 +1,12 @@
 -- What more octets of the recordings leave as it was.
-use Rattle.std.proofs.Common.{◌≡◌, ℕ, ◌+◌, ◌*◌, ◌≤◌, List, [], ◌∷◌, ◌++◌, length, take, arith, length-append, sym, ◌∙◌, ap, subst}
-use Rattle.std.proofs.Common.{append-nil}
-use Rattle.std.proofs.lemmas.List.{take-append-le}
+use Rattle.line_tap.proofs.Names.{◌≡◌, ℕ, ◌+◌, ◌*◌, ◌≤◌, List, [], ◌∷◌, ◌++◌, length, take, arith, length-append, sym, ◌∙◌, ap, subst}
+use Rattle.line_tap.proofs.Names.{append-nil, drop-append_seam, take-append-le, concat-append, concat, Check, I, Heard, Passed, Sent}
+use Rattle.line_tap.proofs.Names.{Incoming, KeepsTaken, Modulates, Wire, bits_of, Tapping, tapping, line_of, terms_of, octets_of, next_bits}
+use Rattle.line_tap.proofs.Names.{HoldsNext, Hears, Sends, GoesOn, Tells, got_in, check_by, received, taking_in, Turn, samples_in, mode_of}
+use Rattle.line_tap.proofs.Names.{tap_of, Both, of, Role, Originator, Answerer}
 use Rattle.std.specs.Prelude.{drop}
-use Rattle.std.specs.List.{concat}
-use Rattle.std.proofs.Math.Seq.{drop-append_seam}
-use Rattle.std.proofs.lemmas.List.Folds.{concat-append}
-use Rattle.scramblers.specs.Mode.{tap_of}
-use Rattle.frame_check.specs.declared.check.Check.{Check}
-use Rattle.shared_terms.specs.declared.role.Role.{Role}
-use Rattle.shared_terms.specs.declared.role.Role.TheVariants.{Originator, Answerer}
-use Rattle.sample_line.specs.Mode.{mode_of}
-use Rattle.shared_terms.specs.Both.{Both, of}
-use Rattle.line_coding.specs.Modulates.{Modulates}
-use Rattle.recordings.specs.Samples.{samples_in}
-use Rattle.lapm_frames.specs.declared.frame.Frame.TheVariants.{I}
-use Rattle.lapm_frames.specs.declared.heard.Heard.{Heard}
-use Rattle.lapm_frames.specs.declared.heard.Heard.TheVariants.{Passed}
-use Rattle.lapm_frames.specs.declared.sent.Sent.{Sent}
 use Rattle.lapm_frames.specs.declared.sent.Sent.TheVariants as slots
-use Rattle.lapm_receiver.specs.Incoming.{Incoming, KeepsTaken}
-use Rattle.link_run.specs.Run.{Turn}
-use Rattle.link_run.specs.Listened.{check_by, received, taking_in}
-use Rattle.line_run.specs.Sampled.{Wire, bits_of}
-use Rattle.line_tap.specs.Tapping.{Tapping, tapping, line_of, terms_of, octets_of, next_bits, HoldsNext, Hears, Sends, GoesOn, Tells}
 use Rattle.line_tap.proofs.NextSlots.{samples-take}
-use Rattle.line_tap.specs.Turn.{got_in}
 
 -- ---- one slot
 

@@ -1,20 +1,7 @@
 -- Slots that are read in a turn.
-use Rattle.std.proofs.Common.{◌≡◌, ℕ, suc, ◌+◌, ◌*◌, List, [], ◌∷◌, ◌++◌, length, arith, refl, sym, ◌∙◌, ap, subst, Some}
-use Rattle.frame_check.specs.declared.check.Check.{Check}
-use Rattle.bit_stuffing.specs.Slots.{phase_after}
-use Rattle.detection.specs.Slots.{Signal, slots_of}
-use Rattle.shared_terms.specs.declared.role.Role.{Role}
-use Rattle.shared_terms.specs.Both.{of}
-use Rattle.recordings.specs.Samples.{samples_in}
-use Rattle.sample_line.specs.Signals.{signal_of}
-use Rattle.link_run.specs.Run.{Turn}
-use Rattle.line_run.specs.Sampled.{signals}
-use Rattle.line_run.proofs.Bits.{signals-more}
-use Rattle.line_tap.specs.declared.reader.SlotReader.{SlotReader}
-use Rattle.line_tap.specs.Reader.{ReaderStands}
-use Rattle.line_tap.specs.Tapping.{Tapping, line_of, octets_of, told}
-use Rattle.line_tap.specs.End.{ReadsOn, ReadsNext, Slot}
-use Rattle.line_tap.specs.Tap.{ReadsToo}
+use Rattle.line_tap.proofs.Names.{◌≡◌, ℕ, suc, ◌+◌, ◌*◌, List, [], ◌∷◌, ◌++◌, length, arith, refl, sym, ◌∙◌, ap, subst, Some, phase_after}
+use Rattle.line_tap.proofs.Names.{Signal, slots_of, Check, signals-more, signals, ReadsOn, ReadsNext, Slot, ReaderStands, ReadsToo, Tapping}
+use Rattle.line_tap.proofs.Names.{line_of, octets_of, told, SlotReader, Turn, samples_in, signal_of, of, Role}
 
 pub reads-too : (r : SlotReader) (x : Tapping) (check : Check) (role : Role) (ts : List Turn) (body : List ℕ) (slot : Slot)
     → ReadsNext r (line_of x) check role ts body slot → ReadsToo r (line_of x) check role ts body slot

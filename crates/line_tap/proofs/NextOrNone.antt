@@ -1,33 +1,14 @@
 -- Whether a recording holds a slot of the next turn, and which, can be told.
-use Rattle.std.proofs.Common.{◌≡◌, inl, inr, ℕ, suc, ◌+◌, ◌-◌, ◌*◌, ◌%◌, ◌<◌, ◌≤◌, Bool, List, [], ◌∷◌, ◌++◌, length, take}
-use Rattle.std.proofs.Common.{arith, ap, subst, Some}
+use Rattle.line_tap.proofs.Names.{◌≡◌, inl, inr, ℕ, suc, ◌+◌, ◌-◌, ◌*◌, ◌%◌, ◌<◌, ◌≤◌, Bool, List, [], ◌∷◌, ◌++◌, length, take, arith, ap}
+use Rattle.line_tap.proofs.Names.{subst, Some, cases_lt, All-nil, All-cons, All-head, All-tail, length-line_bits, line_bits, opening, TAIL}
+use Rattle.line_tap.proofs.Names.{AreOctets, Check, checked, information_of, IsSendable, Frame, Sent, Modulates, Decided, tap-some, Wire}
+use Rattle.line_tap.proofs.Names.{bits_of, phase_behind, next_bits, octets_of, HoldsNext, Turn, samples_in, mode_of, IsCodable, tap_of}
+use Rattle.line_tap.proofs.Names.{Role, Sample}
 use Rattle.std.specs.Prelude.{ℤ, pos, negsuc}
-use Rattle.std.proofs.lemmas.Bool.{cases_lt}
-use Rattle.std.proofs.lemmas.List.Elements.{All-nil, All-cons, All-head, All-tail}
-use Rattle.frame_check.specs.Octets.{AreOctets}
-use Rattle.frame_check.specs.declared.check.Check.{Check}
-use Rattle.scramblers.specs.Mode.{tap_of}
-use Rattle.symbol_map.specs.declared.sample.Sample.{Sample}
-use Rattle.line_coding.specs.Modulates.{Modulates}
-use Rattle.bit_stuffing.specs.declared.slot_writer.TheConstants.{TAIL}
-use Rattle.bit_stuffing.specs.Slots.{opening}
-use Rattle.bit_stuffing.specs.BitSlot.{line_bits}
-use Rattle.bit_stuffing.proofs.Written.{length-line_bits}
-use Rattle.shared_terms.specs.declared.role.Role.{Role}
-use Rattle.sample_line.specs.Mode.{mode_of}
-use Rattle.lapm_frames.specs.declared.frame.Frame.{Frame}
-use Rattle.lapm_frames.specs.Frame.{information_of}
-use Rattle.lapm_frames.specs.Checked.{checked}
-use Rattle.lapm_frames.specs.Sendable.{IsSendable}
-use Rattle.lapm_frames.specs.declared.sent.Sent.{Sent}
 use Rattle.lapm_frames.specs.declared.sent.Sent.TheVariants as sent
-use Rattle.recordings.specs.Samples.{samples_in}
-use Rattle.sample_line.specs.Signals.{FrameFits, IsCodable}
-use Rattle.link_run.specs.Run.{Turn}
-use Rattle.line_run.specs.Sampled.{Wire, bits_of}
-use Rattle.line_run.proofs.Recordings.{tap-some, recorded-some}
-use Rattle.line_ends.proofs.Deciding.{Decided, both-decided, number-decided, list-decided, is-frame-decided}
-use Rattle.line_tap.specs.Tapping.{phase_behind, next_bits, octets_of, HoldsNext}
+use Rattle.sample_line.specs.Signals.{FrameFits}
+use Rattle.line_run.proofs.Recordings.{recorded-some}
+use Rattle.line_ends.proofs.Deciding.{both-decided, number-decided, list-decided, is-frame-decided}
 use Rattle.line_tap.proofs.AmongFrames.{any-frame}
 use Rattle.sample_line.proofs.Once.{modulates-once}
 

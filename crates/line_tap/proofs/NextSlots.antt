@@ -1,24 +1,9 @@
 -- What a reader takes for the next slot is the next slot that the recording holds, and the other way.
-use Rattle.std.proofs.Common.{◌≡◌, ◌∙◌, ℕ, zero, suc, ◌+◌, ◌*◌, ◌≤◌, List, [], ◌∷◌, ◌++◌, length, take, drop, refl, sym, ap, subst, arith}
+use Rattle.line_tap.proofs.Names.{◌≡◌, ◌∙◌, ℕ, zero, suc, ◌+◌, ◌*◌, ◌≤◌, List, [], ◌∷◌, ◌++◌, length, take, drop, refl, sym, ap, subst}
+use Rattle.line_tap.proofs.Names.{arith, common_steps, Signal, signal_bits, Check, Sent, Modulates, Wire, signals, bits_of, IsNext}
+use Rattle.line_tap.proofs.Names.{ReadsFor, carries, HoldsNext, next_bits, octets_of, SlotReader, Turn, samples_in, sample_of, bits_behind}
+use Rattle.line_tap.proofs.Names.{mode_of, signal_of, IsCodable, Framing, tap_of, Role, Sample}
 use Rattle.std.proofs.Math.Seq.{take-add}
-use Rattle.std.proofs.lemmas.Grind.{common_steps}
-use Rattle.frame_check.specs.declared.check.Check.{Check}
-use Rattle.shared_terms.specs.declared.role.Role.{Role}
-use Rattle.sample_line.specs.Mode.{mode_of}
-use Rattle.scramblers.specs.Mode.{tap_of}
-use Rattle.symbol_map.specs.declared.sample.Sample.{Sample}
-use Rattle.detection.specs.Slots.{Signal, signal_bits}
-use Rattle.line_coding.specs.Modulates.{Modulates}
-use Rattle.recordings.specs.Samples.{samples_in, sample_of}
-use Rattle.lapm_frames.specs.declared.sent.Sent.{Sent}
-use Rattle.sample_line.specs.Signals.{signal_of, IsCodable}
-use Rattle.sample_line.specs.Line.{bits_behind}
-use Rattle.link_run.specs.Run.{Turn}
-use Rattle.line_run.specs.Sampled.{Wire, signals, bits_of}
-use Rattle.sample_line.specs.declared.framing.Framing.{Framing}
-use Rattle.line_tap.specs.declared.reader.SlotReader.{SlotReader}
-use Rattle.line_tap.specs.Reader.{IsNext, ReadsFor, carries}
-use Rattle.line_tap.specs.Tapping.{HoldsNext, next_bits, octets_of}
 
 pub samples-drop : (n : ℕ) (octets : List ℕ) → 4 * n ≤ length octets → samples_in (drop (4 * n) octets) ≡ drop n (samples_in octets)
 samples-drop zero octets h = refl

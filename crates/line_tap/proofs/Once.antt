@@ -1,37 +1,14 @@
 -- A script and two recordings tell one thing.
-use Rattle.std.proofs.Common.{◌≡◌, ◌⊎◌, inl, inr, ℕ, suc, ◌+◌, ◌*◌, ◌<◌, ◌≤◌, List, [], ◌∷◌, ◌++◌}
-use Rattle.std.proofs.Common.{length, arith, refl, sym, ◌∙◌, ap, subst, Option, Some}
-use Rattle.std.specs.List.{concat}
-use Rattle.std.proofs.Math.Nat.{mul-suc}
-use Rattle.std.proofs.lemmas.Bool.{cases_lt}
-use Rattle.frame_check.specs.declared.check.Check.{Check}
-use Rattle.scramblers.specs.Mode.{tap_of}
-use Rattle.bit_stuffing.specs.declared.slot_writer.TheConstants.{HEAD, TAIL}
-use Rattle.bit_stuffing.proofs.Fill.{phase-low}
-use Rattle.detection.specs.Slots.{slots_of}
-use Rattle.shared_terms.specs.declared.role.Role.{Role}
-use Rattle.shared_terms.specs.declared.role.Role.TheVariants.{Originator, Answerer}
-use Rattle.shared_terms.specs.Role.{other}
-use Rattle.sample_line.specs.Mode.{mode_of}
-use Rattle.shared_terms.specs.Both.{of}
-use Rattle.symbol_map.specs.Laws.{PointsDiffer}
-use Rattle.lapm_frames.specs.declared.sent.Sent.{Sent}
-use Rattle.lapm_frames.specs.declared.heard.Heard.{Heard}
-use Rattle.line_texts.specs.LineText.{chance_line}
-use Rattle.line_run.specs.Laws.{SlotsTellWhatWasSent}
-use Rattle.link_run.specs.Run.{Spoken, Side, Turn}
-use Rattle.link_run.specs.Trace.{trace_text}
-use Rattle.link_run.specs.Listened.{check_by, judged_by, received, given_to}
-use Rattle.line_run.specs.Sampled.{Wire, signals, bits_of, IsHeardOf, IsHeardWell, LineEnd}
+use Rattle.line_tap.proofs.Names.{◌≡◌, ◌⊎◌, inl, inr, ℕ, suc, ◌+◌, ◌*◌, ◌<◌, ◌≤◌, List, [], ◌∷◌, ◌++◌, length, arith, refl, sym, ◌∙◌, ap}
+use Rattle.line_tap.proofs.Names.{subst, Option, Some, mul-suc, cases_lt, concat, phase-low, HEAD, TAIL, slots_of, Check, Heard, Sent, Left}
+use Rattle.line_tap.proofs.Names.{SlotsTellWhatWasSent, Wire, signals, bits_of, IsHeardOf, IsHeardWell, LineEnd, SlotsHaveRoom, TapEnd}
+use Rattle.line_tap.proofs.Names.{IsDone, Leaves, LastHears, EndsWhole, EndsLine, EndsOnLine, EndsBy, TellsOnce, Tapping, line_of, terms_of}
+use Rattle.line_tap.proofs.Names.{phase_behind, next_bits, octets_of, HoldsNext, told, Hears, GoesOn, Tells, chance_line, check_by}
+use Rattle.line_tap.proofs.Names.{judged_by, received, given_to, Spoken, Side, Turn, trace_text, IsInLimits, mode_of, tap_of, of, other}
+use Rattle.line_tap.proofs.Names.{Role, Originator, Answerer, PointsDiffer}
 use Rattle.line_run.specs.Sampled as lines
 use Rattle.line_run.specs.LineLaws.{HeardOnce, OneLineEndBy, EndsOrIsHeard}
-use Rattle.line_run.specs.Ends.{Left}
-use Rattle.line_run.specs.Scripted.{SlotsHaveRoom}
-use Rattle.noise_script.specs.Script.{IsInLimits}
-use Rattle.line_tap.specs.Tapping.{Tapping, line_of, terms_of, phase_behind, next_bits, octets_of, HoldsNext, told, Hears, GoesOn, Tells}
-use Rattle.line_tap.specs.Ends.{TapEnd, IsDone, LineLost, ChanceMatch, BadTap, Leaves, LastHears, EndsWhole, EndsBadly}
-use Rattle.line_tap.specs.Ends.{EndsLine, EndsOnLine, EndsBy}
-use Rattle.line_tap.specs.Laws.{TellsOnce}
+use Rattle.line_tap.specs.Ends.{LineLost, ChanceMatch, BadTap, EndsBadly}
 use Rattle.line_tap.proofs.Coding.{samples-tell}
 
 pub record OnceLaws : Type 0 where

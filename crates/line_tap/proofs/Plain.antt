@@ -1,39 +1,21 @@
 -- Turns of a run without what the line doesn't tell: the meant numbers, and the checks of frames that have no numbers.
-use Rattle.std.proofs.Common.{arith, ◌≡◌, ℕ, zero, suc, ◌-◌, ◌*◌, Bool, true, false, cond, List, [], ◌∷◌, ◌++◌, length, map, drop, refl}
-use Rattle.std.proofs.Common.{sym, ◌∙◌}
-use Rattle.std.proofs.Common.{ap, subst, Option, Some, None, slice_get}
-use Rattle.std.specs.Prelude.{is_some, ◌||◌}
-use Rattle.std.specs.Option.{option_map}
-use Rattle.std.proofs.lemmas.List.{length-map, drop-map}
+use Rattle.line_tap.proofs.Names.{arith, ◌≡◌, ℕ, zero, suc, ◌-◌, ◌*◌, Bool, true, false, cond, List, [], ◌∷◌, ◌++◌, length, map, drop, refl}
+use Rattle.line_tap.proofs.Names.{sym, ◌∙◌, ap, subst, Option, Some, None, length-map, drop-map, option_map, is_some, ◌||◌, signal_bits}
+use Rattle.line_tap.proofs.Names.{FlagSlot, with_check, Check, Sixteen, has_number, spelled, Frame, Heard, Sent, Wire, signals, bits_of}
+use Rattle.line_tap.proofs.Names.{IsHeardOf, IsHeardWell, HeardIn, told, given_in, given_breaks, check_by, judged_by, taking_in, received}
+use Rattle.line_tap.proofs.Names.{given_by, given_to, has_passed, is_xid, opens, Spoken, Side, Turn, side_line, turn_text, trace_text}
+use Rattle.line_tap.proofs.Names.{delay_of, signal_of, of, Role, Originator, Answerer, Terms}
+use Rattle.std.proofs.Common.{slice_get}
 use Rattle.std.proofs.lemmas.Option.{slice_get-map}
-use Rattle.frame_check.specs.declared.check.Check.{Check}
-use Rattle.frame_check.specs.declared.check.Check.TheVariants.{Sixteen}
-use Rattle.frame_check.specs.Division.{with_check}
-use Rattle.shared_terms.specs.declared.role.Role.{Role}
-use Rattle.shared_terms.specs.declared.role.Role.TheVariants.{Originator, Answerer}
-use Rattle.shared_terms.specs.Both.{of}
-use Rattle.detection.specs.Slots.{signal_bits}
-use Rattle.detection.specs.Slots.Signal.{FlagSlot}
-use Rattle.lapm_frames.specs.declared.frame.Frame.{Frame}
-use Rattle.lapm_frames.specs.Frame.{has_number, spelled}
-use Rattle.lapm_frames.specs.declared.sent.Sent.{Sent}
 use Rattle.lapm_frames.specs.declared.sent.Sent.TheVariants as slots
-use Rattle.lapm_frames.specs.declared.heard.Heard.{Heard}
-use Rattle.xid_params.specs.declared.terms.Terms.{Terms}
-use Rattle.noise_script.specs.Script.{delay_of, loses}
-use Rattle.sample_line.specs.Signals.{signal_of}
+use Rattle.noise_script.specs.Script.{loses}
 use Rattle.sample_line.specs.Recorded.{Records}
 use Rattle.sample_line.specs.Outcomes.{IsOutcome}
 use Rattle.sample_line.specs.Path.{LosesAt}
-use Rattle.link_run.specs.Run.{Spoken, Side, Turn}
 use Rattle.link_run.specs.Carried.{sent_in, sent_ago}
-use Rattle.link_run.specs.Laws.{given_in, given_breaks}
-use Rattle.link_run.specs.Overheard.{passes_in, has_passed, is_xid, opens}
-use Rattle.link_run.specs.Trace.{side_line, turn_text, trace_text}
-use Rattle.link_run.specs.Listened.{check_by, judged_by, taking_in, received, given_by, given_to}
-use Rattle.line_run.specs.Sampled.{Wire, signal_in, and_then, signals, signals_before, bits_of, bits_before, ArrivesAs, IsHeardOf}
-use Rattle.line_run.specs.Sampled.{IsHeardWell, HeardIn, LosesLine}
-use Rattle.line_tap.specs.Tapping.{told}
+use Rattle.link_run.specs.Overheard.{passes_in}
+use Rattle.line_run.specs.Sampled.{signal_in, and_then, signals_before, bits_before, ArrivesAs}
+use Rattle.line_run.specs.Sampled.{LosesLine}
 
 -- a slot, an end in a turn, a turn, as the line tells them
 abbrev pub plain_slot : Check → Spoken → Spoken

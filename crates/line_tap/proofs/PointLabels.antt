@@ -1,22 +1,13 @@
 -- Samples that are points, one after another.
-use Rattle.std.proofs.Common.{◌≡◌, ◌∙◌, inl, inr, ℕ, zero, suc, ◌+◌, ◌-◌, ◌*◌, ◌<◌, ◌≤◌, Bool, List, [], ◌∷◌, ◌++◌, length}
-use Rattle.std.proofs.Common.{take, map, get_or, Some, slice_index, refl, sym, ap, subst, arith}
-use Rattle.std.proofs.lemmas.Bool.{cases_lt}
-use Rattle.std.proofs.lemmas.List.{append_assoc, map-append, take-map, length-map, length_push, take_more, same_from_push, flat_map_more}
-use Rattle.std.proofs.lemmas.List.Elements.{All-append, All-cons, All-nil, All-take}
-use Rattle.frame_check.specs.Bits.{low_bits}
-use Rattle.scramblers.specs.declared.mode.Mode.{Mode}
-use Rattle.symbol_map.specs.declared.sample.Sample.{Sample}
-use Rattle.symbol_map.specs.Points.{point_of}
-use Rattle.symbol_map.specs.Laws.{PointsDiffer}
-use Rattle.trellis_tables.specs.Table.{next_state}
-use Rattle.trellis_tables.specs.Sequences.{Leads}
-use Rattle.trellis_tables.proofs.Sequences.{Leads-front, Leads-snoc, Leads-take, Leads_once}
-use Rattle.bit_stuffing.specs.BitSlot.{line_bits}
-use Rattle.line_coding.specs.declared.demodulator.Demodulator.{Demodulator}
-use Rattle.line_coding.specs.Demodulates.{DemodulatorStands}
-use Rattle.recordings.specs.Samples.{samples_in, sample_at, sample_of}
-use Rattle.line_tap.specs.Labels.{AreLabels, NoStep, NoSequence, ReadsLabels}
+use Rattle.line_tap.proofs.Names.{◌≡◌, ◌∙◌, inl, inr, ℕ, zero, suc, ◌+◌, ◌-◌, ◌*◌, ◌<◌, ◌≤◌, Bool, List, [], ◌∷◌, ◌++◌, length, take, map}
+use Rattle.line_tap.proofs.Names.{Some, slice_index, refl, sym, ap, subst, arith, cases_lt, append_assoc, map-append, take-map, length-map}
+use Rattle.line_tap.proofs.Names.{take_more, All-append, All-cons, All-nil, All-take, line_bits, low_bits, DemodulatorStands, Demodulator}
+use Rattle.line_tap.proofs.Names.{AreLabels, NoStep, ReadsLabels, samples_in, sample_at, sample_of, Mode, PointsDiffer, point_of, Sample}
+use Rattle.line_tap.proofs.Names.{Leads_once, Leads, next_state}
+use Rattle.std.proofs.Common.{get_or}
+use Rattle.std.proofs.lemmas.List.{length_push, same_from_push, flat_map_more}
+use Rattle.trellis_tables.proofs.Sequences.{Leads-front, Leads-snoc, Leads-take}
+use Rattle.line_tap.specs.Labels.{NoSequence}
 use Rattle.line_tap.proofs.Coding.{points-tell}
 
 -- ---- the label of a sample, by a sum over all labels

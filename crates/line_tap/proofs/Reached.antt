@@ -1,31 +1,16 @@
 -- Where the turns of a tap have come.
-use Rattle.std.proofs.Common.{◌≡◌, inl, ℕ, ◌+◌, ◌-◌, ◌<◌, arith, List, [], ◌∷◌, ◌++◌, length, sym, subst}
-use Rattle.std.specs.List.{concat}
-use Rattle.outside_calls.specs.Folder.{FolderState, GoesOn}
-use Rattle.outside_calls.specs.Outputs.{Creates, Holds, HoldEach}
+use Rattle.line_tap.proofs.Names.{◌≡◌, inl, ℕ, ◌+◌, ◌-◌, ◌<◌, arith, List, [], ◌∷◌, ◌++◌, length, sym, subst, concat, HEAD, TAIL, LineLost}
+use Rattle.line_tap.proofs.Names.{ChanceMatch, BadTap, Stop, Own, Read, Write, Say, NoMemory, KeepsTaken, Left, TapEnd, EndsBy, TapNames}
+use Rattle.line_tap.proofs.Names.{outputs_of, IsReady, TapAfter, AreReadTo, GoesOnBy, EndsInTurn, EndsReading, StopsInTurn, StopsReadingIn}
+use Rattle.line_tap.proofs.Names.{Tapping, tapping, line_of, terms_of, held_of, left_of, got_in, added, no_octets, Tap, received, Turn}
+use Rattle.line_tap.proofs.Names.{trace_text, turn_text, ScriptValue, FolderState, HoldEach, Both, of, Role, Originator, Answerer}
+use Rattle.outside_calls.specs.Folder.{GoesOn}
+use Rattle.outside_calls.specs.Outputs.{Creates, Holds}
 use Rattle.outside_calls.proofs.Putting.{HoldEach-add, HoldPart-add, AddPart-none}
-use Rattle.shared_terms.specs.declared.role.Role.{Role}
-use Rattle.shared_terms.specs.declared.role.Role.TheVariants.{Originator, Answerer}
-use Rattle.shared_terms.specs.Both.{Both, of}
-use Rattle.bit_stuffing.specs.declared.slot_writer.TheConstants.{HEAD, TAIL}
-use Rattle.lapm_receiver.specs.Incoming.{KeepsTaken}
-use Rattle.noise_script.specs.Script.{ScriptValue}
-use Rattle.link_run.specs.Run.{Turn}
-use Rattle.link_run.specs.Trace.{trace_text, turn_text}
-use Rattle.link_run.specs.Listened.{received}
-use Rattle.line_run.specs.Ends.{Left}
-use Rattle.line_tap.specs.Tapping.{Tapping, tapping, line_of, terms_of}
-use Rattle.line_tap.specs.Ends.{TapEnd, EndsBy}
 use Rattle.line_tap.specs.Ends as ends
-use Rattle.command_base.specs.declared.status.Status.TheVariants.{LineLost, ChanceMatch, BadTap}
-use Rattle.command_base.specs.declared.stop.Stop.{Stop}
-use Rattle.command_base.specs.declared.stop.Stop.TheVariants.{Own, Read, Write, Say, NoMemory}
 use Rattle.line_tap.specs.declared.limits.TheConstants.{TAP_LIMIT}
-use Rattle.line_tap.specs.declared.tapping.Tap.{Tap}
-use Rattle.line_tap.specs.Names.{TapNames, outputs_of}
-use Rattle.line_tap.specs.Turn.{held_of, left_of, got_in, added}
-use Rattle.line_tap.specs.Tap.{IsReady, TapAfter, AreReadTo, GoesOnBy, EndsInTurn, EndsReading, StopsInTurn, StopsReadingIn, TurnStops}
-use Rattle.line_tap.specs.Turns.{no_octets, TapEnds, TapStops, TapStopsReading, StopsBy}
+use Rattle.line_tap.specs.Tap.{TurnStops}
+use Rattle.line_tap.specs.Turns.{TapEnds, TapStops, TapStopsReading, StopsBy}
 use Rattle.line_tap.proofs.Longer.{longer, tells-longer, got-more}
 use Rattle.line_tap.proofs.Whole.{Rest, rests, more_of, knows-whole, none-short, whole-longer, badly-longer, lost-longer, chance-longer}
 use Rattle.line_tap.proofs.Whole.{got-longer, adds-longer}

@@ -1,17 +1,11 @@
 -- Quads and their bits: each tells the other.
-use Rattle.std.proofs.Common.{◌≡◌, ◌∙◌, ℕ, zero, suc, ◌-◌, ◌<◌, ◌≤◌, Bool, true, false, nat_eq, List, [], ◌∷◌, ◌++◌, length, slice_index}
-use Rattle.std.proofs.Common.{◌⊎◌, inl, inr, ◌+◌, refl, sym, ap, subst, arith}
-use Rattle.std.specs.Prelude.{◌&&◌}
-use Rattle.std.proofs.lemmas.Bool.{eqb-true, eqb-false, and_parts, cases_lt}
-use Rattle.frame_check.specs.Bits.{low_bits, number_of}
-use Rattle.bit_stuffing.specs.BitSlot.{line_bits}
-use Rattle.bit_stuffing.proofs.Written.{length-line_bits}
-use Rattle.symbol_map.specs.Finite.{each_below, at_each}
+use Rattle.line_tap.proofs.Names.{◌≡◌, ◌∙◌, ℕ, zero, suc, ◌-◌, ◌<◌, ◌≤◌, Bool, true, false, nat_eq, List, [], ◌∷◌, ◌++◌, length}
+use Rattle.line_tap.proofs.Names.{slice_index, ◌⊎◌, inl, inr, ◌+◌, refl, sym, ap, subst, arith, eqb-true, cases_lt, ◌&&◌, length-line_bits}
+use Rattle.line_tap.proofs.Names.{line_bits, ones, low_bits, Sent, is_plain, plain_bits, each_below, at_each}
+use Rattle.std.proofs.lemmas.Bool.{eqb-false, and_parts}
+use Rattle.frame_check.specs.Bits.{number_of}
 use Rattle.lapm_frames.specs.declared.seen.Seen.TheVariants as seen
-use Rattle.lapm_frames.specs.declared.sent.Sent.{Sent}
-use Rattle.detection.specs.Patterns.{ones}
 use Rattle.detection.specs.Slots.{pattern_bits}
-use Rattle.line_tap.specs.Reading.{is_plain, plain_bits}
 
 abbrev comes_back : ℕ → Bool
 comes_back quad = nat_eq (number_of (low_bits 4 quad)) quad

@@ -1,26 +1,23 @@
 -- The bits of a slot from a place on, and the first whole piece that ends among them.
-use Rattle.std.proofs.Common.{◌≡◌, ◌∙◌, ℕ, ◌+◌, ◌-◌, ◌*◌, ◌/◌, ◌%◌, ◌<◌, ◌≤◌, Bool, false, List, [], ◌∷◌, ◌++◌, length, take, drop}
-use Rattle.std.proofs.Common.{slice_index, Option, Some, None, All, refl, sym, ap, subst, arith, length-drop, length-take}
-use Rattle.std.specs.Option.{option_map, option_map_or}
+use Rattle.line_tap.proofs.Names.{◌≡◌, ◌∙◌, ℕ, ◌+◌, ◌-◌, ◌*◌, ◌/◌, ◌%◌, ◌<◌, ◌≤◌, Bool, false, List, [], ◌∷◌, ◌++◌, length, take, drop}
+use Rattle.line_tap.proofs.Names.{slice_index, Option, Some, None, All, refl, sym, ap, subst, arith, append_assoc, length-take-le}
+use Rattle.line_tap.proofs.Names.{take-append-drop, take_more, option_map, length-line_bits, line_bits, Kept, bit_of, Found, lent_of}
+use Rattle.line_tap.proofs.Names.{pieces_of, wholes, stuffed, low_bits, EndsFirst, part}
+use Rattle.std.proofs.Common.{length-drop, length-take}
+use Rattle.std.specs.Option.{option_map_or}
 use Rattle.std.proofs.lemmas.Grind.{flat_map-append}
-use Rattle.std.proofs.lemmas.List.{append_assoc, length-take-le, take-append-drop, drop-append-le, drop_all, take_at, take_more}
-use Rattle.frame_check.specs.Bits.{low_bits, bits_of, octet_bits}
+use Rattle.std.proofs.lemmas.List.{drop-append-le, drop_all, take_at}
+use Rattle.frame_check.specs.Bits.{bits_of, octet_bits}
 use Rattle.bit_stuffing.specs.declared.piece.Piece.{Piece}
 use Rattle.bit_stuffing.specs.declared.piece.Piece.TheVariants.{Whole}
-use Rattle.bit_stuffing.specs.BitSlot.{line_bits}
-use Rattle.bit_stuffing.specs.Flags.{bit_of}
-use Rattle.bit_stuffing.specs.Deframer.{Kept}
-use Rattle.bit_stuffing.specs.Found.{Found, found_at, listed, lent_of, pieces_of}
+use Rattle.bit_stuffing.specs.Found.{found_at, listed}
 use Rattle.bit_stuffing.specs.Pieces.{content, EndsWhole}
-use Rattle.bit_stuffing.specs.Sent.{wholes, octets_if_whole}
-use Rattle.bit_stuffing.specs.Stuffing.{stuffed}
+use Rattle.bit_stuffing.specs.Sent.{octets_if_whole}
 use Rattle.bit_stuffing.proofs.Found.{pieces-more, found-place}
 use Rattle.bit_stuffing.proofs.Sent.{pieces-stay}
 use Rattle.bit_stuffing.proofs.Stuffed.{is_stuffed}
-use Rattle.bit_stuffing.proofs.Written.{length-line_bits}
 use Rattle.sample_line.proofs.Finding.{wholes-append}
 use Rattle.sample_line.proofs.Standing.{slot-part}
-use Rattle.line_tap.specs.Seeking.{EndsFirst, part}
 use Rattle.command_base.proofs.Hearing.{octet-fours as two-quads}
 
 -- ---- bits more

@@ -1,21 +1,12 @@
 -- A frame that octets spell can be sent.
-use Rattle.std.proofs.Common.{ℕ, ◌<◌, Bool, List, ◌∷◌, ◌++◌, length, Option, Some, None, Result, Ok, Err, subst}
-use Rattle.std.specs.Prelude.{IfOk, IfSome, ◌≡◌}
-use Rattle.std.specs.Result.{result_ok}
-use Rattle.std.proofs.Math.Seq.{take-append_seam}
-use Rattle.std.proofs.lemmas.List.Elements.{All-take, All-tail}
-use Rattle.frame_check.specs.Octets.{AreOctets}
-use Rattle.frame_check.specs.declared.check.Check.{Check}
-use Rattle.shared_terms.specs.declared.role.Role.{Role}
+use Rattle.line_tap.proofs.Names.{ℕ, ◌<◌, Bool, List, ◌∷◌, ◌++◌, length, Option, Some, None, Result, Ok, Err, subst, take-append_seam}
+use Rattle.line_tap.proofs.Names.{All-take, All-tail, IfSome, result_ok, AreOctets, Check, SpellsFrame, checked, address_of, control_octet}
+use Rattle.line_tap.proofs.Names.{information_of, spelled, tail_octets, parts_of, IsSendable, Frame, CanBeSent, Role}
+use Rattle.std.specs.Prelude.{IfOk, ◌≡◌}
 use Rattle.lapm_frames.specs.declared.fault.CheckedFault.{CheckedFault}
-use Rattle.lapm_frames.specs.declared.frame.Frame.{Frame}
 use Rattle.lapm_frames.specs.declared.sent.Sent.TheVariants as sent
-use Rattle.lapm_frames.specs.Parts.{parts_of}
-use Rattle.lapm_frames.specs.Frame.{address_of, control_octet, information_of, numbered, numbers_before, spelled, tail_octets}
-use Rattle.lapm_frames.specs.Checked.{SpellsFrame, checked}
+use Rattle.lapm_frames.specs.Frame.{numbered, numbers_before}
 use Rattle.lapm_frames.proofs.Checking.{spelled-checked}
-use Rattle.lapm_frames.specs.Sendable.{IsSendable}
-use Rattle.line_tap.specs.Seeking.{CanBeSent}
 
 front-octets : (a b : List ℕ) → AreOctets (a ++ b) → AreOctets a
 front-octets a b h = subst AreOctets (take-append_seam a b) (All-take (λ octet. octet < 256) (length a) (a ++ b) h)

@@ -1,24 +1,9 @@
 -- The octets of one slot more, behind those of all slots before.
-use Rattle.std.proofs.Common.{◌≡◌, ◌∙◌, ℕ, ◌+◌, ◌*◌, ◌≤◌, ◌<◌, List, [], ◌∷◌, ◌++◌, length, take, drop, arith, length-append, sym, ap}
-use Rattle.std.proofs.Common.{subst}
-use Rattle.std.proofs.Math.Seq.{take-append_seam, drop-append_seam}
-use Rattle.std.proofs.lemmas.List.{take_all, length-take}
-use Rattle.std.proofs.lemmas.Grind.{common_steps}
-use Rattle.frame_check.specs.declared.check.Check.{Check}
-use Rattle.shared_terms.specs.declared.role.Role.{Role}
-use Rattle.symbol_map.specs.declared.sample.Sample.{Sample}
-use Rattle.recordings.specs.Samples.{samples_in}
-use Rattle.lapm_frames.specs.declared.sent.Sent.{Sent}
-use Rattle.sample_line.specs.Signals.{signal_of}
-use Rattle.sample_line.specs.Coder.{IsCodedAs}
-use Rattle.link_run.specs.Run.{Turn}
-use Rattle.line_run.specs.Sampled.{Wire, signals}
-use Rattle.sample_line.specs.declared.framing.Framing.{Framing}
-use Rattle.line_tap.specs.declared.reader.SlotReader.{SlotReader}
-use Rattle.line_tap.specs.Reader.{ReadsFor, ReaderStands, ReadsSlot, IsNext, carries}
-use Rattle.line_tap.specs.Tapping.{octets_of, HoldsNext}
+use Rattle.line_tap.proofs.Names.{◌≡◌, ◌∙◌, ℕ, ◌+◌, ◌*◌, ◌≤◌, ◌<◌, List, [], ◌∷◌, ◌++◌, length, take, drop, arith, length-append, sym, ap}
+use Rattle.line_tap.proofs.Names.{subst, take-append_seam, drop-append_seam, common_steps, take_all, length-take, Check, Sent, Wire}
+use Rattle.line_tap.proofs.Names.{signals, ReadsOn, ReadsNext, Slot, ReadsFor, ReaderStands, ReadsSlot, IsNext, carries, octets_of}
+use Rattle.line_tap.proofs.Names.{HoldsNext, SlotReader, Turn, samples_in, IsCodedAs, signal_of, Framing, Role, Sample}
 use Rattle.line_tap.proofs.NextSlots.{samples-take, one-slot-more, piece_of, held-is-next, next-is-held}
-use Rattle.line_tap.specs.End.{ReadsOn, ReadsNext, Slot}
 
 -- ---- octets and samples
 

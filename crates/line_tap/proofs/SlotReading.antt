@@ -1,51 +1,28 @@
 -- A slot that is read: its bits, what is taken for what was sent in it, its samples, and what stands behind it.
-use Rattle.std.proofs.Common.{◌≡◌, ◌∙◌, ℕ, ◌*◌, ◌<◌, Bool, List, [], ◌∷◌, ◌++◌, length, map, take, drop, All}
-use Rattle.std.proofs.Common.{Option, refl, sym, ap, subst, arith}
-use Rattle.std.specs.Prelude.{IfSome}
-use Rattle.std.proofs.lemmas.List.{map-append, take-map, drop-map, take-append-drop}
-use Rattle.std.proofs.lemmas.List.Elements.{All-append, All-map, All-take, All-drop}
-use Rattle.scramblers.specs.declared.mode.Mode.{Mode}
-use Rattle.scramblers.specs.Mode.{tap_of}
+use Rattle.line_tap.proofs.Names.{◌≡◌, ◌∙◌, ℕ, ◌*◌, ◌<◌, Bool, List, [], ◌∷◌, ◌++◌, length, map, take, drop, All, Option, refl, sym, ap}
+use Rattle.line_tap.proofs.Names.{subst, arith, take-append_seam, drop-append_seam, map-append, take-map, drop-map, take-append-drop}
+use Rattle.line_tap.proofs.Names.{All-append, All-take, IfSome, line_bits, WriterStands, phase_after, next_phase, slot_bits, Signal}
+use Rattle.line_tap.proofs.Names.{slot_of, slots_of, signal_bits, Check, checked, Frame, Sent, DemodulatorStands, Modulates, Demodulator}
+use Rattle.line_tap.proofs.Names.{AreLabels, ReadsLabels, ReaderStands, IsNext, carries, IsGuess, AreBitsOf, EndsAt, FindsSent, IsAt}
+use Rattle.line_tap.proofs.Names.{SlotReader, Seeker, IsCodedAs, bits_behind, mode_of, IsCodable, tap_of, Mode, Role, PointsDiffer}
+use Rattle.line_tap.proofs.Names.{point_of, Sample, Leads_once, Leads, next_state}
+use Rattle.std.proofs.lemmas.List.Elements.{All-map, All-drop}
 use Rattle.scramblers.proofs.Readings.{Scrambles_from_Descrambles}
-use Rattle.sample_line.specs.Mode.{mode_of}
-use Rattle.symbol_map.specs.declared.sample.Sample.{Sample}
-use Rattle.symbol_map.specs.Points.{point_of}
-use Rattle.symbol_map.specs.Laws.{PointsDiffer}
 use Rattle.trellis_tables.specs.LabelReader.{quad_at, quads_of}
 use Rattle.trellis_tables.specs.Quads.{quad_of}
-use Rattle.trellis_tables.specs.Table.{next_state}
-use Rattle.trellis_tables.specs.Sequences.{Leads}
 use Rattle.trellis_tables.proofs.Readings.{Encodes_quads_of}
-use Rattle.trellis_tables.proofs.Sequences.{Leads-split, Leads_once}
-use Rattle.line_coding.specs.Demodulates.{line_of, DemodulatorStands}
+use Rattle.trellis_tables.proofs.Sequences.{Leads-split}
+use Rattle.line_coding.specs.Demodulates.{line_of}
 use Rattle.trellis_tables.specs.Differential.Turned.{unturned_at}
 use Rattle.symbol_map.specs.Labels.{y_of}
 use Rattle.std.specs.List.{range_with_len}
-use Rattle.std.proofs.Math.Seq.{take-append_seam, drop-append_seam}
-use Rattle.bit_stuffing.specs.BitSlot.{line_bits}
-use Rattle.bit_stuffing.specs.Slots.{Slot, phase_after, next_phase, slot_bits}
-use Rattle.bit_stuffing.specs.SlotWriter.{Writer, WriterStands}
+use Rattle.bit_stuffing.specs.Slots.{Slot}
+use Rattle.bit_stuffing.specs.SlotWriter.{Writer}
 use Rattle.bit_stuffing.proofs.Fill.{phase-append}
-use Rattle.detection.specs.Slots.{Signal, slot_of, slots_of, signal_bits}
-use Rattle.line_coding.specs.declared.demodulator.Demodulator.{Demodulator}
-use Rattle.line_coding.specs.Modulates.{Modulates}
 use Rattle.line_coding.proofs.Standing.{demodulated}
-use Rattle.lapm_frames.specs.declared.frame.Frame.{Frame}
-use Rattle.frame_check.specs.declared.check.Check.{Check}
-use Rattle.shared_terms.specs.declared.role.Role.{Role}
-use Rattle.lapm_frames.specs.declared.sent.Sent.{Sent}
 use Rattle.lapm_frames.specs.declared.sent.Sent.TheVariants as sent
-use Rattle.lapm_frames.specs.Checked.{checked}
-use Rattle.line_tap.specs.declared.seeker.Seeker.{Seeker}
 use Rattle.sample_line.proofs.Passing.{slot-added}
-use Rattle.sample_line.specs.Signals.{IsCodable}
-use Rattle.sample_line.specs.Line.{bits_behind}
-use Rattle.sample_line.specs.Coder.{IsCodedAs}
-use Rattle.line_tap.specs.declared.reader.SlotReader.{SlotReader}
-use Rattle.line_tap.specs.Labels.{AreLabels, ReadsLabels}
-use Rattle.line_tap.specs.Reading.{IsGuess}
-use Rattle.line_tap.specs.Reader.{ReaderStands, IsNext, carries}
-use Rattle.line_tap.specs.Seeking.{AreBitsOf, EndsAt, EndsBy, FindsSent, IsAt, Lends}
+use Rattle.line_tap.specs.Seeking.{EndsBy, Lends}
 use Rattle.line_tap.proofs.Coding.{points-tell, small as few-labels}
 use Rattle.line_tap.proofs.Guessing.{GuessLaws, same-bits, guess-right, phase_of}
 

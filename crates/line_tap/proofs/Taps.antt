@@ -1,27 +1,17 @@
 -- From the phases of a tap to how it ends.
-use Rattle.std.proofs.Common.{arith, inr, ℕ, List, Result, Ok, Err, subst}
-use Rattle.outside_calls.specs.Folder.{FolderState, OnlyReads}
-use Rattle.outside_calls.specs.Outputs.{AreApartFrom, CreatesPart, KeepsAll, OnlyOutputs, SomeRose}
-use Rattle.outside_calls.proofs.Putting.{KeepsEach-reads, inputs-kept}
-use Rattle.shared_terms.specs.declared.role.Role.TheVariants.{Originator, Answerer}
-use Rattle.scramblers.specs.declared.mode.Mode.TheVariants.{Call, Answer}
-use Rattle.noise_script.specs.Script.{ScriptValue, IsInLimits}
+use Rattle.line_tap.proofs.Names.{arith, inr, ℕ, List, Result, Ok, Err, subst, ReadTo-kept, Status, LineLost, ChanceMatch, BadTap, Stop}
+use Rattle.line_tap.proofs.Names.{Own, Read, Write, Say, NoMemory, TapNames, inputs_of, outputs_of, recordings_of, IsBegun, IsRefused, Ends}
+use Rattle.line_tap.proofs.Names.{AreReadTo, no_octets, ScriptValue, IsInLimits, KeepsEach-reads, inputs-kept, FolderState, OnlyReads}
+use Rattle.line_tap.proofs.Names.{AreApartFrom, KeepsAll, OnlyOutputs, SomeRose, Limits, Call, Answer, Originator, Answerer}
+use Rattle.outside_calls.specs.Outputs.{CreatesPart}
 use Rattle.command_base.specs.Status.{IsRefusal}
 use Rattle.command_base.specs.Stops.{EndCounts, end_status}
-use Rattle.command_base.specs.declared.status.Status.{Status}
-use Rattle.command_base.specs.declared.status.Status.TheVariants.{LineLost, ChanceMatch, BadTap}
-use Rattle.command_base.specs.declared.stop.Stop.{Stop}
-use Rattle.command_base.specs.declared.stop.Stop.TheVariants.{Own, Read, Write, Say, NoMemory}
 use Rattle.command_base.proofs.Creating.{CreatesPart-earlier}
-use Rattle.command_base.proofs.Reading.{ReadTo-kept}
 use Rattle.command_base.proofs.Jobs.{refusal-own}
-use Rattle.run_inputs.specs.declared.limits.Limits.{Limits}
 use Rattle.line_tap.specs.declared.limits.TheConstants.{TAP_LIMIT, LIMITS}
-use Rattle.line_tap.specs.Names.{TapNames, inputs_of, outputs_of, recordings_of}
-use Rattle.line_tap.specs.Tap.{AreReadTo}
-use Rattle.line_tap.specs.Turns.{TurnsEnd, no_octets}
+use Rattle.line_tap.specs.Turns.{TurnsEnd}
 use Rattle.line_tap.proofs.HeaderRead.{header-read, stop-widened}
-use Rattle.line_tap.specs.Outcomes.{IsBegun, IsRefused, StopsCreating, EndsBy, Ends}
+use Rattle.line_tap.specs.Outcomes.{StopsCreating, EndsBy}
 
 -- ---- what was read stays read as the outputs are made
 

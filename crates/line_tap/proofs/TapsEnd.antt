@@ -1,28 +1,13 @@
 -- Each reading of two recordings goes on or ends, and so it ends.
-use Rattle.std.proofs.Common.{◌≡◌, ◌⊎◌, inl, inr, ℕ, zero, suc, ◌+◌, ◌*◌, ◌<◌, ◌≤◌, List, [], ◌∷◌, ◌++◌, length}
-use Rattle.std.proofs.Common.{arith, refl, Option, Some, None}
-use Rattle.std.specs.List.{concat}
-use Rattle.std.proofs.lemmas.Bool.{cases_lt}
-use Rattle.bit_stuffing.specs.declared.slot_writer.TheConstants.{HEAD, TAIL}
-use Rattle.shared_terms.specs.declared.role.Role.{Role}
-use Rattle.shared_terms.specs.declared.role.Role.TheVariants.{Originator, Answerer}
-use Rattle.shared_terms.specs.Role.{other}
-use Rattle.shared_terms.specs.Both.{of}
-use Rattle.lapm_frames.specs.declared.sent.Sent.{Sent}
-use Rattle.noise_script.specs.Script.{IsInLimits}
-use Rattle.link_run.specs.Run.{Spoken, Side, Turn}
-use Rattle.link_run.specs.Trace.{trace_text}
-use Rattle.link_run.specs.Listened.{check_by, judged_by, received, given_to}
-use Rattle.line_texts.specs.LineText.{chance_line}
-use Rattle.line_run.specs.Sampled.{HeardAt, IsHeardWell, LineEnd}
+use Rattle.line_tap.proofs.Names.{◌≡◌, ◌⊎◌, inl, inr, ℕ, zero, suc, ◌+◌, ◌*◌, ◌<◌, ◌≤◌, List, [], ◌∷◌, ◌++◌, length, arith, refl, Option}
+use Rattle.line_tap.proofs.Names.{Some, None, cases_lt, concat, HEAD, TAIL, Sent, Decided, Left, HeardAt, IsHeardWell, LineEnd}
+use Rattle.line_tap.proofs.Names.{ScriptsHaveDelays, SlotsHaveRoom, IsDone, Leaves, LastHears, IsFirstRefused, EndsLine, Tapping, line_of}
+use Rattle.line_tap.proofs.Names.{terms_of, octets_of, HoldsNext, told, Hears, GoesOn, Tells, chance_line, check_by, judged_by, received}
+use Rattle.line_tap.proofs.Names.{given_to, Spoken, Side, Turn, trace_text, IsInLimits, of, other, Role, Originator, Answerer}
 use Rattle.line_run.specs.Sampled as lines
-use Rattle.line_run.specs.Ends.{Left}
 use Rattle.line_ends.specs.EachEnds.{Becomes}
-use Rattle.line_run.specs.Scripted.{ScriptsHaveDelays, SlotsHaveRoom}
-use Rattle.line_ends.proofs.Deciding.{Decided}
 use Rattle.line_ends.proofs.Becoming.{BecomeLaws, fit-becomes, line-or-heard}
-use Rattle.line_tap.specs.Tapping.{Tapping, line_of, terms_of, octets_of, HoldsNext, told, Hears, GoesOn, Tells}
-use Rattle.line_tap.specs.Ends.{IsDone, LineLost, ChanceMatch, BadTap, Leaves, LastHears, IsFirstRefused, EndsLine}
+use Rattle.line_tap.specs.Ends.{LineLost, ChanceMatch, BadTap}
 use Rattle.line_tap.specs.Laws.{HasEnd, EachTapEnds}
 use Rattle.line_tap.proofs.NextOrNone.{next-or-none}
 use Rattle.line_tap.proofs.ToldFit.{FitLaws, told-fit}

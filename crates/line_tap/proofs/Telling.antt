@@ -1,63 +1,38 @@
 -- What was recorded of a run tells all that the run left.
-use Rattle.std.proofs.Common.{◌≡◌, ℕ, suc, ◌+◌, ◌-◌, ◌*◌, ◌<◌, ◌≤◌, Bool, true, false, cond, List, [], ◌∷◌, ◌++◌, length}
-use Rattle.std.proofs.Common.{take, arith, length-append, refl, sym, ◌∙◌, ap, subst, Some}
-use Rattle.std.specs.List.{concat}
-use Rattle.std.specs.Option.{option_map}
-use Rattle.std.proofs.Math.Nat.{mul-suc, mul_assoc}
-use Rattle.std.proofs.lemmas.List.{length-map, take_all}
-use Rattle.std.proofs.lemmas.Grind.{common_steps}
-use Rattle.frame_check.specs.declared.check.Check.{Check}
-use Rattle.frame_check.specs.declared.check.Check.TheVariants.{Sixteen}
-use Rattle.frame_check.specs.Division.{with_check}
-use Rattle.scramblers.specs.Mode.{tap_of}
-use Rattle.bit_stuffing.specs.declared.slot_writer.TheConstants.{HEAD, TAIL}
-use Rattle.bit_stuffing.specs.Slots.{opening, phase_after}
-use Rattle.sample_line.specs.Line.{bits_behind}
-use Rattle.shared_terms.specs.declared.role.Role.{Role}
-use Rattle.shared_terms.specs.declared.role.Role.TheVariants.{Originator, Answerer}
-use Rattle.shared_terms.specs.Role.{other}
-use Rattle.sample_line.specs.Mode.{mode_of}
-use Rattle.shared_terms.specs.Both.{Both, of}
-use Rattle.symbol_map.specs.Laws.{NoDistanceIsEqual}
-use Rattle.line_coding.specs.Modulates.{Modulates}
-use Rattle.recordings.specs.Samples.{samples_in}
-use Rattle.detection.specs.Slots.{Signal, slots_of, signal_bits}
-use Rattle.lapm_frames.specs.declared.frame.Frame.{Frame}
-use Rattle.lapm_frames.specs.Frame.{has_number, spelled}
-use Rattle.lapm_frames.specs.Checked.{checked}
-use Rattle.lapm_frames.specs.declared.sent.Sent.{Sent}
+use Rattle.line_tap.proofs.Names.{◌≡◌, ℕ, suc, ◌+◌, ◌-◌, ◌*◌, ◌<◌, ◌≤◌, Bool, true, false, cond, List, [], ◌∷◌, ◌++◌, length, take, arith}
+use Rattle.line_tap.proofs.Names.{length-append, refl, sym, ◌∙◌, ap, subst, Some, mul-suc, common_steps, length-map, take_all, concat}
+use Rattle.line_tap.proofs.Names.{option_map, opening, phase_after, HEAD, TAIL, Signal, slots_of, signal_bits, with_check, Check, Sixteen}
+use Rattle.line_tap.proofs.Names.{checked, has_number, spelled, Frame, Chance, Sent, Modulates, signals-more, tap-some, Left, AreFit}
+use Rattle.line_tap.proofs.Names.{OneMoreFits, CodableFits, CodableIsSendable, SpelledInOctets, Wire, signals, bits_of, IsHeardOf}
+use Rattle.line_tap.proofs.Names.{IsHeardWell, HeardIn, LineEnd, ScriptsHaveDelays, SlotsHaveRoom, EndsWhole, EndsLine, EndsOnLine, EndsBy}
+use Rattle.line_tap.proofs.Names.{tapping, phase_behind, next_bits, octets_of, HoldsNext, Hears, Tells, chance_line, check_by, judged_by}
+use Rattle.line_tap.proofs.Names.{given_to, Spoken, Turn, IsSilent, trace_text, ScriptValue, IsInLimits, delay_of, samples_in, bits_behind}
+use Rattle.line_tap.proofs.Names.{mode_of, signal_of, IsCodable, tap_of, Both, of, other, Role, Originator, Answerer, NoDistanceIsEqual}
+use Rattle.line_tap.proofs.Names.{Terms}
+use Rattle.std.proofs.Math.Nat.{mul_assoc}
 use Rattle.lapm_frames.specs.declared.sent.Sent.TheVariants as slots
-use Rattle.lapm_frames.specs.declared.heard.Heard.TheVariants.{Chance}
-use Rattle.xid_params.specs.declared.terms.Terms.{Terms}
-use Rattle.noise_script.specs.Script.{ScriptValue, IsInLimits, delay_of}
-use Rattle.sample_line.specs.Signals.{signal_of, IsCodable}
-use Rattle.line_texts.specs.LineText.{chance_line}
-use Rattle.line_run.specs.Fitting.{AreFit}
-use Rattle.line_run.specs.Laws.{OneMoreFits, SlotsHaveSize, CodableFits, CodableIsSendable, SpelledInOctets}
+use Rattle.line_run.specs.Laws.{SlotsHaveSize}
 use Rattle.link_account.specs.Account.{check_of}
-use Rattle.link_run.specs.Run.{Link, Accounts, Spoken, Turn, spoken, RunOf, IsSilent}
+use Rattle.link_run.specs.Run.{Link, Accounts, spoken, RunOf}
 use Rattle.link_run.specs.Run as run
 use Rattle.link_run.specs.Laws.{RunsOver}
 use Rattle.link_run.specs.Overheard.{agreed_terms, SendsAgreedCheck}
-use Rattle.link_run.specs.Trace.{trace_text}
-use Rattle.link_run.specs.Listened.{check_by, judged_by, given_to, HearsByLine, StaysKnownByLine, RunsByLine}
-use Rattle.line_run.specs.Sampled.{Wire, IsAlone, signals, bits_of, IsHeardOf, IsHeardWell, HeardIn, LineRun, LineEnd}
+use Rattle.link_run.specs.Listened.{HearsByLine, StaysKnownByLine, RunsByLine}
+use Rattle.line_run.specs.Sampled.{IsAlone, LineRun}
 use Rattle.line_run.specs.Sampled as lines
 use Rattle.line_run.specs.LineLaws.{SamplesAreCarried, OneIsCarried}
-use Rattle.line_run.specs.Scripted.{wire_of, link_of, ScriptsMayPlay, ScriptsHaveDelays, SlotsHaveRoom}
-use Rattle.line_run.specs.Ends.{RunEnd, Left}
+use Rattle.line_run.specs.Scripted.{wire_of, link_of, ScriptsMayPlay}
+use Rattle.line_run.specs.Ends.{RunEnd}
 use Rattle.line_run.specs.Ends as runs
-use Rattle.line_tap.specs.Tapping.{tapping, phase_behind, next_bits, octets_of, HoldsNext, Hears, Tells}
-use Rattle.line_tap.specs.Ends.{EndsWhole, EndsLine, EndsOnLine, EndsBy, told_end}
+use Rattle.line_tap.specs.Ends.{told_end}
 use Rattle.line_run.specs.Recorded.{IsRecorded}
-use Rattle.line_run.proofs.Bits.{signals-more, bits-more}
+use Rattle.line_run.proofs.Bits.{bits-more}
 use Rattle.line_tap.specs.Laws.{AreCoded, RecordingsTellRuns}
 use Rattle.line_tap.proofs.Plain.{plain_slot, plain, plains, plain-heard, plain-check, plain-given, plain-sent, plain-judged}
 use Rattle.line_tap.proofs.Plain.{plain-received, plain-given_to, plain-text, AllChecked, plain-signal, plain-signals}
 use Rattle.line_tap.proofs.Plain.{heard_of-plain, well-plain, heard_in-plain, loses-plain}
 use Rattle.sample_line.proofs.Once.{length-modulated}
 use Rattle.line_tap.proofs.Coding.{modulates-front, recorded-back}
-use Rattle.line_run.proofs.Recordings.{tap-some}
 
 pub record TellingLaws : Type 0 where
   pub play : ScriptsMayPlay

@@ -1,15 +1,7 @@
 -- Slots that recordings tell fit one another.
-use Rattle.std.proofs.Common.{◌*◌, List, [], ◌∷◌, arith, refl, sym, subst}
-use Rattle.frame_check.specs.declared.check.Check.{Check}
-use Rattle.shared_terms.specs.declared.role.Role.{Role}
-use Rattle.sample_line.specs.Signals.{signal_of}
-use Rattle.line_run.specs.Fitting.{AreFit}
-use Rattle.line_run.specs.Laws.{OneMoreFits, CodableFits, CodableIsSendable, SpelledInOctets}
-use Rattle.link_run.specs.Run.{Turn}
-use Rattle.link_run.specs.Listened.{check_by}
-use Rattle.line_run.specs.Sampled.{signals}
-use Rattle.line_run.proofs.Bits.{signals-more}
-use Rattle.line_tap.specs.Tapping.{Tapping, line_of, terms_of, Tells, told, phase_behind}
+use Rattle.line_tap.proofs.Names.{◌*◌, List, [], ◌∷◌, arith, refl, sym, subst, Check, signals-more, AreFit, OneMoreFits, CodableFits}
+use Rattle.line_tap.proofs.Names.{CodableIsSendable, SpelledInOctets, signals, Tapping, line_of, terms_of, Tells, told, phase_behind}
+use Rattle.line_tap.proofs.Names.{check_by, Turn, signal_of, Role}
 
 pub record FitLaws : Type 0 where
   pub more : OneMoreFits

@@ -1,19 +1,10 @@
 -- The lines of a turn of a tap, as a trace has them.
-use Rattle.std.proofs.Common.{arith, ◌≡◌, ◌≢◌, ℕ, List, ◌++◌, length, refl, ◌∙◌, Option}
-use Rattle.std.specs.Option.{option_map}
-use Rattle.shared_terms.specs.declared.role.Role.{Role}
-use Rattle.shared_terms.specs.declared.role.Role.TheVariants.{Originator, Answerer}
-use Rattle.shared_terms.specs.Both.{Both, of}
-use Rattle.lapm_frames.specs.declared.sent.Sent.{Sent}
-use Rattle.lapm_frames.specs.declared.heard.Heard.{Heard}
-use Rattle.lapm_frames.specs.declared.heard.Heard.TheVariants.{Chance}
+use Rattle.line_tap.proofs.Names.{arith, ◌≡◌, ℕ, List, ◌++◌, length, refl, ◌∙◌, Option, option_map, Heard, Chance, Sent, HearsSo, turn_in}
+use Rattle.line_tap.proofs.Names.{Tapping, Hearing, Spoken, Side, Turn, side_line, turn_text, Both, of, Role, Originator, Answerer}
+use Rattle.std.proofs.Common.{◌≢◌}
 use Rattle.line_texts.specs.LineText.{trace_line, line_of}
 use Rattle.line_world.specs.Texts.{lines_of}
-use Rattle.link_run.specs.Run.{Spoken, Side, Turn}
-use Rattle.link_run.specs.Trace.{side_line, turn_text}
-use Rattle.line_tap.specs.Tapping.{Tapping}
-use Rattle.line_tap.specs.declared.tapping.Hearing.{Hearing}
-use Rattle.line_tap.specs.Tap.{HearsSo, side_in, turn_in}
+use Rattle.line_tap.specs.Tap.{side_in}
 
 line-of : (turn t : ℕ) (role : Role) (heard : Heard) (sent : Option Sent) (given : Option ℕ) (s : Side) → heard ≢ Chance → turn ≡ t
     → heard ≡ s.heard

@@ -1,47 +1,28 @@
 -- What a turn of a tap comes to, at each of its ways out.
-use Rattle.std.proofs.Common.{◌≡◌, ◌⊎◌, inl, inr, ℕ, ◌+◌, ◌*◌, ◌^◌, ◌<◌, ◌≤◌, IsTrue, List, [], ◌∷◌, ◌++◌, length, take, arith, min}
-use Rattle.std.proofs.Common.{length-append, refl, sym, ◌∙◌, ap, subst, append-nil, append_assoc, None, Result, Ok, Err}
-use Rattle.std.proofs.lemmas.Bool.{cases_lt}
-use Rattle.std.proofs.lemmas.List.{length-take}
-use Rattle.std.specs.List.{concat}
-use Rattle.outside_calls.specs.Folder.{FolderState, GoesOn, OnlyReads, OnlyWrites, Appended, PartlyAppended, octets_at}
-use Rattle.outside_calls.specs.Outputs.{AreApartFrom, KeepsEach, OnlyPuts, AddEach, AddPart}
+use Rattle.line_tap.proofs.Names.{◌≡◌, ◌⊎◌, inl, inr, ℕ, ◌+◌, ◌*◌, ◌^◌, ◌<◌, ◌≤◌, IsTrue, List, [], ◌∷◌, ◌++◌, length, take, arith, min}
+use Rattle.line_tap.proofs.Names.{length-append, refl, sym, ◌∙◌, ap, subst, append-nil, None, Result, Ok, Err, cases_lt, length-take}
+use Rattle.line_tap.proofs.Names.{concat, HEAD, TAIL, ReadTo, Stop, Heard, KeepsTaken, Left, Slot, IsIdle, EndsLine, Leaves, LastHears}
+use Rattle.line_tap.proofs.Names.{IsFirstRefused, TapNames, recording_of, inputs_of, outputs_of, AreReadTo, AreReadOut, HearsThese, HearsSo}
+use Rattle.line_tap.proofs.Names.{InTurn, silent_in, EndsInTurn, EndsReading, StopsInTurn, StopsReadingIn, IsBehind, IsReady, IsToGo}
+use Rattle.line_tap.proofs.Names.{TapAfter, GoesOnBy, going_in, Tapping, tapping, line_of, terms_of, octets_of, Tells, held_of, left_of}
+use Rattle.line_tap.proofs.Names.{added, AddsGot, Hearing, Tap, chance_line, received, Turn, IsSilent, trace_text, turn_text, IsInLimits}
+use Rattle.line_tap.proofs.Names.{OnlyPuts-trans, OnlyPuts-one, KeepsEach-reads, inputs-kept, AddEach-next, AddPart-next, FolderState}
+use Rattle.line_tap.proofs.Names.{OnlyReads, OnlyWrites, Appended, PartlyAppended, octets_at, AreApartFrom, KeepsEach, OnlyPuts, header_of}
+use Rattle.line_tap.proofs.Names.{HEADER, mode_of, Both, of, Role, Originator, Answerer}
+use Rattle.std.proofs.Common.{append_assoc}
+use Rattle.outside_calls.specs.Folder.{GoesOn}
+use Rattle.outside_calls.specs.Outputs.{AddEach, AddPart}
 use Rattle.outside_calls.proofs.Steps.{GoesOn-trans, KeepsName-trans}
-use Rattle.outside_calls.proofs.Putting.{OnlyPuts-trans, OnlyPuts-reads, OnlyPuts-one, KeepsEach-reads, inputs-kept, AddEach-kept}
-use Rattle.outside_calls.proofs.Putting.{AddEach-next, AddPart-next, AddPart-longer}
-use Rattle.shared_terms.specs.declared.role.Role.{Role}
-use Rattle.shared_terms.specs.declared.role.Role.TheVariants.{Originator, Answerer}
-use Rattle.sample_line.specs.Mode.{mode_of}
-use Rattle.shared_terms.specs.Both.{Both, of}
-use Rattle.recordings.specs.declared.header.TheConstants.{HEADER}
-use Rattle.recordings.specs.Recording.{header_of}
-use Rattle.lapm_frames.specs.declared.heard.Heard.{Heard}
-use Rattle.lapm_receiver.specs.Incoming.{KeepsTaken}
-use Rattle.line_texts.specs.LineText.{chance_line}
-use Rattle.link_run.specs.Run.{Turn, IsSilent}
-use Rattle.link_run.specs.Trace.{trace_text, turn_text}
-use Rattle.link_run.specs.Listened.{received}
+use Rattle.outside_calls.proofs.Putting.{OnlyPuts-reads, AddEach-kept}
+use Rattle.outside_calls.proofs.Putting.{AddPart-longer}
 use Rattle.line_run.specs.Sampled as lines
-use Rattle.line_run.specs.Ends.{Left}
-use Rattle.line_tap.specs.Tapping.{Tapping, tapping, line_of, terms_of, octets_of, Tells}
-use Rattle.line_tap.specs.Ends.{EndsLine, Leaves, LastHears, IsFirstRefused}
 use Rattle.line_tap.specs.Ends as ends
-use Rattle.command_base.specs.declared.stop.Stop.{Stop}
-use Rattle.command_base.specs.Inputs.{ReadTo}
 use Rattle.line_tap.specs.declared.limits.TheConstants.{TAP_LIMIT}
 use Rattle.line_tap.specs.declared.step.TapStep.{TapStep}
 use Rattle.line_tap.specs.declared.step.TapStep.TheVariants.{Going, Done}
-use Rattle.line_tap.specs.declared.tapping.Tap.{Tap}
-use Rattle.line_tap.specs.declared.tapping.Hearing.{Hearing}
-use Rattle.line_tap.specs.End.{Slot}
-use Rattle.bit_stuffing.specs.declared.slot_writer.TheConstants.{HEAD, TAIL}
-use Rattle.noise_script.specs.Script.{IsInLimits}
-use Rattle.line_tap.specs.EndListener.{IsIdle}
-use Rattle.line_tap.specs.Names.{TapNames, recording_of, inputs_of, outputs_of}
-use Rattle.line_tap.specs.Turn.{held_of, left_of, added, AddsGot}
-use Rattle.line_tap.specs.Tap.{AreReadTo, AreReadOut, HearsThese, HearsTurn, HasHeard, HearsSo, InTurn, silent_in, got_pieces}
-use Rattle.line_tap.specs.Tap.{EndsInTurn, EndsReading, StopsInTurn, StopsReadingIn, IsBehind, HasReadPieces, HaveRead, IsReady, IsToGo}
-use Rattle.line_tap.specs.Tap.{TapAfter, GoesOnBy, going_in, and_pieces, read_of}
+use Rattle.line_tap.specs.Tap.{HearsTurn, HasHeard, got_pieces}
+use Rattle.line_tap.specs.Tap.{HasReadPieces, HaveRead}
+use Rattle.line_tap.specs.Tap.{and_pieces, read_of}
 use Rattle.line_tap.proofs.Longer.{tells-longer, got-more}
 use Rattle.line_tap.proofs.HeardSo.{SameReading, behind-on, few-turns}
 use Rattle.line_tap.proofs.Going.{hears-so, goes-on}

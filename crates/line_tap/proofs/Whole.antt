@@ -1,27 +1,14 @@
 -- What the whole recordings tell, where what was read of them tells it.
-use Rattle.std.proofs.Common.{◌≡◌, inl, inr, ℕ, ◌+◌, ◌<◌, ◌≤◌, Bool, true, false, IsTrue, List, [], ◌∷◌, ◌++◌, length, drop, arith}
-use Rattle.std.proofs.Common.{length-append, refl, sym, ◌∙◌, ap, subst, append_assoc, append-nil}
-use Rattle.std.proofs.lemmas.Bool.{cases_lt, false≢true}
-use Rattle.std.proofs.lemmas.List.{take-append-drop, length-drop}
-use Rattle.outside_calls.specs.Folder.{FolderState, octets_at}
-use Rattle.shared_terms.specs.declared.role.Role.{Role}
-use Rattle.shared_terms.specs.declared.role.Role.TheVariants.{Originator, Answerer}
-use Rattle.sample_line.specs.Mode.{mode_of}
-use Rattle.shared_terms.specs.Both.{Both, of}
-use Rattle.bit_stuffing.specs.declared.slot_writer.TheConstants.{HEAD, TAIL}
-use Rattle.recordings.specs.declared.header.TheConstants.{HEADER}
-use Rattle.recordings.specs.Recording.{header_of}
-use Rattle.lapm_frames.specs.declared.sent.Sent.{Sent}
-use Rattle.link_run.specs.Run.{Turn}
-use Rattle.link_run.specs.Listened.{check_by}
-use Rattle.line_run.specs.Sampled.{LineEnd}
-use Rattle.line_run.specs.Ends.{Left}
-use Rattle.line_tap.specs.Tapping.{Tapping, line_of, terms_of, octets_of, HoldsNext}
-use Rattle.line_tap.specs.Ends.{EndsBy, EndsOnLine, IsFirstRefused, Leaves, LastHears}
+use Rattle.line_tap.proofs.Names.{◌≡◌, inl, inr, ℕ, ◌+◌, ◌<◌, ◌≤◌, Bool, true, false, IsTrue, List, [], ◌∷◌, ◌++◌, length, drop, arith}
+use Rattle.line_tap.proofs.Names.{length-append, refl, sym, ◌∙◌, ap, subst, append-nil, cases_lt, false≢true, take-append-drop, HEAD, TAIL}
+use Rattle.line_tap.proofs.Names.{Sent, Left, LineEnd, EndsBy, EndsOnLine, IsFirstRefused, Leaves, LastHears, TapNames, recording_of}
+use Rattle.line_tap.proofs.Names.{AreReadTo, AreReadOut, Tapping, line_of, terms_of, octets_of, HoldsNext, AddsGot, check_by, Turn}
+use Rattle.line_tap.proofs.Names.{FolderState, octets_at, header_of, HEADER, mode_of, Both, of, Role, Originator, Answerer}
+use Rattle.std.proofs.Common.{append_assoc}
+use Rattle.std.proofs.lemmas.List.{length-drop}
 use Rattle.line_tap.specs.Ends as ends
-use Rattle.line_tap.specs.Names.{TapNames, recording_of}
-use Rattle.line_tap.specs.Turn.{MakesTurn, AddsGot, AddsTurn, Adds}
-use Rattle.line_tap.specs.Tap.{IsReadTo, AreReadTo, AreReadOut, AddsSo}
+use Rattle.line_tap.specs.Turn.{MakesTurn, AddsTurn, Adds}
+use Rattle.line_tap.specs.Tap.{IsReadTo, AddsSo}
 use Rattle.line_tap.specs.Turns.{KnowsBodies}
 use Rattle.line_tap.proofs.SlotNext.{octets-next}
 use Rattle.line_tap.proofs.Longer.{and_more, longer, holds-longer, holds-shorter, hears-longer, goes-longer}

@@ -1,21 +1,11 @@
 -- A slot that a coder has coded behind others.
-use Rattle.std.proofs.Common.{arith, ◌≡◌, ℕ, ◌*◌, List, [], ◌∷◌, ◌++◌, map, sym, ◌∙◌, ap, subst}
-use Rattle.std.proofs.lemmas.List.{map-append, same_from_push}
-use Rattle.frame_check.specs.declared.check.Check.{Check}
-use Rattle.bit_stuffing.specs.BitSlot.{line_bits}
-use Rattle.shared_terms.specs.declared.role.Role.{Role}
-use Rattle.shared_terms.specs.declared.role.Role.TheVariants.{Originator, Answerer}
-use Rattle.shared_terms.specs.Both.{Both, of}
-use Rattle.detection.specs.Slots.{Signal}
-use Rattle.lapm_frames.specs.declared.sent.Sent.{Sent}
-use Rattle.sample_line.specs.Signals.{signal_of}
-use Rattle.sample_line.specs.Line.{bits_behind}
-use Rattle.sample_line.specs.Coder.{Coding, CoderStands, IsCodedAs, bits_in}
-use Rattle.line_run.specs.Sampled.{Wire}
-use Rattle.line_run.specs.Stream.{Carried, carried_signal}
+use Rattle.line_world.proofs.Names.{arith, ◌≡◌, ℕ, ◌*◌, List, [], ◌∷◌, ◌++◌, map, sym, ◌∙◌, ap, subst, map-append, line_bits, Signal, Check}
+use Rattle.line_world.proofs.Names.{Sent, Wire, Carried, carried_signal, LinesWait, Lines, IsCodedAs, bits_behind, signal_of, Both, of}
+use Rattle.line_world.proofs.Names.{Role, Originator, Answerer}
+use Rattle.std.proofs.lemmas.List.{same_from_push}
+use Rattle.sample_line.specs.Coder.{Coding, CoderStands, bits_in}
 use Rattle.line_world.specs.declared.end_coder.EndCoder.{EndCoder}
-use Rattle.line_world.specs.declared.lines.Lines.{Lines}
-use Rattle.line_world.specs.Lines.{HasCoded, IsPut, LinesWait, coder_of}
+use Rattle.line_world.specs.Lines.{HasCoded, IsPut, coder_of}
 
 abbrev pub signals_of : Role → List Carried → List Signal
 signals_of role stream = map (carried_signal role) stream

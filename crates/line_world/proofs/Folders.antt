@@ -1,21 +1,13 @@
 -- What the steps of a turn leave of the folder, in a row.
-use Rattle.std.proofs.Common.{◌≡◌, ℕ, List, [], ◌++◌, take, IsTrue, refl, sym, ◌∙◌, ap, subst}
-use Rattle.outside_calls.specs.Folder.{FolderState, KeepsName, GoesOn, OnlyWrites, CountsStand, Rose}
-use Rattle.outside_calls.proofs.Steps.{told_later, octets-kept, FaultsStand-trans, CountsStand-trans}
-use Rattle.outside_calls.specs.Outputs.{KeepsEach, AreApartFrom, OnlyPuts}
-use Rattle.outside_calls.proofs.Putting.{OnlyPuts-one, SomeRose-earlier, inputs-kept}
-use Rattle.shared_terms.specs.Both.{Both}
-use Rattle.link_run.specs.Run.{Accounts}
-use Rattle.turn_bound.specs.Limits.{file_limit}
-use Rattle.line_world.specs.Station.{file_at}
-use Rattle.line_run.specs.Names.{Written, inputs_of, outputs_of, received_of}
-use Rattle.line_world.specs.Link.{AreWithin}
-use Rattle.line_run.specs.declared.fault.RunFault.{RunFault}
+use Rattle.line_world.proofs.Names.{◌≡◌, ℕ, List, [], ◌++◌, take, IsTrue, refl, sym, ◌∙◌, ap, subst, Written, inputs_of, outputs_of}
+use Rattle.line_world.proofs.Names.{received_of, RunFault, AreWithin, ReadsBoth, file_at, FaultCountsOver, IsWriting, StayKnown, KnowsFiles}
+use Rattle.line_world.proofs.Names.{Accounts, OnlyPuts-one, SomeRose-earlier, inputs-kept, told_later, octets-kept, FaultsStand-trans}
+use Rattle.line_world.proofs.Names.{CountsStand-trans, FolderState, KeepsName, GoesOn, OnlyWrites, CountsStand, Rose, KeepsEach}
+use Rattle.line_world.proofs.Names.{AreApartFrom, OnlyPuts, Both, file_limit}
 use Rattle.line_run.specs.declared.fault.RunFault.TheVariants as run_faults
-use Rattle.line_world.specs.World.{StayKnown, KnowsFiles}
-use Rattle.line_world.specs.Turn.{FaultCounts, FaultCountsOver, IsWriting}
+use Rattle.line_world.specs.Turn.{FaultCounts}
 use Rattle.line_world.proofs.Several.{rose-front, rose-behind}
-use Rattle.line_world.specs.Mid.{ReadsBoth, handed}
+use Rattle.line_world.specs.Mid.{handed}
 
 -- no output is another one, nor an input
 abbrev pub IsApart : Written → Type 0

@@ -1,28 +1,22 @@
 -- Segments that an end hands over, one after another.
-use Rattle.std.proofs.Common.{◌≡◌, ◌⊎◌, inl, inr, ℕ, zero, suc, ◌+◌, ◌≤◌, ◌<◌, Bool, true, false, cond, nat_lt, IsTrue, List, [], ◌∷◌, ◌++◌}
-use Rattle.std.proofs.Common.{length, drop, arith, refl, sym, ◌∙◌, ap, subst, Option, Some, None}
-use Rattle.std.proofs.lemmas.Bool.{false≢true}
-use Rattle.std.proofs.lemmas.Bool.Decides.{nat_tests}
+use Rattle.line_world.proofs.Names.{◌≡◌, ◌⊎◌, inl, inr, ℕ, zero, suc, ◌+◌, ◌≤◌, ◌<◌, Bool, true, false, cond, nat_lt, IsTrue, List, [], ◌∷◌}
+use Rattle.line_world.proofs.Names.{◌++◌, length, drop, arith, refl, sym, ◌∙◌, ap, subst, Option, Some, None, false≢true, nat_tests}
+use Rattle.line_world.proofs.Names.{concat-append, concat, is_some, StandsFor, AnyEnd, Stands, Station, Account, is_connected, deliveries}
+use Rattle.line_world.proofs.Names.{delivered, IsOffered, GoesOn-refl, told_later, octets-kept, FolderState, octets_at, GoesOn, OnlyWrites}
+use Rattle.line_world.proofs.Names.{Appended, PartlyAppended, Adds}
 use Rattle.std.proofs.lemmas.List.{append-nil, append_assoc}
-use Rattle.std.proofs.lemmas.List.Folds.{concat-append}
-use Rattle.std.specs.Prelude.{slice_index_or, is_some}
-use Rattle.std.specs.List.{concat}
+use Rattle.std.specs.Prelude.{slice_index_or}
 use Rattle.std.proofs.lemmas.List.{drop_all}
 use Rattle.std.proofs.lemmas.Option.{none-some, same_Some}
 use Rattle.shared_terms.specs.Prefix.{IsPrefixOf}
-use Rattle.outside_calls.specs.Folder.{FolderState, held_at, octets_at, GoesOn, OnlyWrites, Appended, PartlyAppended, Adds}
-use Rattle.outside_calls.proofs.Steps.{GoesOn-refl, GoesOn-trans, KeepsName-trans, told_later, octets-kept, octets-held}
+use Rattle.outside_calls.specs.Folder.{held_at}
+use Rattle.outside_calls.proofs.Steps.{GoesOn-trans, KeepsName-trans, octets-held}
 use Rattle.lapm_receiver.specs.Incoming.{after_delivered}
-use Rattle.lapm_link.specs.declared.any_end.AnyEnd.{AnyEnd}
 use Rattle.lapm_link.specs.declared.any_end.AnyEnd.TheVariants as ends
 use Rattle.lapm_link.specs.declared.negotiating.Talk.{Talk}
 use Rattle.lapm_link.specs.declared.negotiating.Talk.TheVariants as talks
-use Rattle.lapm_link.specs.Stands.{StandsFor, Negotiates}
-use Rattle.link_account.specs.Account.{Account, is_connected, delivers, after_delivery}
-use Rattle.link_run.specs.End.{deliveries, delivered}
-use Rattle.link_run.specs.Reading.{IsOffered}
-use Rattle.line_world.specs.declared.station.Station.{Station}
-use Rattle.line_world.specs.Station.{Stands}
+use Rattle.lapm_link.specs.Stands.{Negotiates}
+use Rattle.link_account.specs.Account.{delivers, after_delivery}
 use Rattle.line_world.proofs.Standing.{as-offered}
 
 -- ---- what a folder holds after several pieces

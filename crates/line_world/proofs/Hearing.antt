@@ -1,35 +1,15 @@
 -- What both ends hear in a turn, and are then.
-use Rattle.std.proofs.Common.{◌≡◌, ◌≢◌, ℕ, ◌<◌, ◌≤◌, ◌+◌, ◌^◌, true, false, is_ok, List, [], length, arith, refl, sym, ◌∙◌, subst}
-use Rattle.std.proofs.Common.{Option, None, Ok}
-use Rattle.shared_terms.specs.declared.role.Role.{Role}
-use Rattle.shared_terms.specs.declared.role.Role.TheVariants.{Originator, Answerer}
-use Rattle.shared_terms.specs.Role.{other}
-use Rattle.shared_terms.specs.Both.{Both, of}
-use Rattle.frame_check.specs.declared.check.Check.{Check}
-use Rattle.noise_script.specs.Script.{ScriptValue, IsInLimits, delay_of}
-use Rattle.lapm_frames.specs.declared.heard.Heard.{Heard}
-use Rattle.lapm_frames.specs.declared.heard.Heard.TheVariants.{Chance}
-use Rattle.link_account.specs.Account.{check_of}
-use Rattle.link_account.specs.Hear.{hear}
-use Rattle.link_run.specs.Run.{Accounts, Spoken, Turn, arrival, start}
-use Rattle.link_run.specs.Counts.{lost_in}
+use Rattle.line_world.proofs.Names.{◌≡◌, ◌≢◌, ℕ, ◌<◌, ◌≤◌, ◌+◌, ◌^◌, true, false, is_ok, List, [], length, arith, refl, sym, ◌∙◌, subst}
+use Rattle.line_world.proofs.Names.{Option, None, Ok, Check, Heard, Chance, SamplesAreCarried, OneIsCarried, Wire, HeardIn, IsHeardOf}
+use Rattle.line_world.proofs.Names.{LineRun, EndsLine, wire_at, link_of, ScriptsMayPlay, ScriptsHaveDelays, NoLineRunIsLong, Carried}
+use Rattle.line_world.proofs.Names.{end_of, ArrivesBoth, HaveArrived, LinkStands, AreIdle, AreCounted, HearsWell, Overhears, TalliesHeard}
+use Rattle.line_world.proofs.Names.{turn_in, AreKept, AreReady, ModemsAfter, Tallies, LineEnd, Lines, Modems, Counts, check_of, hear}
+use Rattle.line_world.proofs.Names.{lost_in, Accounts, Spoken, Turn, arrival, start, ScriptValue, IsInLimits, delay_of, Both, of, other}
+use Rattle.line_world.proofs.Names.{Role, Originator, Answerer, file_limit}
 use Rattle.link_run.specs.Laws.{RunsOver, HearingsAreWell}
-use Rattle.line_run.specs.Sampled.{Wire, HeardIn, IsHeardOf, LineRun, EndsLine, EndsLineBy}
-use Rattle.line_run.specs.Scripted.{wire_at, link_of, ScriptsMayPlay, ScriptsHaveDelays}
-use Rattle.line_run.specs.LineLaws.{SamplesAreCarried, OneIsCarried}
-use Rattle.line_run.specs.Scripts.{NoLineRunIsLong}
-use Rattle.turn_bound.specs.Limits.{file_limit}
-use Rattle.line_world.specs.declared.lines.Lines.{Lines}
-use Rattle.line_world.specs.Link.{LinkStands, AreIdle, AreCounted, HearsBoth, HearsWell}
-use Rattle.line_run.specs.Stream.{Carried}
-use Rattle.line_world.specs.Lines.{ArrivesBoth, HaveArrived}
-use Rattle.line_world.specs.declared.directions.LineEnd.{LineEnd}
-use Rattle.line_world.specs.declared.modems.Modems.{Modems}
-use Rattle.line_world.specs.declared.tally.Counts.{Counts}
-use Rattle.line_world.specs.Modems.{AreKept, AreReady, ModemsAfter}
-use Rattle.line_world.specs.Tally.{Tallies}
-use Rattle.line_world.specs.Mid.{Overhears, TalliesHeard, HasHeard, turn_in}
-use Rattle.line_world.specs.Faults.{end_of}
+use Rattle.line_run.specs.Sampled.{EndsLineBy}
+use Rattle.line_world.specs.Link.{HearsBoth}
+use Rattle.line_world.specs.Mid.{HasHeard}
 
 pub few-turns : NoLineRunIsLong → (m : Modems) (script : ScriptValue) (l : Lines) → AreReady m script l → m.turn < 2 ^ 39
 few-turns law m script l h = subst (λ n. n < 2 ^ 39) (sym h.after.turn)

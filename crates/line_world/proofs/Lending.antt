@@ -1,33 +1,18 @@
 -- The line that a world lends its link's turns, on which that is alone.
-use Rattle.std.proofs.Common.{◌≡◌, ℕ, ◌-◌, ◌*◌, ◌<◌, ◌≤◌, ◌^◌, List, [], ◌∷◌, ◌++◌, length, map, take, arith, refl, sym, ◌∙◌, ap, subst}
-use Rattle.std.proofs.Common.{Option, Some, None}
-use Rattle.std.specs.Prelude.{is_some, true}
-use Rattle.std.proofs.lemmas.Bool.{false≢true}
-use Rattle.sample_line.specs.Signals.{signal_of}
-use Rattle.detection.specs.Slots.{Signal}
-use Rattle.bit_stuffing.specs.BitSlot.{line_bits}
-use Rattle.bit_stuffing.specs.declared.bit_slot.BitSlot.{BitSlot}
-use Rattle.shared_terms.specs.declared.role.Role.{Role}
-use Rattle.shared_terms.specs.declared.role.Role.TheVariants.{Originator, Answerer}
-use Rattle.shared_terms.specs.Both.{Both, of}
-use Rattle.noise_script.specs.Script.{ScriptValue, IsInLimits, delay_of}
-use Rattle.sample_line.specs.Line.{Kept, LineStands, bits_behind}
-use Rattle.link_run.specs.Run.{Accounts, Spoken, Turn, start}
-use Rattle.line_run.specs.Sampled.{LineRun}
-use Rattle.line_run.specs.Scripted.{wire_at, wire_of, link_of, ScriptsHaveDelays}
-use Rattle.line_run.specs.Scripts.{NoLineRunIsLong}
+use Rattle.line_world.proofs.Names.{◌≡◌, ℕ, ◌-◌, ◌*◌, ◌<◌, ◌≤◌, ◌^◌, List, [], ◌∷◌, ◌++◌, length, map, take, arith, refl, sym, ◌∙◌, ap}
+use Rattle.line_world.proofs.Names.{subst, Option, Some, None, false≢true, is_some, line_bits, BitSlot, Signal, LineRun, wire_at, wire_of}
+use Rattle.line_world.proofs.Names.{link_of, ScriptsHaveDelays, NoLineRunIsLong, Carried, IsDue, carried_signal, both_sent_by, AreDue}
+use Rattle.line_world.proofs.Names.{LinesWait, HaveArrived, AreKept, AreReady, ModemsAfter, IsOver, IsReady, WorldAfter, HasSent}
+use Rattle.line_world.proofs.Names.{DelayedLine, Lines, World, Accounts, Spoken, Turn, start, ScriptValue, IsInLimits, delay_of, Kept}
+use Rattle.line_world.proofs.Names.{LineStands, bits_behind, signal_of, Both, of, Role, Originator, Answerer, file_limit}
+use Rattle.std.specs.Prelude.{true}
 use Rattle.line_run.specs.LineLaws.{RunsSendSlots, LoneSlotsAreDue, LoneSlotsAreCounted}
-use Rattle.line_run.specs.Stream.{Carried, IsDue, carried_signal, carry, sent_by, both_sent_by}
+use Rattle.line_run.specs.Stream.{carry, sent_by}
 use Rattle.line_run.proofs.Streaming.{lone-signals}
-use Rattle.line_world.specs.declared.direction.DelayedLine.{DelayedLine}
-use Rattle.line_world.specs.Way.{IsOver, Carries}
-use Rattle.line_world.specs.Lines.{AreDue, LinesWait, HaveArrived, PassedFew, from}
-use Rattle.line_world.specs.declared.lines.Lines.{Lines}
+use Rattle.line_world.specs.Way.{Carries}
+use Rattle.line_world.specs.Lines.{PassedFew, from}
 use Rattle.line_world.proofs.Waiting.{passed-few}
-use Rattle.turn_bound.specs.Limits.{file_limit}
-use Rattle.line_world.specs.Modems.{AreKept, AreReady, ModemsAfter}
-use Rattle.line_world.specs.World.{IsReady, WorldAfter, HasPassed, HasPassedToo, HasSent}
-use Rattle.line_world.specs.declared.world.World.{World}
+use Rattle.line_world.specs.World.{HasPassed, HasPassedToo}
 
 pub few-turns : NoLineRunIsLong → (w : World) → IsReady w → w.modems.turn < 2 ^ 39
 few-turns law w h = subst (λ n. n < 2 ^ 39) (sym h.after.modems.turn)

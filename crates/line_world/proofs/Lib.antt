@@ -1,3 +1,4 @@
+mod Names
 pub mod Several
 pub mod Hearing
 pub mod Serving

@@ -1,24 +1,13 @@
 -- Parts of a turn of both ends.
-use Rattle.std.proofs.Common.{◌≡◌, ℕ, ◌+◌, Bool, true, false, is_ok, List, length, take, slice_get, arith, refl, sym, ◌∙◌, ap, Option}
-use Rattle.std.proofs.Common.{Result, Ok, Err}
-use Rattle.std.specs.Option.{option_map}
-use Rattle.outside_calls.specs.Folder.{FolderState, OnlyReads}
-use Rattle.outside_calls.proofs.Steps.{told_later, octets-kept}
-use Rattle.std.proofs.lemmas.Bool.{false≢true}
-use Rattle.shared_terms.specs.declared.role.Role.{Role}
-use Rattle.noise_script.specs.Script.{ScriptValue, break_of}
+use Rattle.line_world.proofs.Names.{◌≡◌, ℕ, ◌+◌, Bool, true, false, is_ok, List, length, take, arith, refl, sym, ◌∙◌, ap, Option, Result}
+use Rattle.line_world.proofs.Names.{Ok, Err, false≢true, option_map, Arrived, Sent, breaks_of, busy_of, HearsOn, Stands, HearsAs, SpeaksAs}
+use Rattle.line_world.proofs.Names.{ReadsOn, IsCounted, Station, Account, after_busy, hear, Said, asked, asked_at, is_busy, ScriptValue}
+use Rattle.line_world.proofs.Names.{told_later, octets-kept, FolderState, OnlyReads, LinkFault, Role}
+use Rattle.std.proofs.Common.{slice_get}
+use Rattle.noise_script.specs.Script.{break_of}
 use Rattle.noise_script.specs.Script as script
-use Rattle.lapm_frames.specs.declared.arrived.Arrived.{Arrived}
-use Rattle.lapm_frames.specs.declared.sent.Sent.{Sent}
-use Rattle.shared_terms.specs.declared.fault.LinkFault.{LinkFault}
-use Rattle.link_account.specs.Account.{Account, after_busy}
-use Rattle.link_account.specs.Hear.{hear}
-use Rattle.link_account.specs.Speak.{Said}
-use Rattle.link_run.specs.End.{asked, asked_at, is_busy}
-use Rattle.line_run.specs.Scripted.{breaks_of, busy_of, BreaksAreTheScripts, PausesAreTheScripts}
-use Rattle.line_world.specs.declared.station.Station.{Station}
-use Rattle.line_world.specs.Station.{Stands, HearsAs, SpeaksAs, ReadsOn, IsCounted, break_line_of}
-use Rattle.line_world.specs.Link.{HearsOn}
+use Rattle.line_run.specs.Scripted.{BreaksAreTheScripts, PausesAreTheScripts}
+use Rattle.line_world.specs.Station.{break_line_of}
 
 pub heard-well : (s : Station) (file : List ℕ) (a : Account) (turn : ℕ) (arrived : Arrived) → is_ok (hear turn arrived a) ≡ true
     → HearsAs (hear turn arrived a) file s (Ok tt) → HearsOn s file a turn arrived

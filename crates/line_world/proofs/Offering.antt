@@ -1,21 +1,15 @@
 -- Segments that are read and offered, one after another.
-use Rattle.std.proofs.Common.{◌≡◌, ◌⊎◌, inl, inr, ℕ, ◌+◌, ◌-◌, ◌*◌, ◌≤◌, ◌<◌, Bool, true, false, cond, nat_lt, IsTrue, List, [], ◌++◌}
-use Rattle.std.proofs.Common.{length, take, drop, arith, length-append, refl, sym, ◌∙◌, ap, subst, Some, None, Err}
-use Rattle.std.proofs.lemmas.Bool.{cases_lt}
-use Rattle.std.proofs.lemmas.Bool.Decides.{nat_tests}
-use Rattle.std.proofs.lemmas.List.{append_assoc, take_all, take-take, drop-take, length-take, length-take-le, length-drop}
-use Rattle.std.specs.Prelude.{min, Result, Ok, IsErrOf}
-use Rattle.outside_calls.specs.declared.folder.FolderFault.{FolderFault}
-use Rattle.std.proofs.Math.Seq.{take-append_seam, take-length}
-use Rattle.outside_calls.specs.Folder.{FolderState}
-use Rattle.lapm_sender.specs.Outgoing.{Outgoing}
-use Rattle.lapm_link.specs.Stands.{StandsFor}
-use Rattle.link_account.specs.Account.{Account, wants, piece_size, after_offer}
-use Rattle.link_run.specs.End.{piece_at, offered_at, offered}
-use Rattle.link_run.specs.Reading.{SameSoFar, with_segment, OffersWhatIsRead, SegmentsAreTold, OwnSegmentsStay}
+use Rattle.line_world.proofs.Names.{◌≡◌, ◌⊎◌, inl, inr, ℕ, ◌+◌, ◌-◌, ◌*◌, ◌≤◌, ◌<◌, Bool, true, false, cond, nat_lt, IsTrue, List, [], ◌++◌}
+use Rattle.line_world.proofs.Names.{length, take, drop, arith, length-append, refl, sym, ◌∙◌, ap, subst, Some, None, Err, take-append_seam}
+use Rattle.line_world.proofs.Names.{cases_lt, nat_tests, take_all, length-take, length-take-le, length-drop, IsErrOf, StandsFor, Outgoing}
+use Rattle.line_world.proofs.Names.{Stands, file_at, Supplies, Supplying, Station, Account, wants, piece_at, offered_at, offered, SameSoFar}
+use Rattle.line_world.proofs.Names.{FolderState, FolderFault}
+use Rattle.std.proofs.lemmas.List.{append_assoc, take-take, drop-take}
+use Rattle.std.specs.Prelude.{min, Result, Ok}
+use Rattle.std.proofs.Math.Seq.{take-length}
+use Rattle.link_account.specs.Account.{piece_size, after_offer}
+use Rattle.link_run.specs.Reading.{with_segment, OffersWhatIsRead, SegmentsAreTold, OwnSegmentsStay}
 use Rattle.link_run.specs.Laws.{OffersUntilNoneIsWanted}
-use Rattle.line_world.specs.declared.station.Station.{Station}
-use Rattle.line_world.specs.Station.{Stands, file_at, Supplies, Supplying}
 
 -- as many octets as there are
 take-min : (count room : ℕ) (rest : List ℕ) → count ≤ room → count ≤ length rest → (count ≡ room) ⊎ (count ≡ length rest)

@@ -1,37 +1,23 @@
 -- Slots that pass, and slots that are put on the line.
-use Rattle.std.proofs.Common.{◌≡◌, ℕ, suc, ◌-◌, ◌*◌, ◌%◌, ◌<◌, Bool, true, false, List, [], ◌∷◌, ◌++◌, length, map, drop, arith}
-use Rattle.std.proofs.Common.{length-append, refl, sym, ◌∙◌, ap, subst, Option, Some, None, Ok, Err, append-nil, append_assoc}
-use Rattle.std.specs.Prelude.{slice_get, Result, IfOk}
-use Rattle.frame_check.specs.declared.check.Check.{Check}
-use Rattle.detection.specs.Slots.{Signal, signal_bits}
-use Rattle.symbol_map.specs.declared.sample.Sample.{Sample}
+use Rattle.line_world.proofs.Names.{◌≡◌, ℕ, suc, ◌-◌, ◌*◌, ◌<◌, Bool, true, false, List, [], ◌∷◌, ◌++◌, length, map, drop, arith}
+use Rattle.line_world.proofs.Names.{length-append, refl, sym, ◌∙◌, ap, subst, Option, Some, None, Ok, Err, append-nil, append_assoc}
+use Rattle.line_world.proofs.Names.{slice_get, Signal, signal_bits, Lost, Check, IsSendable, Heard, Seen, Sent, Carried, carried_signal}
+use Rattle.line_world.proofs.Names.{AreOnWay, CodesNext, HeardBehind, PassesOldest, DelayedLine, SentSlot, IsNumbered, arrival, ScriptValue}
+use Rattle.line_world.proofs.Names.{loses, IsCodedAs, Kept, LineStands, size_of, bits_behind, IsOutcome, LosesAt, Records, Role, Sample}
+use Rattle.std.proofs.Common.{◌%◌}
+use Rattle.std.specs.Prelude.{Result, IfOk}
 use Rattle.exact_decoder.specs.Surviving.Survivors.{LostIs}
 use Rattle.exact_decoder.specs.Surviving.V32.{line_depth, line_trellis}
-use Rattle.exact_decoder.specs.declared.decoder.Lost.{Lost}
-use Rattle.shared_terms.specs.declared.role.Role.{Role}
-use Rattle.lapm_frames.specs.declared.seen.Seen.{Seen}
-use Rattle.lapm_frames.specs.declared.sent.Sent.{Sent}
 use Rattle.lapm_frames.specs.declared.sent.Sent.TheVariants as slots
-use Rattle.lapm_frames.specs.Sendable.{IsSendable}
-use Rattle.lapm_frames.specs.declared.heard.Heard.{Heard}
 use Rattle.lapm_frames.specs.declared.heard.Heard.TheVariants.{Passed}
-use Rattle.noise_script.specs.Script.{ScriptValue, loses}
-use Rattle.sample_line.specs.Recorded.{Records}
 use Rattle.sample_line.specs.Received.{Receives}
-use Rattle.sample_line.specs.Outcomes.{IsOutcome}
-use Rattle.sample_line.specs.Path.{LosesAt, LosesWithin}
-use Rattle.sample_line.specs.Line.{Kept, LineStands, PassesSlot, Passes, sender_of, size_of, decoder_of, bits_behind}
-use Rattle.sample_line.specs.Coder.{IsCodedAs}
+use Rattle.sample_line.specs.Path.{LosesWithin}
+use Rattle.sample_line.specs.Line.{PassesSlot, Passes, sender_of, decoder_of}
 use Rattle.sample_line.specs.Laws.{RecordedOnce}
 use Rattle.sample_line.proofs.Once.{length-modulated}
 use Rattle.sample_line.proofs.Passing.{line-heard, slot-added}
 use Rattle.line_run.specs.Laws.{LossStays}
-use Rattle.link_account.specs.Numbers.{IsNumbered}
-use Rattle.link_run.specs.Run.{arrival}
-use Rattle.line_world.specs.declared.slot.SentSlot.{SentSlot}
-use Rattle.line_world.specs.declared.direction.DelayedLine.{DelayedLine}
-use Rattle.line_run.specs.Stream.{Carried, carried_signal}
-use Rattle.line_world.specs.Way.{IsOnWay, AreOnWay, Stands, CodesNext, HeardBehind, PassesOldest}
+use Rattle.line_world.specs.Way.{IsOnWay, Stands}
 
 -- as many slots as are said
 pub same-count : (size : ℕ) (role : Role) (before : List Signal) (items : List SentSlot) (way : List Carried)

@@ -1,45 +1,29 @@
 -- Where the turns of a run have come.
-use Rattle.std.proofs.Common.{◌≡◌, inl, inr, ℕ, ◌+◌, ◌-◌, ◌≤◌, ◌<◌, ◌^◌, List, [], ◌∷◌, ◌++◌, length, take, refl, sym, ◌∙◌, ap}
-use Rattle.std.proofs.Common.{subst, arith}
-use Rattle.std.proofs.lemmas.List.{length-take, append-nil}
-use Rattle.std.proofs.lemmas.List.Folds.{concat-append}
-use Rattle.std.specs.List.{concat}
-use Rattle.outside_calls.specs.Folder.{FolderState, octets_at, GoesOn, KeepsName, CountsStand}
-use Rattle.outside_calls.proofs.Steps.{CountsStand-refl, CountsStand-trans}
-use Rattle.shared_terms.specs.declared.role.Role.{Role}
-use Rattle.shared_terms.specs.declared.role.Role.TheVariants.{Originator, Answerer}
-use Rattle.shared_terms.specs.Both.{Both, of}
-use Rattle.noise_script.specs.Script.{ScriptValue}
+use Rattle.line_world.proofs.Names.{◌≡◌, inl, inr, ℕ, ◌+◌, ◌-◌, ◌≤◌, ◌<◌, ◌^◌, List, [], ◌∷◌, ◌++◌, length, take, refl, sym, ◌∙◌, ap, subst}
+use Rattle.line_world.proofs.Names.{arith, length-take, concat-append, concat, hearing-in, Written, inputs_of, outputs_of, Tapes, tapes_of}
+use Rattle.line_world.proofs.Names.{LineRun, wire_of, link_of, both_sent_by, RunFault, chance_line, octets_of, file_at, HoldTapes}
+use Rattle.line_world.proofs.Names.{HoldTapesPartly, added, GoesOnBy, EndsInTurn, StopsReading, Stops, IsWriting, KnowsFiles, WorldAfter}
+use Rattle.line_world.proofs.Names.{script_of, turn_of, World, deliveries, Outcome, Done, Accounts, Turn, LastTurn, start, Hears, turn_text}
+use Rattle.line_world.proofs.Names.{ScriptValue, Holds-kept, Holds-more, HoldsPart-more, OnlyPuts-refl, OnlyPuts-trans, inputs-kept}
+use Rattle.line_world.proofs.Names.{CountsStand-refl, CountsStand-trans, FolderState, octets_at, GoesOn, KeepsName, CountsStand}
+use Rattle.line_world.proofs.Names.{AreApartFrom, Holds, KeepsEach, OnlyPuts, AddEach, Both, of, Role, Originator, Answerer}
+use Rattle.std.proofs.lemmas.List.{append-nil}
 use Rattle.shared_terms.specs.declared.fault.LinkFault.TheVariants as causes
-use Rattle.line_texts.specs.LineText.{chance_line}
 use Rattle.link_run.specs.Counts.{numbers_sent, repeated, segment_number, sent_again}
-use Rattle.link_run.specs.End.{deliveries}
-use Rattle.link_run.specs.Run.{Link, Accounts, Turn, LastTurn, start, Hears, RunOf}
-use Rattle.link_run.specs.Outcomes.{Outcome, Going, Done, Broken}
+use Rattle.link_run.specs.Run.{Link, RunOf}
+use Rattle.link_run.specs.Outcomes.{Going, Broken}
 use Rattle.link_run.specs.Laws.{HearingsDeliver, SpeakingTakesNothing}
-use Rattle.link_run.specs.Trace.{trace_text, turn_text}
-use Rattle.line_run.specs.Sampled.{LineRun}
+use Rattle.link_run.specs.Trace.{trace_text}
 use Rattle.line_run.specs.Ends.{RunEnd, Left, EndsBy}
 use Rattle.line_run.specs.Ends as runs
-use Rattle.line_run.specs.Scripted.{wire_of, link_of}
-use Rattle.line_run.specs.Stream.{both_sent_by}
 use Rattle.line_world.specs.Limits.{file_limit}
-use Rattle.line_run.specs.Names.{Written, inputs_of, outputs_of}
-use Rattle.line_world.specs.Link.{octets_of}
-use Rattle.line_world.specs.Station.{file_at}
-use Rattle.line_world.specs.declared.world.World.{World}
-use Rattle.line_run.specs.declared.fault.RunFault.{RunFault}
 use Rattle.line_run.specs.declared.fault.RunFault.TheVariants as faults
-use Rattle.line_world.specs.World.{KnowsFiles, WorldAfter, script_of, turn_of, lost_of, again_of}
-use Rattle.line_world.specs.Turn.{added, GoesOnBy, EndsInTurn, LosesLine, MeetsChance, StopsInTurn, StopsReading, Stops, IsWriting}
+use Rattle.line_world.specs.World.{lost_of, again_of}
+use Rattle.line_world.specs.Turn.{LosesLine, MeetsChance, StopsInTurn}
 use Rattle.line_world.specs.Turn.{EndsBy as TurnEndsBy}
-use Rattle.outside_calls.specs.Outputs.{AreApartFrom, Holds, HoldsPart, KeepsEach, Creates, joined, OnlyPuts, AddEach, HoldEach}
-use Rattle.outside_calls.proofs.Holding.{Holds-kept, Holds-more, HoldsPart-more}
-use Rattle.outside_calls.proofs.Putting.{OnlyPuts-refl, OnlyPuts-trans, inputs-kept, HoldEach-kept, HoldEach-add, HoldPart-add}
-use Rattle.line_run.specs.Recorded.{Tapes, tapes_of}
-use Rattle.line_run.proofs.Leaving.{hearing-in}
+use Rattle.outside_calls.specs.Outputs.{HoldsPart, Creates, joined, HoldEach}
+use Rattle.outside_calls.proofs.Putting.{HoldEach-kept, HoldEach-add, HoldPart-add}
 use Rattle.line_run.proofs.WhatIsLeft.{left_of, leaves-so}
-use Rattle.line_world.specs.Tapes.{HoldTapes, HoldTapesPartly}
 use Rattle.line_world.proofs.Folders.{IsApart, stay-known, knows-kept}
 use Rattle.line_world.proofs.Several.{puts-front, puts-behind, apart-front, inputs-front, inputs-behind, keeps-front, keeps-behind}
 use Rattle.line_world.specs.Turns.{held_of, AddsTurn, RunEnds, RunCounts, RunStops, RunStopsReading, FaultEnds}

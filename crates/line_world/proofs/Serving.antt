@@ -1,29 +1,20 @@
 -- What happens to both ends between hearing and speaking.
-use Rattle.std.proofs.Common.{arith, ◌≡◌, ℕ, zero, suc, Bool, true, false, cond, List, length, refl, sym, ◌∙◌, ap, subst, Option, Some}
-use Rattle.std.proofs.Common.{None, Err, IsErrOf, inl, inr}
-use Rattle.outside_calls.specs.Folder.{FolderState, FaultsStand, HasCause}
-use Rattle.outside_calls.specs.declared.folder.FolderFault.{FolderFault}
+use Rattle.line_world.proofs.Names.{arith, ◌≡◌, ℕ, zero, suc, Bool, true, false, cond, List, length, refl, sym, ◌∙◌, ap, subst, Option}
+use Rattle.line_world.proofs.Names.{Some, None, Err, inl, inr, Heard, Written, inputs_of, outputs_of, Wire, link_of, breaks_of, busy_of}
+use Rattle.line_world.proofs.Names.{RunFault, fault_of, Overhears, ReadsBoth, served, turn_in, IsWriting, Account, after_busy, after_given}
+use Rattle.line_world.proofs.Names.{given_break, wants, asked, delivered, is_busy, is_released, offered, offered_at, SameSoFar, Accounts}
+use Rattle.line_world.proofs.Names.{Spoken, Turn, Hears, ScriptValue, IsInLimits, FolderState, FaultsStand, HasCause, FolderFault, Both, of}
+use Rattle.line_world.proofs.Names.{Role, Originator, Answerer, IsAllowed}
+use Rattle.std.proofs.Common.{IsErrOf}
 use Rattle.outside_calls.specs.declared.folder.FolderFault.TheVariants.{Failed, NoMemory}
-use Rattle.shared_terms.specs.declared.role.Role.{Role}
-use Rattle.shared_terms.specs.declared.role.Role.TheVariants.{Originator, Answerer}
-use Rattle.shared_terms.specs.Both.{Both, of}
-use Rattle.noise_script.specs.Script.{ScriptValue, IsInLimits}
-use Rattle.xid_params.specs.Offers.{IsAllowed}
-use Rattle.link_account.specs.Account.{Account, after_busy, after_given, given_break, wants}
-use Rattle.link_run.specs.End.{asked, delivered, is_busy, is_released, offered, offered_at, offered_times, room_for}
-use Rattle.link_run.specs.Run.{Accounts, Spoken, Turn, Hears, served_at}
-use Rattle.link_run.specs.Reading.{RunsByWhatIsReadOn, SameSoFar}
-use Rattle.line_run.specs.Scripted.{link_of, breaks_of, busy_of}
-use Rattle.line_run.specs.Sampled.{Wire}
-use Rattle.lapm_frames.specs.declared.heard.Heard.{Heard}
-use Rattle.line_run.specs.Names.{Written, inputs_of, outputs_of}
+use Rattle.link_run.specs.End.{offered_times, room_for}
+use Rattle.link_run.specs.Run.{served_at}
+use Rattle.link_run.specs.Reading.{RunsByWhatIsReadOn}
 use Rattle.outside_calls.specs.Outputs.{SomeCause}
-use Rattle.line_run.specs.declared.fault.RunFault.{RunFault}
 use Rattle.line_run.specs.declared.fault.RunFault.TheVariants.{ReadFault, WriteFault}
 use Rattle.line_run.specs.declared.fault.RunFault.TheVariants as faults
-use Rattle.line_world.specs.Faults.{fault_of}
-use Rattle.line_world.specs.Turn.{IsReading, IsWriting, FaultCounts}
-use Rattle.line_world.specs.Mid.{Overhears, ReadsBoth, handed, served, turn_in}
+use Rattle.line_world.specs.Turn.{IsReading, FaultCounts}
+use Rattle.line_world.specs.Mid.{handed}
 
 -- handing segments over hands no break over
 pub given-delivered : (a : Account) → given_break (delivered a) ≡ given_break a

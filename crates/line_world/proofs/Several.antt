@@ -1,7 +1,6 @@
 -- What is touched where some names stand behind others.
-use Rattle.std.proofs.Common.{inl, inr, ℕ, List, [], ◌∷◌, ◌++◌, sym}
-use Rattle.outside_calls.specs.Folder.{FolderState}
-use Rattle.outside_calls.specs.Outputs.{IsNoneOf, AreNoneOf, AreApart, OnlyPuts, SomeRose, KeepsEach}
+use Rattle.line_world.proofs.Names.{inl, inr, ℕ, List, [], ◌∷◌, ◌++◌, sym, FolderState, AreApart, OnlyPuts, KeepsEach}
+use Rattle.outside_calls.specs.Outputs.{IsNoneOf, AreNoneOf, SomeRose}
 
 none-front : (name : List ℕ) (front behind : List (List ℕ)) → IsNoneOf name (front ++ behind) → IsNoneOf name front
 none-front name [] behind apart = tt

@@ -1,46 +1,27 @@
 -- Both ends speak, and a turn is made.
-use Rattle.std.proofs.Common.{◌≡◌, ◌≢◌, ℕ, ◌+◌, true, List, ◌∷◌, ◌++◌, length, arith, refl, sym, ◌∙◌, subst, Option, Some, None, Ok}
-use Rattle.std.specs.Option.{option_map}
-use Rattle.outside_calls.specs.Folder.{FolderState, Appended, PartlyAppended, CountsStand}
-use Rattle.frame_check.specs.declared.check.Check.{Check}
-use Rattle.shared_terms.specs.declared.role.Role.{Role}
-use Rattle.shared_terms.specs.declared.role.Role.TheVariants.{Originator, Answerer}
-use Rattle.shared_terms.specs.Both.{Both, of}
-use Rattle.noise_script.specs.Script.{IsInLimits, ScriptValue, delay_of}
-use Rattle.lapm_frames.specs.declared.sent.Sent.{Sent}
-use Rattle.lapm_frames.specs.declared.heard.Heard.{Heard}
-use Rattle.lapm_frames.specs.declared.heard.Heard.TheVariants.{Chance}
-use Rattle.lapm_frames.specs.Sendable.{IsSendable}
-use Rattle.line_texts.specs.LineText.{line_of, trace_line}
+use Rattle.line_world.proofs.Names.{◌≡◌, ◌≢◌, ℕ, ◌+◌, true, List, ◌∷◌, ◌++◌, length, arith, refl, sym, ◌∙◌, subst, Option, Some, None, Ok}
+use Rattle.line_world.proofs.Names.{option_map, Check, IsSendable, Heard, Chance, Sent, SamplesAreCarried, OneIsCarried, Written, Wire}
+use Rattle.line_world.proofs.Names.{HeardIn, link_of, longest_of, slot_symbols, ScriptsMayPlay, ScriptsHaveDelays, Carried, RunFault}
+use Rattle.line_world.proofs.Names.{line_of, trace_line, LinesWait, HaveArrived, ArePut, and_more, LinkStands, HearsThese, Overhears}
+use Rattle.line_world.proofs.Names.{TalliesHeard, HasGone, AddsPart, SpeaksLast, served, turn_in, Tallies, IsWriting, Lines, Modems, Counts}
+use Rattle.line_world.proofs.Names.{given_break, check_of, Said, is_closed, Outcome, TurnIs, Accounts, Spoken, Turn, LastTurn, spoken}
+use Rattle.line_world.proofs.Names.{turn_text, IsInLimits, ScriptValue, delay_of, FolderState, Appended, PartlyAppended, CountsStand, Both}
+use Rattle.line_world.proofs.Names.{of, LinkFault, Role, Originator, Answerer}
 use Rattle.sample_line.specs.Signals.{IsCodable}
-use Rattle.shared_terms.specs.declared.fault.LinkFault.{LinkFault}
 use Rattle.shared_terms.specs.declared.fault.LinkFault.TheVariants as faults
-use Rattle.link_account.specs.Account.{given_break, check_of}
-use Rattle.link_account.specs.Speak.{Said}
-use Rattle.link_run.specs.Run.{Accounts, Side, Spoken, Turn, GoingTurn, LastTurn, BrokenTurn, IsBroken, BreaksAt, SpeaksAt, spoken, says_at}
+use Rattle.link_run.specs.Run.{Side, GoingTurn, BrokenTurn, IsBroken, BreaksAt, SpeaksAt, says_at}
 use Rattle.link_run.specs.Run.{said_at}
 use Rattle.link_run.specs.Counts.{CountsByNumber, CountsOn, next_count, again_in, sequence_in}
 use Rattle.link_run.specs.Laws.{IsNamed}
-use Rattle.link_run.specs.Outcomes.{Outcome, TurnIs}
-use Rattle.link_run.specs.End.{is_closed}
-use Rattle.link_run.specs.Trace.{side_line, turn_text}
-use Rattle.line_run.specs.Sampled.{Wire, HeardIn}
-use Rattle.line_run.specs.Scripted.{link_of, longest_of, slot_symbols, ScriptsMayPlay, ScriptsHaveDelays, SlotsAreCodable}
-use Rattle.line_run.specs.LineLaws.{SamplesAreCarried, OneIsCarried}
+use Rattle.link_run.specs.Trace.{side_line}
+use Rattle.line_run.specs.Scripted.{SlotsAreCodable}
 use Rattle.line_world.specs.declared.link.Link.{Link}
-use Rattle.line_world.specs.declared.lines.Lines.{Lines}
-use Rattle.line_run.specs.Names.{Written}
-use Rattle.line_world.specs.Link.{LinkStands, SaysBoth}
-use Rattle.line_run.specs.Stream.{Carried}
-use Rattle.line_world.specs.Lines.{LinesWait, HaveArrived, AreCodable, ArePut, and_more}
-use Rattle.line_world.specs.declared.modems.Modems.{Modems}
-use Rattle.line_world.specs.declared.tally.Counts.{Counts}
-use Rattle.line_run.specs.declared.fault.RunFault.{RunFault}
-use Rattle.line_world.specs.Tally.{Tallies}
+use Rattle.line_world.specs.Link.{SaysBoth}
+use Rattle.line_world.specs.Lines.{AreCodable}
 use Rattle.line_world.specs.Texts.{lines_of}
-use Rattle.line_world.specs.Turn.{IsWriting, FaultCounts}
+use Rattle.line_world.specs.Turn.{FaultCounts}
 use Rattle.line_world.specs.Modems.{IsWireOf}
-use Rattle.line_world.specs.Mid.{HearsThese, IsToSpeak, Overhears, TalliesHeard, HasGone, AddsPart, SpeaksLast, served, side_of, turn_in}
+use Rattle.line_world.specs.Mid.{IsToSpeak, side_of}
 use Rattle.line_world.proofs.Hearing.{heard-in, none-sent, runs-over}
 use Rattle.line_world.proofs.Serving.{hears-in, served-is}
 use Rattle.line_world.specs.Faults.{fault_named}

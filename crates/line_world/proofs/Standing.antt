@@ -1,19 +1,12 @@
 -- What a station stands for once its end has heard or spoken, or was asked for a break.
-use Rattle.std.proofs.Common.{◌≡◌, ℕ, ◌+◌, Bool, List, length, arith, refl, sym, ◌∙◌, ap, subst, Ok, Err, Result, IfOk, OnOk, OnErr, ◌≤◌}
-use Rattle.std.proofs.lemmas.Bool.{false≢true}
-use Rattle.lapm_frames.specs.declared.arrived.Arrived.{Arrived}
-use Rattle.lapm_frames.specs.declared.sent.Sent.{Sent}
-use Rattle.lapm_link.specs.declared.any_end.AnyEnd.{AnyEnd}
+use Rattle.line_world.proofs.Names.{◌≡◌, ℕ, ◌+◌, Bool, List, length, arith, refl, sym, ◌∙◌, ap, subst, Ok, Err, Result, IfOk, OnOk, OnErr}
+use Rattle.line_world.proofs.Names.{◌≤◌, false≢true, Arrived, Sent, StandsFor, TakesNothing, taken_of, AnyEnd, Stands, HearsAs, SpeaksAs}
+use Rattle.line_world.proofs.Names.{IsCounted, Station, Account, hear, Said, speak, IsOffered, LinkFault}
 use Rattle.lapm_link.specs.declared.any_end.AnyEnd.TheVariants as ends
 use Rattle.lapm_link.specs.declared.closed.Broken.{Broken}
-use Rattle.lapm_link.specs.Stands.{StandsFor, IsOver, Hears, Speaks, TakesNothing, given_up, taken_of}
-use Rattle.shared_terms.specs.declared.fault.LinkFault.{LinkFault}
-use Rattle.link_account.specs.Account.{Account}
-use Rattle.link_account.specs.Hear.{hear}
-use Rattle.link_account.specs.Speak.{Said, speak}
-use Rattle.link_run.specs.Reading.{IsOffered, HearingStaysOffered, SpeakingStaysOffered}
-use Rattle.line_world.specs.declared.station.Station.{Station}
-use Rattle.line_world.specs.Station.{Stands, IsKept, HearsAs, SpeaksAs, IsIdle, IsCounted}
+use Rattle.lapm_link.specs.Stands.{IsOver, Hears, Speaks, given_up}
+use Rattle.link_run.specs.Reading.{HearingStaysOffered, SpeakingStaysOffered}
+use Rattle.line_world.specs.Station.{IsKept, IsIdle}
 
 -- what was offered depends on these parts alone
 pub as-offered : (file : List ℕ) (a b : Account) → b.setup ≡ a.setup → b.terms ≡ a.terms → b.phase ≡ a.phase → b.outgoing ≡ a.outgoing

@@ -1,35 +1,21 @@
 -- What tapes hold, as turns are recorded and as others are written.
-use Rattle.std.proofs.Common.{◌≡◌, inr, ◌∙◌, ℕ, ◌+◌, ◌<◌, Bool, List, [], ◌∷◌, ◌++◌, length, take, slice_index_or, Option, Some, None}
-use Rattle.std.proofs.Common.{Result, Ok, Err, refl, sym, ap, subst, append-nil, append_assoc}
-use Rattle.std.proofs.lemmas.List.{take_more}
+use Rattle.line_world.proofs.Names.{◌≡◌, inr, ◌∙◌, ℕ, ◌+◌, ◌<◌, Bool, List, [], ◌∷◌, ◌++◌, length, take, Option, Some, None, Result, Ok}
+use Rattle.line_world.proofs.Names.{Err, refl, sym, ap, subst, append-nil, append_assoc, take_more, line_bits, BitSlot, low_bits, Tapes}
+use Rattle.line_world.proofs.Names.{tapes_of, Wire, wire_of, RunFault, HoldTapes, RecordsBits, KeepTapes, tape_names, HasSent, Turn}
+use Rattle.line_world.proofs.Names.{ScriptValue, Holds-kept, Holds-more, HoldsPart-more, FolderState, GoesOn, KeepsName, OnlyWrites}
+use Rattle.line_world.proofs.Names.{Appended, PartlyAppended, Holds, KeepsEach, mode_of, Mode, Both, Role, Originator, Answerer, Sample}
+use Rattle.std.proofs.Common.{slice_index_or}
 use Rattle.std.proofs.lemmas.Grind.{flat_map-append}
-use Rattle.frame_check.specs.Bits.{low_bits}
-use Rattle.outside_calls.specs.Folder.{FolderState, GoesOn, KeepsName, OnlyWrites, Appended, PartlyAppended}
-use Rattle.outside_calls.specs.Outputs.{Holds, KeepsEach}
-use Rattle.outside_calls.proofs.Holding.{Holds-kept, Holds-more, HoldsPart-more}
-use Rattle.shared_terms.specs.declared.role.Role.{Role}
-use Rattle.shared_terms.specs.declared.role.Role.TheVariants.{Originator, Answerer}
-use Rattle.sample_line.specs.Mode.{mode_of}
-use Rattle.shared_terms.specs.Both.{Both}
-use Rattle.scramblers.specs.declared.mode.Mode.{Mode}
-use Rattle.symbol_map.specs.declared.sample.Sample.{Sample}
-use Rattle.bit_stuffing.specs.BitSlot.{line_bits}
-use Rattle.bit_stuffing.specs.declared.bit_slot.BitSlot.{BitSlot}
 use Rattle.line_coding.specs.declared.modulator.Modulator.{Modulator}
 use Rattle.line_coding.specs.Modulates.{ModulatorStands}
 use Rattle.line_coding.proofs.Standing.{modulated}
 use Rattle.recordings.specs.Recording.{header_of, sample_octets}
 use Rattle.recordings.proofs.Octets.{sample-more}
-use Rattle.noise_script.specs.Script.{ScriptValue}
-use Rattle.link_run.specs.Run.{Turn}
-use Rattle.line_run.specs.Sampled.{Wire, bits_of}
-use Rattle.line_run.specs.Scripted.{wire_of}
-use Rattle.line_run.specs.Recorded.{IsRecorded, Tapes, tapes_of}
+use Rattle.line_run.specs.Sampled.{bits_of}
+use Rattle.line_run.specs.Recorded.{IsRecorded}
 use Rattle.line_run.proofs.Bits.{bits-more}
-use Rattle.line_world.specs.World.{HasSent}
-use Rattle.line_world.specs.Tapes.{HoldsTape, HoldsTapePart, HoldTapes}
-use Rattle.line_world.specs.Taping.{RecordsBits, TapeStands, KeepsTape, TakesSlot, KeepTapes, TakeTurn, tape_names}
-use Rattle.line_run.specs.declared.fault.RunFault.{RunFault}
+use Rattle.line_world.specs.Tapes.{HoldsTape, HoldsTapePart}
+use Rattle.line_world.specs.Taping.{TapeStands, KeepsTape, TakesSlot, TakeTurn}
 use Rattle.line_world.specs.declared.tape.Tape.{Tape}
 
 -- one sample more

@@ -1,43 +1,22 @@
 -- A whole turn.
-use Rattle.std.proofs.Common.{arith, ◌≡◌, inl, inr, ℕ, ◌+◌, ◌<◌, List, [], ◌∷◌, length, refl, sym, ◌∙◌, ap, subst, Result, Ok, Err}
-use Rattle.outside_calls.specs.Folder.{FolderState, OnlyWrites}
-use Rattle.outside_calls.specs.Outputs.{OnlyPuts, AddEach, AddPart}
-use Rattle.outside_calls.proofs.Putting.{AddEach-next, AddPart-next, AddPart-none, AddPart-longer}
-use Rattle.shared_terms.specs.declared.role.Role.{Role}
-use Rattle.shared_terms.specs.declared.role.Role.TheVariants.{Originator, Answerer}
-use Rattle.shared_terms.specs.Role.{other}
-use Rattle.shared_terms.specs.Both.{Both, of}
-use Rattle.noise_script.specs.Script.{IsInLimits, delay_of}
-use Rattle.lapm_frames.specs.declared.heard.Heard.{Heard}
-use Rattle.link_account.specs.Account.{Account, check_of}
-use Rattle.shared_terms.specs.declared.fault.LinkFault.{LinkFault}
+use Rattle.line_world.proofs.Names.{arith, ◌≡◌, inl, inr, ℕ, ◌+◌, ◌<◌, List, [], ◌∷◌, length, refl, sym, ◌∙◌, ap, subst, Result, Ok, Err}
+use Rattle.line_world.proofs.Names.{Heard, hearing-in, SamplesAreCarried, OneIsCarried, Written, outputs_of, received_of, Wire, HeardIn}
+use Rattle.line_world.proofs.Names.{IsHeardOf, link_of, ScriptsMayPlay, ScriptsHaveDelays, Carried, RunFault, HaveArrived, AreCounted}
+use Rattle.line_world.proofs.Names.{AreIdle, AreWithin, octets_of, Overhears, HasGone, HearsThese, AddsPart, SpeaksLast, turn_in, AreKept}
+use Rattle.line_world.proofs.Names.{Stops, StopsReading, EndsInTurn, GoesOnBy, IsWriting, added, StayKnown, Lines, Modems, Step, Counts}
+use Rattle.line_world.proofs.Names.{Account, check_of, hear, lost_in, Outcome, TurnIs, Accounts, Turn, Hears, arrival, turn_text}
+use Rattle.line_world.proofs.Names.{IsInLimits, delay_of, AddEach-next, AddPart-next, AddPart-none, AddPart-longer, FolderState, OnlyWrites}
+use Rattle.line_world.proofs.Names.{OnlyPuts, AddEach, Both, of, other, LinkFault, Role, Originator, Answerer}
+use Rattle.outside_calls.specs.Outputs.{AddPart}
 use Rattle.shared_terms.specs.declared.fault.LinkFault.TheVariants as faults
-use Rattle.link_account.specs.Hear.{hear}
-use Rattle.link_run.specs.Run.{Accounts, Turn, Hears, arrival}
 use Rattle.link_run.specs.Laws.{EachTurnIsMade, MakesTurn as MakesAny}
-use Rattle.link_run.specs.Outcomes.{Outcome, Broken, TurnIs}
-use Rattle.link_run.specs.Trace.{turn_text}
-use Rattle.line_run.specs.Sampled.{Wire, HeardIn, IsHeardOf}
-use Rattle.line_run.specs.Scripted.{link_of, ScriptsMayPlay, ScriptsHaveDelays}
-use Rattle.line_run.specs.LineLaws.{SamplesAreCarried, OneIsCarried}
-use Rattle.line_run.specs.Names.{Written, outputs_of, received_of}
-use Rattle.line_run.specs.Stream.{Carried}
-use Rattle.line_run.proofs.Leaving.{hearing-in}
-use Rattle.line_world.specs.Lines.{HaveArrived}
-use Rattle.line_world.specs.declared.lines.Lines.{Lines}
-use Rattle.line_world.specs.Link.{AreCounted, AreIdle, AreWithin, octets_of}
-use Rattle.line_world.specs.declared.modems.Modems.{Modems}
-use Rattle.line_world.specs.Modems.{AreKept}
-use Rattle.line_run.specs.declared.fault.RunFault.{RunFault}
+use Rattle.link_run.specs.Outcomes.{Broken}
 use Rattle.line_run.specs.declared.fault.RunFault.TheVariants as run_faults
-use Rattle.line_world.specs.declared.step.Step.{Step}
 use Rattle.line_world.specs.declared.step.Step.TheVariants as steps
-use Rattle.line_world.specs.World.{StayKnown}
 use Rattle.line_world.specs.Tally.{IsFew}
-use Rattle.line_world.specs.Turn.{SendsNone, MakesTurn, Stops, StopsReading, EndsBy, EndsInTurn, GoesOnBy, IsWriting, IsReading, added}
-use Rattle.line_world.specs.Mid.{Overhears, InTurn, SameBeside, HasGone, HearsThese, AddsLines, AddsPart, SpeaksLast, turn_in}
-use Rattle.line_world.specs.declared.tally.Counts.{Counts}
-use Rattle.link_run.specs.Counts.{lost_in, lost_slots}
+use Rattle.line_world.specs.Turn.{SendsNone, MakesTurn, EndsBy, IsReading}
+use Rattle.line_world.specs.Mid.{InTurn, SameBeside, AddsLines}
+use Rattle.link_run.specs.Counts.{lost_slots}
 use Rattle.line_world.proofs.Speaking.{hears-these}
 use Rattle.line_world.proofs.Hearing.{heard-in, none-sent, runs-over}
 use Rattle.line_world.proofs.Serving.{hears-in}

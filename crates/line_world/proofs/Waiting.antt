@@ -1,35 +1,21 @@
 -- What arrives of a stream is what a link's channel has.
-use Rattle.std.proofs.Common.{◌≡◌, ◌≢◌, ℕ, zero, suc, ◌-◌, ◌*◌, ◌<◌, ◌≤◌, List, [], ◌∷◌, ◌++◌, length, map, take, drop}
-use Rattle.std.proofs.Common.{arith, length-append, refl, sym, ◌∙◌, ap, subst, Some, Ok, Err}
-use Rattle.std.specs.Prelude.{is_some, Result}
-use Rattle.std.proofs.lemmas.List.{map-append, length-drop, length-map, length-take, take-append-drop}
+use Rattle.line_world.proofs.Names.{◌≡◌, ◌≢◌, ℕ, zero, suc, ◌-◌, ◌*◌, ◌<◌, ◌≤◌, List, [], ◌∷◌, ◌++◌, length, map, take, drop, arith}
+use Rattle.line_world.proofs.Names.{length-append, refl, sym, ◌∙◌, ap, subst, Some, Ok, Err, map-append, length-drop, length-take}
+use Rattle.line_world.proofs.Names.{take-append-le, is_some, Signal, signal_bits, Lost, Check, Heard, Chance, Wire, IsHeardOf, Carried}
+use Rattle.line_world.proofs.Names.{carried_signal, IsDue, ArrivesBoth, HaveRoom, and_more, none_sent, CodesNext, HeardBehind, PassesOldest}
+use Rattle.line_world.proofs.Names.{Early, Due, IsOver, DelayedLine, LineEnd, Spoken, Turn, ScriptValue, delay_of, loses, IsCodedAs}
+use Rattle.line_world.proofs.Names.{size_of, IsOutcome, LosesAt, Records, Both, of, other, Role, Originator, Answerer}
+use Rattle.std.specs.Prelude.{Result}
+use Rattle.std.proofs.lemmas.List.{length-map, take-append-drop}
 use Rattle.std.proofs.Math.Nat.{one-le-mul}
-use Rattle.std.proofs.lemmas.List.{take-append-le, drop-append-le}
-use Rattle.frame_check.specs.declared.check.Check.{Check}
-use Rattle.exact_decoder.specs.declared.decoder.Lost.{Lost}
-use Rattle.shared_terms.specs.declared.role.Role.{Role}
-use Rattle.shared_terms.specs.declared.role.Role.TheVariants.{Originator, Answerer}
-use Rattle.shared_terms.specs.Role.{other}
-use Rattle.shared_terms.specs.Both.{Both, of}
-use Rattle.detection.specs.Slots.{Signal, signal_bits}
-use Rattle.lapm_frames.specs.declared.heard.Heard.{Heard}
-use Rattle.lapm_frames.specs.declared.heard.Heard.TheVariants.{Nothing, Chance}
-use Rattle.line_world.specs.Lines.{ArrivesBoth, ArrivesSo, AreWaiting, HaveRoom, and_more, none_sent}
-use Rattle.line_world.specs.declared.directions.LineEnd.{LineEnd}
-use Rattle.noise_script.specs.Script.{ScriptValue, delay_of, loses}
-use Rattle.sample_line.specs.Recorded.{Records}
-use Rattle.sample_line.specs.Outcomes.{IsOutcome}
-use Rattle.sample_line.specs.Path.{LosesAt}
-use Rattle.sample_line.specs.Line.{size_of}
-use Rattle.sample_line.specs.Coder.{IsCodedAs}
-use Rattle.link_run.specs.Run.{Spoken, Turn}
+use Rattle.std.proofs.lemmas.List.{drop-append-le}
+use Rattle.lapm_frames.specs.declared.heard.Heard.TheVariants.{Nothing}
+use Rattle.line_world.specs.Lines.{ArrivesSo, AreWaiting}
 use Rattle.link_run.specs.Carried.{sent_ago}
-use Rattle.line_run.specs.Sampled.{Wire, signal_in, signals, signals_before, Arrives, ArrivesAs as RunArrives, IsHeardOf, LosesLine}
+use Rattle.line_run.specs.Sampled.{signal_in, signals, signals_before, Arrives, ArrivesAs as RunArrives, LosesLine}
 use Rattle.line_run.proofs.Slots.{SentAgo, sent-ago}
-use Rattle.line_run.specs.Stream.{Carried, carried_signal, IsDue}
-use Rattle.line_world.specs.declared.direction.DelayedLine.{DelayedLine}
 use Rattle.line_world.proofs.Passing.{same-count}
-use Rattle.line_world.specs.Way.{Stands, CodesNext, HeardBehind, PassesOldest, Arrival, Early, Due, StandsAt, IsOver, WaitsFor, HasRoom}
+use Rattle.line_world.specs.Way.{Stands, Arrival, StandsAt, WaitsFor, HasRoom}
 use Rattle.line_world.specs.Way.{ArrivesAs}
 
 -- one more of a list

@@ -1,21 +1,13 @@
 -- A pair before its first round, and from round to round.
-use Rattle.std.proofs.Common.{◌≡◌, ℕ, ◌+◌, ◌-◌, ◌^◌, ◌<◌, List, [], sym, subst, arith, refl, Result, Ok, Err}
-use Rattle.outside_calls.specs.Folder.{FolderState, CountsStand, Rose}
+use Rattle.link_pair.proofs.Names.{◌≡◌, ℕ, ◌+◌, ◌-◌, ◌^◌, ◌<◌, List, [], sym, subst, arith, refl, Result, Ok, Err, Written, link_of}
+use Rattle.link_pair.proofs.Names.{RunFault, CountsOver, FaultCountsOver, all_outputs, Awaits, FaultEnds, FaultEndsIn, First, Goes, Pair}
+use Rattle.link_pair.proofs.Names.{start, ScriptValue, SomeRose-earlier, CountsStand-trans, FolderState, CountsStand}
+use Rattle.outside_calls.specs.Folder.{Rose}
 use Rattle.outside_calls.specs.Outputs.{Creates}
-use Rattle.outside_calls.proofs.Steps.{CountsStand-trans, FaultsStand-trans}
-use Rattle.outside_calls.proofs.Putting.{SomeRose-earlier}
-use Rattle.noise_script.specs.Script.{ScriptValue}
-use Rattle.link_run.specs.Run.{start}
-use Rattle.line_run.specs.Scripted.{link_of}
-use Rattle.line_run.specs.Names.{Written}
+use Rattle.outside_calls.proofs.Steps.{FaultsStand-trans}
 use Rattle.line_world.proofs.Reached.{files_at, knows-told}
-use Rattle.link_pair.specs.Pairs.Pair.{Goes}
-use Rattle.link_pair.specs.Pairs.Ends.{First}
-use Rattle.line_run.specs.declared.fault.RunFault.{RunFault}
 use Rattle.line_run.specs.declared.fault.RunFault.TheVariants as faults
-use Rattle.link_pair.specs.declared.two_links.Pair.{Pair}
-use Rattle.line_world.specs.Turn.{CountsOver, FaultCountsOver}
-use Rattle.link_pair.specs.Pair.{all_outputs, IsFirst, Awaits, FaultEnds, FaultEndsIn}
+use Rattle.link_pair.specs.Pair.{IsFirst}
 
 pub begins : (x : Pair) (f : FolderState) (n m : Written) → IsFirst x → Creates f (all_outputs n m) → Awaits x f n m First
 begins x f n m is created =

@@ -1,21 +1,12 @@
 -- What a turn of one link leaves of the other's names.
-use Rattle.std.proofs.Common.{arith, ◌≡◌, ◌≢◌, ℕ, List, IsTrue, sym, ◌∙◌, ap, take}
-use Rattle.outside_calls.specs.Folder.{FolderState, KeepsName, GoesOn}
+use Rattle.link_pair.proofs.Names.{arith, ◌≡◌, ◌≢◌, ℕ, List, IsTrue, sym, ◌∙◌, ap, take, Written, outputs_of, RunFault, FaultCountsOver}
+use Rattle.link_pair.proofs.Names.{held_of, KnowsFiles, left_by, HoldLeft, all_inputs, all_outputs, Progress, HoldEach-kept, FolderState}
+use Rattle.link_pair.proofs.Names.{KeepsName, GoesOn, AreApartFrom, IsNoneOf, KeepsEach, OnlyPuts, Both}
 use Rattle.outside_calls.proofs.OnlyOutputs.{told_earlier}
 use Rattle.outside_calls.proofs.Steps.{octets-kept}
-use Rattle.outside_calls.specs.Outputs.{AreApartFrom, IsNoneOf, KeepsEach, OnlyPuts}
-use Rattle.outside_calls.proofs.Putting.{HoldEach-kept}
-use Rattle.shared_terms.specs.Both.{Both}
 use Rattle.turn_bound.specs.Limits.{file_limit}
 use Rattle.line_world.specs.Station.{file_at}
-use Rattle.line_run.specs.Names.{Written, inputs_of, outputs_of}
-use Rattle.line_world.specs.Turns.{held_of}
-use Rattle.line_world.specs.World.{KnowsFiles}
-use Rattle.link_pair.specs.Pairs.Pair.{Progress}
-use Rattle.line_run.specs.declared.fault.RunFault.{RunFault}
-use Rattle.line_world.specs.Turn.{FaultCountsOver}
-use Rattle.link_pair.specs.Half.{left_by, HoldLeft}
-use Rattle.link_pair.specs.Pair.{all_inputs, all_outputs}
+use Rattle.line_run.specs.Names.{inputs_of}
 
 -- no output is another one, nor an input
 abbrev pub AllApart : Written → Written → Type 0

@@ -1,38 +1,20 @@
 -- Where the inputs are right and the line carries both links to their ends, they are done, but for want of memory.
-use Rattle.std.proofs.Common.{◌≡◌, ◌⊎◌, inl, inr, ℕ, ◌+◌, ◌≤◌, ◌<◌, IsTrue, List, [], ◌∷◌, length, refl, sym, ◌∙◌, ap, subst, arith}
-use Rattle.std.proofs.Common.{Result, Err}
-use Rattle.frame_check.specs.Octets.{AreOctets}
-use Rattle.outside_calls.specs.Folder.{FolderState, octets_at}
-use Rattle.outside_calls.specs.Outputs.{HoldEach, OnlyOutputs, KeepsEach}
-use Rattle.outside_calls.proofs.Putting.{HoldEach-kept}
-use Rattle.shared_terms.specs.declared.role.Role.{Role}
-use Rattle.shared_terms.specs.Both.{Both, of}
-use Rattle.noise_script.specs.Script.{ScriptValue, IsInLimits}
-use Rattle.noise_script.specs.Laws.{ScriptsAreOne, NoFaultInScripts, SpelledIsInLimits, BreaksAreOctets}
-use Rattle.line_run.specs.Sampled.{LineEnd}
-use Rattle.line_run.specs.Ends.{Left}
+use Rattle.link_pair.proofs.Names.{◌≡◌, ◌⊎◌, inl, inr, ℕ, ◌+◌, ◌≤◌, ◌<◌, IsTrue, List, [], ◌∷◌, length, refl, sym, ◌∙◌, ap, subst, arith}
+use Rattle.link_pair.proofs.Names.{Result, Err, last-only, Answers, both_done_line, Status, Stop, AreOctets, AreOfOctets}
+use Rattle.link_pair.proofs.Names.{DisplacesNoneIsFaint, Left, Written, LineEnd, held_of, answer_of, result_of, AreFiles, RanTo, EndsBy}
+use Rattle.link_pair.proofs.Names.{pair_job, first_wire, second_wire, PairEnd, BothDone, line_end, PairRunsTo, by_links, by_line}
+use Rattle.link_pair.proofs.Names.{OnePairResult, FaintPairsAreIsolated, EndsDone, UnstarvedPairsAreDone, QuietPairsAreDone, Names}
+use Rattle.link_pair.proofs.Names.{files_of, LastTurns, BreaksAreOctets, ScriptValue, IsInLimits, HoldEach-kept, FolderState, octets_at}
+use Rattle.link_pair.proofs.Names.{HoldEach, OnlyOutputs, KeepsEach, RefusesOwn, LIMITS, Both, of, Role}
+use Rattle.noise_script.specs.Laws.{ScriptsAreOne, NoFaultInScripts, SpelledIsInLimits}
 use Rattle.line_ends.specs.Causes.{FewLossesKeepLinks}
-use Rattle.line_ends.specs.Completes.{IsQuiet, AreOfOctets, DisplacesNoneIsFaint, CompletesWithFewNamed, NamesFew, IsUndisturbed}
-use Rattle.command_base.specs.declared.status.Status.{Status}
+use Rattle.line_ends.specs.Completes.{IsQuiet, CompletesWithFewNamed, NamesFew, IsUndisturbed}
 use Rattle.command_base.specs.declared.status.Status.TheVariants.{BadScript, TooLong, NoMemory}
-use Rattle.command_base.specs.declared.stop.Stop.{Stop}
 use Rattle.command_base.specs.declared.stop.Stop.TheVariants.{Own}
-use Rattle.command_base.specs.Job.{Answers}
-use Rattle.command_base.specs.Lines.{both_done_line}
-use Rattle.command_base.proofs.Jobs.{Comes, is_done, is_own, is_memory, comes-to, last-only, done-unless-memory}
-use Rattle.run_inputs.specs.declared.limits.TheConstants.{LIMITS}
-use Rattle.run_inputs.specs.Inputs.{RefusesOwn}
+use Rattle.command_base.proofs.Jobs.{Comes, is_done, is_own, is_memory, comes-to, done-unless-memory}
 use Rattle.run_inputs.specs.Lengths.{IsFirstLong}
-use Rattle.line_run.specs.Names.{Written}
 use Rattle.line_run.specs.Names as written
-use Rattle.line_world.specs.Turns.{held_of}
-use Rattle.link_pair.specs.Pairs.Beside.{first_wire, second_wire}
-use Rattle.link_pair.specs.Pairs.Ends.{IsByLine, PairEnd, BothDone, line_end, PairRunsTo, by_links, by_line}
-use Rattle.link_pair.specs.Pairs.Laws.{OnePairResult, FaintPairsAreIsolated, EndsDone, UnstarvedPairsAreDone, QuietPairsAreDone}
-use Rattle.link_pair.specs.declared.command.LastTurns.{LastTurns}
-use Rattle.link_pair.specs.Words.{Names, files_of}
-use Rattle.link_pair.specs.Answers.{answer_of, result_of}
-use Rattle.link_pair.specs.Ends.{AreFiles, RanTo, EndsBy, pair_job}
+use Rattle.link_pair.specs.Pairs.Ends.{IsByLine}
 use Rattle.link_pair.specs.Ends as ends
 use Rattle.link_pair.specs.Completes.{IsCarried, LosesFew, AreRight, files_at, DoneWhere, Answered, AnsweredByItsEnd, Completes}
 use Rattle.link_pair.proofs.Refusing.{own-answer}

@@ -1,55 +1,31 @@
 -- A link of a pair that goes on, or ends in its turn.
-use Rattle.std.proofs.Common.{◌≡◌, inl, inr, ℕ, suc, ◌-◌, List, [], ◌∷◌, ◌++◌, length, refl, sym, ap, subst, arith}
-use Rattle.std.proofs.Common.{Option, Some, None, Result, Ok, Err, append-nil}
-use Rattle.std.specs.List.{concat}
-use Rattle.outside_calls.specs.Folder.{FolderState, GoesOn, KeepsName}
-use Rattle.outside_calls.specs.Outputs.{OnlyPuts, Holds, HoldEach}
-use Rattle.outside_calls.proofs.Holding.{Holds-kept, Holds-more, HoldsPart-more}
-use Rattle.outside_calls.proofs.Putting.{HoldEach-kept, HoldEach-add, HoldPart-add}
-use Rattle.shared_terms.specs.declared.role.Role.{Role}
-use Rattle.shared_terms.specs.declared.role.Role.TheVariants.{Originator, Answerer}
-use Rattle.shared_terms.specs.Both.{Both, of}
-use Rattle.detection.specs.Slots.{Signal}
-use Rattle.noise_script.specs.Script.{ScriptValue}
-use Rattle.line_texts.specs.LineText.{chance_line}
+use Rattle.link_pair.proofs.Names.{◌≡◌, inl, inr, ℕ, suc, ◌-◌, List, [], ◌∷◌, ◌++◌, length, refl, sym, ap, subst, arith, Option, Some, None}
+use Rattle.link_pair.proofs.Names.{Result, Ok, Err, append-nil, concat, Signal, hearing-in, left_of, leaves-so, Left, RunsTo, EndsInTurn}
+use Rattle.link_pair.proofs.Names.{Written, outputs_of, Wire, LineRun, wire_at, link_of, Carried, and_sent, RunFault, chance_line, IsApart}
+use Rattle.link_pair.proofs.Names.{knows-later, none_got, LinesWait, HaveArrived, AreDue, AreWithin, CountsOver, AddsTurn, held_of}
+use Rattle.link_pair.proofs.Names.{KnowsFiles, Lines, Modems, check_of, run_end, StandsFor, left_by, HoldLeft, HalfAt, HalfIsReady, HasCome}
+use Rattle.link_pair.proofs.Names.{IsEndedByLine, LinkStops, LinkStopsReading, IsStopped, HalfEnds, idle_turn, lasting, Progress, Goes}
+use Rattle.link_pair.proofs.Names.{Ended, turns_on_line, last_ends, IsByLink, IdlesFor, Lasts, Half, LinkEnd, deliveries, Outcome, Done}
+use Rattle.link_pair.proofs.Names.{Broken, Accounts, Turn, trace_text, ScriptValue, Holds-kept, Holds-more, HoldsPart-more, HoldEach-kept}
+use Rattle.link_pair.proofs.Names.{FolderState, GoesOn, KeepsName, OnlyPuts, Holds, HoldEach, Both, of, Role, Originator, Answerer}
+use Rattle.outside_calls.proofs.Putting.{HoldEach-add, HoldPart-add}
 use Rattle.shared_terms.specs.declared.fault.LinkFault.TheVariants as causes
-use Rattle.link_account.specs.Account.{check_of}
-use Rattle.link_run.specs.End.{deliveries}
 use Rattle.link_run.specs.Laws.{HearingsDeliver, SpeakingTakesNothing}
-use Rattle.link_run.specs.Outcomes.{Outcome, Done, Broken}
-use Rattle.link_run.specs.Run.{Accounts, Turn}
-use Rattle.link_run.specs.Trace.{trace_text, turn_text}
-use Rattle.line_run.specs.Sampled.{Wire, LineRun}
+use Rattle.link_run.specs.Trace.{turn_text}
 use Rattle.line_run.specs.Sampled as lines
-use Rattle.line_run.specs.Ends.{Left, RunsTo, EndsBy, EndsInTurn}
-use Rattle.line_run.specs.Scripted.{wire_at, link_of}
-use Rattle.line_run.specs.Stream.{Carried, and_sent}
-use Rattle.line_run.proofs.Leaving.{hearing-in}
-use Rattle.line_run.proofs.WhatIsLeft.{left_of, leaves-so}
-use Rattle.line_world.specs.Lines.{LinesWait, HaveArrived, AreDue}
-use Rattle.line_world.specs.declared.lines.Lines.{Lines}
-use Rattle.line_world.specs.declared.modems.Modems.{Modems}
+use Rattle.line_run.specs.Ends.{EndsBy}
 use Rattle.line_world.specs.declared.step.Step.{Step}
 use Rattle.line_world.specs.declared.step.Step.TheVariants as steps
-use Rattle.line_run.specs.declared.fault.RunFault.{RunFault}
 use Rattle.line_run.specs.declared.fault.RunFault.TheVariants as run_faults
-use Rattle.line_run.specs.Names.{Written, inputs_of, outputs_of}
-use Rattle.line_world.specs.Link.{AreWithin, octets_of}
+use Rattle.line_run.specs.Names.{inputs_of}
+use Rattle.line_world.specs.Link.{octets_of}
 use Rattle.line_world.specs.Modems.{AreKept, AreReady, ModemsAfter}
 use Rattle.line_world.specs.Turn.{added, GoesOnBy, LosesLine, MeetsChance, StopsInTurn, StopsReading, Stops, TurnAnswers, TurnCounts}
-use Rattle.line_world.specs.Turn.{CountsOver}
 use Rattle.line_world.specs.Turn as turns
-use Rattle.line_world.specs.Turns.{AddsTurn, held_of}
-use Rattle.line_world.specs.World.{KnowsFiles}
-use Rattle.line_world.proofs.Folders.{IsApart}
-use Rattle.line_world.proofs.Reached.{held-turn, knows-later, none_got}
-use Rattle.link_pair.specs.Pairs.Beside.{idle_turn, lasting}
-use Rattle.link_pair.specs.Pairs.Pair.{Progress, Goes, Ended, turns_on_line, last_ends, IsByLink, IdlesFor, GoesFor, Lasts}
-use Rattle.link_pair.specs.declared.half.Half.{Half}
-use Rattle.link_pair.specs.declared.half.LinkEnd.{LinkEnd}
+use Rattle.line_world.proofs.Reached.{held-turn}
+use Rattle.link_pair.specs.Pairs.Pair.{GoesFor}
 use Rattle.link_pair.specs.declared.half.LinkEnd.TheVariants as link_ends
-use Rattle.link_pair.specs.Half.{run_end, sorted, MayGoOn, StandsFor, left_by, HoldLeft, HalfAt, HalfIsReady, HasCome}
-use Rattle.link_pair.specs.Half.{IsEndedByLine, LinkStops, LinkStopsReading, IsStopped, HalfEnds}
+use Rattle.link_pair.specs.Half.{sorted, MayGoOn}
 
 -- ---- what a link is that goes on
 

@@ -1,50 +1,25 @@
 -- From every answer to the headline.
-use Rattle.std.proofs.Common.{arith, ◌≡◌, ◌⊎◌, inl, inr, ℕ, Bool, true, false, List, [], ◌++◌, Some, Err, refl, sym, ◌∙◌, ap, subst}
+use Rattle.link_pair.proofs.Names.{arith, ◌≡◌, ◌⊎◌, inl, inr, ℕ, Bool, true, false, List, [], ◌++◌, Some, Err, refl, sym, ◌∙◌, ap, subst}
+use Rattle.link_pair.proofs.Names.{last-only, Answers, both_done_line, Status, Stop, AreOctets, may-run, runs-over, IsFaint, Left, Written}
+use Rattle.link_pair.proofs.Names.{Wire, link_of, held_of, answer_of, result_of, RanTo, EndsBy, pair_job, left_by, first_wire, second_wire}
+use Rattle.link_pair.proofs.Names.{PairEnd, BothDone, LeavesOf, PairRunsTo, by_links, by_line, FaintPairsAreIsolated, Progress, Goes, Ended}
+use Rattle.link_pair.proofs.Names.{turns_in, Lasts, Names, files_of, inputs_of, LastTurns, BreaksAreOctets, ScriptValue, IsInLimits}
+use Rattle.link_pair.proofs.Names.{delay_of, Holds-kept, FolderState, GoesOn, octets_at, Holds, HoldEach, KeepsAll, OnlyOutputs, RefusesOwn}
+use Rattle.link_pair.proofs.Names.{LIMITS, Both, of, Role, Originator, Answerer}
 use Rattle.std.specs.Option.{option_map}
-use Rattle.frame_check.specs.Octets.{AreOctets}
-use Rattle.outside_calls.specs.Folder.{FolderState, GoesOn, octets_at}
 use Rattle.outside_calls.proofs.Steps.{told_later}
-use Rattle.outside_calls.specs.Outputs.{Holds, HoldEach, KeepsAll, OnlyOutputs}
-use Rattle.outside_calls.proofs.Holding.{Holds-kept}
-use Rattle.shared_terms.specs.declared.role.Role.{Role}
-use Rattle.shared_terms.specs.declared.role.Role.TheVariants.{Originator, Answerer}
-use Rattle.shared_terms.specs.Both.{Both, of}
-use Rattle.noise_script.specs.Script.{ScriptValue, IsInLimits, delay_of}
-use Rattle.noise_script.specs.Laws.{BreaksAreOctets}
 use Rattle.link_run.specs.Laws.{agreed_srej}
 use Rattle.link_run.specs.Taken.{taken_octets}
-use Rattle.line_run.specs.Sampled.{Wire}
-use Rattle.line_run.specs.Ends.{Left}
-use Rattle.line_run.specs.Scripted.{link_of}
-use Rattle.line_ends.specs.Completes.{IsFaint}
-use Rattle.command_base.specs.declared.status.Status.{Status}
 use Rattle.command_base.specs.declared.status.Status.TheVariants as status
-use Rattle.command_base.specs.declared.stop.Stop.{Stop}
 use Rattle.command_base.specs.declared.stop.Stop.TheVariants as stops
-use Rattle.command_base.specs.Job.{Answers}
-use Rattle.command_base.specs.Lines.{both_done_line}
-use Rattle.command_base.proofs.Jobs.{last-only, done-of, shared-of}
+use Rattle.command_base.proofs.Jobs.{done-of, shared-of}
 use Rattle.run_inputs.proofs.Answering.{stopped-so}
-use Rattle.run_inputs.specs.declared.limits.TheConstants.{LIMITS}
-use Rattle.run_inputs.specs.Inputs.{RefusesOwn}
-use Rattle.line_run.specs.Names.{Written}
 use Rattle.line_run.specs.Names as written
-use Rattle.line_world.specs.Turns.{held_of}
 use Rattle.run_inputs.specs.Files.{HoldsWhole}
 use Rattle.line_ends.specs.ReadOff.{AreReadOff}
 use Rattle.run_inputs.proofs.Files.{prefix-later}
 use Rattle.line_ends.proofs.ReadingOff.{run-read, turns-read}
-use Rattle.line_ends.proofs.RunLaws.{may-run, runs-over}
-use Rattle.link_pair.specs.Pairs.Beside.{first_wire, second_wire}
-use Rattle.link_pair.specs.Pairs.Pair.{Progress, Goes, Ended, turns_in, Lasts}
-use Rattle.link_pair.specs.Pairs.Ends.{PairEnd, BothDone, LeavesOf, PairRunsTo, by_links}
-use Rattle.link_pair.specs.Pairs.Ends.{by_line}
-use Rattle.link_pair.specs.Pairs.Laws.{AreIsolated, FaintPairsAreIsolated}
-use Rattle.link_pair.specs.Half.{left_by}
-use Rattle.link_pair.specs.declared.command.LastTurns.{LastTurns}
-use Rattle.link_pair.specs.Words.{Names, files_of, inputs_of}
-use Rattle.link_pair.specs.Answers.{answer_of, result_of}
-use Rattle.link_pair.specs.Ends.{RanTo, EndsBy, pair_job}
+use Rattle.link_pair.specs.Pairs.Laws.{AreIsolated}
 use Rattle.link_pair.specs.Ends as ends
 use Rattle.link_pair.specs.Headline.{AreTold, heard_in, CauseIn, LinkRan, Came, came_of, Ran, RanBy, Headline}
 use Rattle.link_pair.proofs.Running.{few-of}

@@ -1,45 +1,24 @@
 -- A link of a pair that has ended.
-use Rattle.std.proofs.Common.{◌≡◌, inl, inr, ℕ, suc, ◌-◌, ◌<◌, List, [], ◌++◌, length, refl, sym, ◌∙◌, ap, subst, arith}
-use Rattle.std.proofs.Common.{Option, Some, None, append-nil}
-use Rattle.std.specs.Prelude.{is_some, true}
-use Rattle.std.proofs.lemmas.Bool.{false≢true}
-use Rattle.outside_calls.specs.Folder.{FolderState, Appended, PartlyAppended, OnlyWrites}
-use Rattle.outside_calls.specs.Outputs.{Holds, HoldEach, KeepsEach}
-use Rattle.outside_calls.proofs.Holding.{Holds-kept, Holds-more, HoldsPart-more}
-use Rattle.frame_check.specs.declared.check.Check.{Check}
+use Rattle.link_pair.proofs.Names.{◌≡◌, inl, inr, ℕ, suc, ◌-◌, ◌<◌, List, [], ◌++◌, length, refl, sym, ◌∙◌, ap, subst, arith, Option, Some}
+use Rattle.link_pair.proofs.Names.{None, append-nil, false≢true, is_some, Signal, Check, Heard, Chance, RunEnd, Left, Written, outputs_of}
+use Rattle.link_pair.proofs.Names.{Wire, IsHeardOf, LineEnd, EndsLine, EndsLineBy, wire_at, link_of, Carried, and_sent, RunFault}
+use Rattle.link_pair.proofs.Names.{chance_line, IsApart, knows-later, none_got, LinesWait, HaveArrived, held_of, KnowsFiles, Lines}
+use Rattle.link_pair.proofs.Names.{check_of, StandsFor, HoldLeft, HasCome, IsEndedByLine, LinkStops, IsStopped, HalfEnds, idle_turn}
+use Rattle.link_pair.proofs.Names.{lasting, Progress, Goes, Ended, turns_on_line, HearsIdly, IdlesFor, HasEnded, Lasts, Half, LinkEnd}
+use Rattle.link_pair.proofs.Names.{Accounts, Turn, ScriptValue, Holds-kept, Holds-more, HoldsPart-more, FolderState, Holds, HoldEach}
+use Rattle.link_pair.proofs.Names.{KeepsEach, Both, of, other, Role, Originator, Answerer}
+use Rattle.std.specs.Prelude.{true}
+use Rattle.outside_calls.specs.Folder.{Appended, PartlyAppended, OnlyWrites}
 use Rattle.frame_check.specs.declared.check.Check.TheVariants.{Sixteen}
 use Rattle.lapm_frames.specs.declared.sent.Sent.TheVariants as slots
-use Rattle.lapm_frames.specs.declared.heard.Heard.{Heard}
-use Rattle.lapm_frames.specs.declared.heard.Heard.TheVariants.{Chance}
-use Rattle.shared_terms.specs.declared.role.Role.{Role}
-use Rattle.shared_terms.specs.declared.role.Role.TheVariants.{Originator, Answerer}
-use Rattle.shared_terms.specs.Role.{other}
-use Rattle.shared_terms.specs.Both.{Both, of}
-use Rattle.detection.specs.Slots.{Signal}
-use Rattle.noise_script.specs.Script.{ScriptValue}
-use Rattle.line_texts.specs.LineText.{chance_line}
-use Rattle.link_account.specs.Account.{check_of}
-use Rattle.link_run.specs.Run.{Accounts, Turn}
-use Rattle.line_run.specs.Sampled.{Wire, IsHeardOf, IsHeardWell, LineEnd, EndsLine, EndsLineBy}
+use Rattle.line_run.specs.Sampled.{IsHeardWell}
 use Rattle.line_run.specs.Sampled as lines
-use Rattle.line_run.specs.Ends.{RunEnd, Left}
-use Rattle.line_run.specs.Scripted.{wire_at, link_of}
-use Rattle.line_run.specs.Stream.{Carried, and_sent}
-use Rattle.line_world.specs.Lines.{LinesWait, HaveArrived, ArrivesBoth, ArePut}
-use Rattle.line_world.specs.declared.lines.Lines.{Lines}
-use Rattle.line_run.specs.Names.{Written, outputs_of, received_of}
-use Rattle.line_world.specs.Turns.{held_of}
-use Rattle.line_world.specs.World.{KnowsFiles}
-use Rattle.line_world.proofs.Folders.{IsApart, receives-none, lines-only}
-use Rattle.line_world.proofs.Reached.{knows-later, none_got}
-use Rattle.link_pair.specs.Pairs.Beside.{idle_turn, lasting}
-use Rattle.link_pair.specs.Pairs.Pair.{Progress, Goes, Ended, turns_on_line, HearsIdly, IdlesFor, HasEnded, Lasts}
+use Rattle.line_world.specs.Lines.{ArrivesBoth, ArePut}
+use Rattle.line_run.specs.Names.{received_of}
+use Rattle.line_world.proofs.Folders.{receives-none, lines-only}
 use Rattle.link_pair.proofs.Pairs.Agreeing.{length-lasting}
-use Rattle.link_pair.specs.declared.half.Half.{Half}
-use Rattle.link_pair.specs.declared.half.LinkEnd.{LinkEnd}
-use Rattle.line_run.specs.declared.fault.RunFault.{RunFault}
 use Rattle.line_world.specs.Turn.{IsWriting}
-use Rattle.link_pair.specs.Half.{HasStopped, StandsFor, HoldLeft, HasCome, IsEndedByLine, LinkStops, IsStopped, HalfEnds}
+use Rattle.link_pair.specs.Half.{HasStopped}
 use Rattle.link_pair.proofs.Going.{kept-none}
 
 -- ---- flags of both ends

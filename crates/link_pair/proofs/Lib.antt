@@ -1,3 +1,4 @@
+mod Names
 pub mod Pairs
 mod Reading
 mod Running

@@ -1,37 +1,19 @@
 -- A pair, from turn to turn of its links.
-use Rattle.std.proofs.Common.{◌≡◌, ◌⊎◌, inl, inr, ℕ, zero, suc, ◌+◌, ◌*◌, ◌^◌, ◌<◌, ◌≤◌, ◌||◌, Bool, true, false, List, [], ◌∷◌, ◌++◌}
-use Rattle.std.proofs.Common.{length, arith, refl, sym, ◌∙◌, ap, subst, Option, Some, None}
+use Rattle.link_pair.proofs.Names.{◌≡◌, ◌⊎◌, inl, inr, ℕ, zero, suc, ◌+◌, ◌*◌, ◌^◌, ◌<◌, ◌≤◌, ◌||◌, Bool, true, false, List, [], ◌∷◌, ◌++◌}
+use Rattle.link_pair.proofs.Names.{length, arith, refl, sym, ◌∙◌, ap, subst, Option, Some, None, Left, Written, Wire, wire_at, link_of}
+use Rattle.link_pair.proofs.Names.{ScriptsHaveDelays, Carried, carry, and_sent, AreSent, LinesWait, AreDue, AreWithin, Lines, Modems}
+use Rattle.link_pair.proofs.Names.{run_end, StandsFor, HalfAt, HalfIsReady, Follows, both_ended, streams_at, Awaits, first_dlci}
+use Rattle.link_pair.proofs.Names.{second_dlci, slot_in, after_second, after_first, first_wire, second_wire, Which, First, Second, is_going}
+use Rattle.link_pair.proofs.Names.{firsts_at, AreFewRounds, AreShort, PairsHaveFewRounds, FirstSlotsAreDue, SecondSlotsAreDue, Progress}
+use Rattle.link_pair.proofs.Names.{Goes, Ended, turns_in, turns_on_line, Lasts, PairAt, both_sent, first_sent, LinkEnd, Endings, Pair, Link}
+use Rattle.link_pair.proofs.Names.{Accounts, Turn, Spoken, ScriptValue, IsInLimits, FolderState, Both, of, Role, Originator, Answerer}
 use Rattle.std.proofs.lemmas.List.{length-append}
-use Rattle.outside_calls.specs.Folder.{FolderState}
-use Rattle.shared_terms.specs.declared.role.Role.{Role}
-use Rattle.shared_terms.specs.declared.role.Role.TheVariants.{Originator, Answerer}
-use Rattle.shared_terms.specs.Both.{Both, of}
-use Rattle.noise_script.specs.Script.{ScriptValue, IsInLimits}
-use Rattle.link_run.specs.Run.{Link, Accounts, Turn, Spoken}
-use Rattle.line_run.specs.Sampled.{Wire}
-use Rattle.line_run.specs.Ends.{Left}
-use Rattle.line_run.specs.Scripted.{wire_at, link_of, ScriptsHaveDelays}
-use Rattle.line_run.specs.Stream.{Carried, carry, and_sent, AreSent}
-use Rattle.line_world.specs.Lines.{LinesWait, AreDue, PassedFew, from}
-use Rattle.line_world.specs.declared.lines.Lines.{Lines}
+use Rattle.line_world.specs.Lines.{PassedFew, from}
 use Rattle.line_world.proofs.Waiting.{passed-few}
-use Rattle.line_world.specs.declared.modems.Modems.{Modems}
-use Rattle.line_run.specs.Names.{Written}
-use Rattle.line_world.specs.Link.{AreWithin}
-use Rattle.link_pair.specs.Pairs.Beside.{first_dlci, second_dlci, slot_in, after_second, after_first, first_wire, second_wire}
-use Rattle.link_pair.specs.Pairs.Pair.{Progress, Goes, Ended, turns_in, turns_on_line, Lasts, PairAt}
-use Rattle.link_pair.specs.Pairs.Ends.{Which, First, Second, is_going, firsts_at}
-use Rattle.link_pair.specs.Pairs.Stream.{both_sent, first_sent}
-use Rattle.link_pair.specs.Pairs.Laws.{AreFewRounds, AreShort, PairsHaveFewRounds, FirstSlotsAreDue, SecondSlotsAreDue}
 use Rattle.link_pair.proofs.Pairs.Clear.{Beside}
 use Rattle.link_pair.proofs.Pairs.Agreeing.{same-lasts, slot-stays}
 use Rattle.link_pair.proofs.Pairs.Streaming.{both-length}
 use Rattle.link_pair.proofs.Pairs.Placing.{sent-on-line, length-on-line}
-use Rattle.link_pair.specs.declared.half.LinkEnd.{LinkEnd}
-use Rattle.link_pair.specs.declared.two_links.Pair.{Pair}
-use Rattle.link_pair.specs.declared.two_links.Endings.{Endings}
-use Rattle.link_pair.specs.Half.{run_end, StandsFor, HalfAt, HalfIsReady, Follows}
-use Rattle.link_pair.specs.Pair.{both_ended, streams_at, Awaits}
 
 pub record PairLaws : Type 0 where
   pub delays : ScriptsHaveDelays

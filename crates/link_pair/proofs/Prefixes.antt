@@ -1,43 +1,22 @@
 -- However a pair ends, each received file is as it was, or holds the beginning of the file of the other end of its link.
-use Rattle.std.proofs.Common.{◌≡◌, inl, inr, ℕ, suc, List, [], ◌∷◌, ◌++◌, Some, Result, Ok, Err, refl, sym, ◌∙◌, ap, subst}
-use Rattle.std.proofs.Common.{arith, append-nil}
+use Rattle.link_pair.proofs.Names.{◌≡◌, inl, inr, ℕ, suc, List, [], ◌∷◌, ◌++◌, Some, Result, Ok, Err, refl, sym, ◌∙◌, ap, subst, arith}
+use Rattle.link_pair.proofs.Names.{append-nil, concat, Stop, RunLaws, may-run, runs-over, hearing-in, Left, Written, Wire, LineRun, link_of}
+use Rattle.link_pair.proofs.Names.{AddsTurn, held_of, result_of, AreFiles, StopsInRound, EndsBy, left_by, LinkStops, LinkStopsReading}
+use Rattle.link_pair.proofs.Names.{first_wire, second_wire, Which, First, Second, BothDone, firsts_at, ArePrefixes, PairsLeavePrefixes}
+use Rattle.link_pair.proofs.Names.{DonePairsAreWhole, FaintPairsAreIsolated, Progress, Goes, Ended, turns_in, Lasts, PairAt, Names}
+use Rattle.link_pair.proofs.Names.{LastTurns, deliveries, Link, Accounts, Turn, BreaksAreOctets, ScriptValue, IsInLimits, delay_of}
+use Rattle.link_pair.proofs.Names.{FolderState, GoesOn, Holds, HoldEach, KeepsAll, KeepsEach, CreatesPart, LIMITS, Both, of, IsPrefixOf}
+use Rattle.link_pair.proofs.Names.{other, Role, Originator, Answerer}
 use Rattle.std.proofs.lemmas.List.Folds.{concat-append}
-use Rattle.std.specs.List.{concat}
-use Rattle.shared_terms.specs.Prefix.{IsPrefixOf}
-use Rattle.outside_calls.specs.Folder.{FolderState, GoesOn}
-use Rattle.outside_calls.specs.Outputs.{Holds, HoldsPart, HoldEach, HoldPart, KeptOrEmpty, KeepsAll, KeepsEach, CreatesPart}
-use Rattle.shared_terms.specs.declared.role.Role.{Role}
-use Rattle.shared_terms.specs.declared.role.Role.TheVariants.{Originator, Answerer}
-use Rattle.shared_terms.specs.Role.{other}
-use Rattle.shared_terms.specs.Both.{Both, of}
-use Rattle.noise_script.specs.Script.{ScriptValue, IsInLimits, delay_of}
-use Rattle.noise_script.specs.Laws.{BreaksAreOctets}
-use Rattle.link_run.specs.End.{deliveries}
-use Rattle.link_run.specs.Run.{Link, Accounts, Turn}
+use Rattle.outside_calls.specs.Outputs.{HoldsPart, HoldPart, KeptOrEmpty}
 use Rattle.link_run.specs.Laws.{HoldPrefixes, TakesWhatPassed}
-use Rattle.line_run.specs.Sampled.{Wire, LineRun}
-use Rattle.line_run.specs.Ends.{Left}
-use Rattle.line_run.specs.Scripted.{link_of}
-use Rattle.line_run.proofs.Leaving.{hearing-in}
-use Rattle.command_base.specs.declared.stop.Stop.{Stop}
 use Rattle.command_base.specs.declared.stop.Stop.TheVariants as stops
-use Rattle.run_inputs.specs.declared.limits.TheConstants.{LIMITS}
-use Rattle.line_run.specs.Names.{Written}
 use Rattle.line_run.specs.Names as written
-use Rattle.line_world.specs.Turns.{AddsTurn, held_of}
 use Rattle.run_inputs.specs.Files.{KeptOrPrefix}
-use Rattle.line_ends.proofs.RunLaws.{RunLaws, may-run, runs-over}
 use Rattle.run_inputs.proofs.Files.{prefix-of, part-of, empty-of}
-use Rattle.link_pair.specs.Pairs.Beside.{first_wire, second_wire}
-use Rattle.link_pair.specs.Pairs.Pair.{Progress, Goes, Ended, turns_in, Lasts, PairAt}
-use Rattle.link_pair.specs.Pairs.Ends.{Which, First, Second, BothDone, firsts_at}
-use Rattle.link_pair.specs.Pairs.Laws.{ArePrefixes, PairsLeavePrefixes, DonePairsAreWhole, FaintPairsAreIsolated}
-use Rattle.link_pair.specs.Half.{left_by, AddsMore, LinkStops, LinkStopsReading}
+use Rattle.link_pair.specs.Half.{AddsMore}
 use Rattle.link_pair.specs.Pair.{StopsTurn}
-use Rattle.link_pair.specs.declared.command.LastTurns.{LastTurns}
-use Rattle.link_pair.specs.Words.{Names, outputs_of}
-use Rattle.link_pair.specs.Answers.{result_of}
-use Rattle.link_pair.specs.Ends.{AreFiles, StopsInRound, EndsBy}
+use Rattle.link_pair.specs.Words.{outputs_of}
 use Rattle.link_pair.specs.Ends as ends
 
 -- the laws that the headline rests on

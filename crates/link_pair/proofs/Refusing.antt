@@ -1,19 +1,10 @@
 -- What is refused is refused before the outputs are created.
-use Rattle.std.proofs.Common.{arith, ◌≡◌, ◌∙◌, inl, inr, Result, Err, sym, ap, subst}
-use Rattle.outside_calls.specs.Folder.{FolderState}
-use Rattle.outside_calls.specs.Outputs.{KeepsAll}
-use Rattle.command_base.specs.declared.status.Status.{Status}
-use Rattle.command_base.specs.declared.stop.Stop.{Stop}
+use Rattle.link_pair.proofs.Names.{arith, ◌≡◌, ◌∙◌, inl, inr, Result, Err, sym, ap, subst, Status, Stop, answer_of, result_of, EndsBy, Ends}
+use Rattle.link_pair.proofs.Names.{PairEnd, Names, LastTurns, FolderState, KeepsAll, LIMITS}
 use Rattle.command_base.specs.declared.stop.Stop.TheVariants as stops
 use Rattle.command_base.specs.Status.{IsRefusal}
 use Rattle.command_base.specs.Stops.{end_status}
 use Rattle.command_base.proofs.Jobs.{refusal-own}
-use Rattle.run_inputs.specs.declared.limits.TheConstants.{LIMITS}
-use Rattle.link_pair.specs.Pairs.Ends.{PairEnd}
-use Rattle.link_pair.specs.declared.command.LastTurns.{LastTurns}
-use Rattle.link_pair.specs.Words.{Names}
-use Rattle.link_pair.specs.Answers.{answer_of, result_of}
-use Rattle.link_pair.specs.Ends.{EndsBy, Ends}
 
 -- the answer of a pair that ended is that of its end
 pub answer-is : (end : PairEnd) → end_status (result_of end) ≡ answer_of end

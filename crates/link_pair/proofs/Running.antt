@@ -1,36 +1,24 @@
 -- From the phases of a pair to how it ends.
-use Rattle.std.proofs.Common.{inr, ℕ, List, [], ◌∷◌, refl, ◌∙◌, arith}
-use Rattle.outside_calls.specs.Folder.{FolderState, GoesOn, KeepsName, OnlyReads, CountsStand}
+use Rattle.link_pair.proofs.Names.{inr, ℕ, List, [], ◌∷◌, refl, ◌∙◌, arith, StopCounts, EndCounts, Stop, Written, Wire, link_of}
+use Rattle.link_pair.proofs.Names.{LineRunsEndSoon, RunFault, FaultCountsOver, KnowsFiles, result_of, IsBegun, RanTo, StopsInRound, EndsBy}
+use Rattle.link_pair.proofs.Names.{Ends, LinkStops, LinkStopsReading, FaultEnds, first_wire, second_wire, PairEnd, Progress, turns_in}
+use Rattle.link_pair.proofs.Names.{Lasts, Names, files_of, inputs_of, Link, ScriptValue, IsInLimits, SomeRose-earlier, FolderState, GoesOn}
+use Rattle.link_pair.proofs.Names.{KeepsName, CountsStand, IsNoneOf, AreApartFrom, KeepsEach, CreatesPart, OnlyOutputs, OnlyPuts, LIMITS}
+use Rattle.link_pair.proofs.Names.{Both}
+use Rattle.outside_calls.specs.Folder.{OnlyReads}
 use Rattle.outside_calls.proofs.Steps.{GoesOn-trans, KeepsName-trans}
-use Rattle.outside_calls.specs.Outputs.{IsNoneOf, AreApart, AreNoneOf, AreApartFrom, KeepsEach, CreatesPart, OnlyOutputs, OnlyPuts}
-use Rattle.outside_calls.proofs.Putting.{KeepsEach-reads, SomeRose-earlier, inputs-kept, none-fronts}
-use Rattle.shared_terms.specs.Both.{Both}
-use Rattle.noise_script.specs.Script.{ScriptValue, IsInLimits}
-use Rattle.link_run.specs.Run.{Link}
-use Rattle.line_run.specs.Sampled.{Wire}
-use Rattle.line_run.specs.Scripted.{link_of}
-use Rattle.line_run.specs.Scripts.{LineRunsEndSoon}
-use Rattle.line_run.specs.Names.{Written}
-use Rattle.line_world.specs.World.{KnowsFiles}
-use Rattle.command_base.specs.declared.stop.Stop.{Stop}
-use Rattle.command_base.specs.Stops.{StopCounts, EndCounts}
+use Rattle.outside_calls.specs.Outputs.{AreApart, AreNoneOf}
+use Rattle.outside_calls.proofs.Putting.{KeepsEach-reads, inputs-kept, none-fronts}
 use Rattle.command_base.proofs.Creating.{CreatesPart-earlier}
 use Rattle.run_inputs.specs.declared.limits.Limits.{Limits}
-use Rattle.run_inputs.specs.declared.limits.TheConstants.{LIMITS}
 use Rattle.run_inputs.specs.Inputs.{Refuses}
 use Rattle.run_inputs.proofs.Files.{file-is}
-use Rattle.link_pair.specs.Pairs.Beside.{first_wire, second_wire}
-use Rattle.link_pair.specs.Pairs.Pair.{Progress, turns_in, Lasts}
-use Rattle.link_pair.specs.Pairs.Ends.{PairEnd, LineLost, ChanceMatch}
-use Rattle.line_run.specs.declared.fault.RunFault.{RunFault}
+use Rattle.link_pair.specs.Pairs.Ends.{LineLost, ChanceMatch}
 use Rattle.line_run.specs.declared.fault.RunFault.TheVariants as faults
-use Rattle.line_world.specs.Turn.{FaultCountsOver}
-use Rattle.link_pair.specs.Half.{LinkStops, LinkStopsReading}
-use Rattle.link_pair.specs.Pair.{PairEnded, PairStops, FaultEnds}
-use Rattle.link_pair.specs.Words.{Names, files_of, inputs_of, outputs_of}
+use Rattle.link_pair.specs.Pair.{PairEnded, PairStops}
+use Rattle.link_pair.specs.Words.{outputs_of}
 use Rattle.run_inputs.specs.Answers.{fault_stop}
-use Rattle.link_pair.specs.Answers.{result_of}
-use Rattle.link_pair.specs.Ends.{IsBegun, Takes, RanTo, IsFew, StopsInRound, StopsCreating, EndsBy, Ends}
+use Rattle.link_pair.specs.Ends.{Takes, IsFew, StopsCreating}
 
 -- the inputs were not taken
 pub ends-refused : (l : Limits) (old new : FolderState) (n : Names) (stop : Stop) → OnlyReads old new

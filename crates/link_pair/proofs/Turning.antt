@@ -1,38 +1,21 @@
 -- What a link's turn comes to for the pair.
-use Rattle.std.proofs.Common.{◌≡◌, ◌⊎◌, ℕ, suc, ◌+◌, ◌<◌, max, true, false, List, [], length, arith, refl, sym, ◌∙◌}
-use Rattle.std.proofs.Common.{ap, subst, Option, Some, None, Result, Ok, Err, append-nil}
-use Rattle.std.specs.List.{concat}
-use Rattle.outside_calls.specs.Folder.{FolderState}
-use Rattle.outside_calls.specs.Outputs.{OnlyPuts}
-use Rattle.shared_terms.specs.declared.role.Role.{Role}
-use Rattle.shared_terms.specs.declared.role.Role.TheVariants.{Originator, Answerer}
-use Rattle.shared_terms.specs.Both.{Both, of}
-use Rattle.noise_script.specs.Script.{ScriptValue}
-use Rattle.link_run.specs.Run.{Link, Accounts, Turn}
-use Rattle.link_run.specs.Trace.{trace_text}
-use Rattle.line_run.specs.Sampled.{Wire, LineEnd}
+use Rattle.link_pair.proofs.Names.{◌≡◌, ◌⊎◌, ℕ, suc, ◌+◌, ◌<◌, max, true, false, List, [], length, arith, refl, sym, ◌∙◌, ap, subst, Option}
+use Rattle.link_pair.proofs.Names.{Some, None, Result, Ok, Err, append-nil, concat, Left, Written, outputs_of, Wire, LineEnd, wire_at}
+use Rattle.link_pair.proofs.Names.{link_of, Carried, RunFault, LinesWait, Lines, run_end, left_by, HoldLeft, Follows, HasCome}
+use Rattle.link_pair.proofs.Names.{IsEndedByLine, LinkStops, LinkStopsReading, IsStopped, HalfEnds, HalfAt, both_ended, streams_at, Awaits}
+use Rattle.link_pair.proofs.Names.{HaveEnded, FaultEndsIn, Comes, first_dlci, second_dlci, after_second, after_first, first_wire}
+use Rattle.link_pair.proofs.Names.{second_wire, First, Second, is_going, LeavesOf, by_links, by_line, Progress, Goes, Ended, turns_in}
+use Rattle.link_pair.proofs.Names.{HasEnded, Lasts, PairAt, Half, LinkEnd, Endings, Pair, Link, Accounts, Turn, trace_text, ScriptValue}
+use Rattle.link_pair.proofs.Names.{FolderState, OnlyPuts, Both, of, Role, Originator, Answerer}
 use Rattle.line_run.specs.Sampled as lines
-use Rattle.line_run.specs.Ends.{Left}
-use Rattle.line_run.specs.Scripted.{wire_at, link_of}
-use Rattle.line_run.specs.Stream.{Carried}
-use Rattle.line_world.specs.Lines.{LinesWait}
-use Rattle.line_world.specs.declared.lines.Lines.{Lines}
-use Rattle.line_run.specs.Names.{Written, outputs_of}
-use Rattle.link_pair.specs.Pairs.Beside.{first_dlci, second_dlci, after_second, after_first, first_wire, second_wire}
-use Rattle.link_pair.specs.Pairs.Pair.{Progress, Goes, Ended, turns_in, HasEnded, Lasts, PairAt}
-use Rattle.link_pair.specs.Pairs.Ends.{First, Second, is_going, LeavesOf, BothEnd, by_links, by_line}
+use Rattle.link_pair.specs.Pairs.Ends.{BothEnd}
 use Rattle.link_pair.specs.Pairs.Ends as pairs
 use Rattle.link_pair.proofs.Pairs.Clear.{Beside}
 use Rattle.link_pair.proofs.Pairs.Placing.{length-on-line}
-use Rattle.link_pair.specs.declared.half.Half.{Half}
-use Rattle.link_pair.specs.declared.half.LinkEnd.{LinkEnd}
-use Rattle.line_run.specs.declared.fault.RunFault.{RunFault}
 use Rattle.line_run.specs.declared.fault.RunFault.TheVariants as faults
-use Rattle.link_pair.specs.declared.two_links.Pair.{Pair}
-use Rattle.link_pair.specs.declared.two_links.Endings.{Endings}
-use Rattle.link_pair.specs.Half.{run_end, last_turn, left_by, HoldLeft, Follows, HasCome, IsEndedByLine, LinkStops, LinkStopsReading}
-use Rattle.link_pair.specs.Half.{IsStopped, HalfEnds, HalfAt, HalfAnswers}
-use Rattle.link_pair.specs.Pair.{both_ended, streams_at, Awaits, HaveEnded, last_round, EndedIn, StopsIn, FaultEndsIn, Comes}
+use Rattle.link_pair.specs.Half.{last_turn}
+use Rattle.link_pair.specs.Half.{HalfAnswers}
+use Rattle.link_pair.specs.Pair.{last_round, EndedIn, StopsIn}
 use Rattle.link_pair.proofs.Beside.{AllApart, first-beside, second-beside, known-beside, held-beside}
 use Rattle.link_pair.proofs.Pairing.{PairLaws, AreOver, either, counted, waits-over, at-first, at-second, after-first-turn}
 use Rattle.link_pair.proofs.Pairing.{after-second-turn, first-at, second-at, stands-going, stands-over}

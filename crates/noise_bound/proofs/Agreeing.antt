@@ -1,21 +1,14 @@
 -- What survivors have in common with labels that survive at each of their places, from whatever states sequences start.
-use Rattle.std.proofs.Common.{◌≡◌, ℕ, ◌+◌, ◌-◌, ◌*◌, ◌<◌, ◌≤◌, ◌⊎◌, inl, inr, Bool, true, List, [], ◌∷◌, ◌++◌, length, map, take, drop}
-use Rattle.std.proofs.Common.{arith, length-append, append_assoc, refl, sym, ◌∙◌, ap, subst}
-use Rattle.std.proofs.lemmas.Bool.{cases_lt}
-use Rattle.std.proofs.lemmas.List.{append-nil, map-append, take_at, take-append-le, take-append-drop, length-take-le, take_all}
-use Rattle.shared_terms.specs.Prefix.{IsPrefixOf}
-use Rattle.symbol_map.specs.declared.sample.Sample.{Sample}
-use Rattle.symbol_map.specs.Points.{point_of}
-use Rattle.trellis_tables.specs.Sequences.{Leads, cost}
-use Rattle.trellis_tables.specs.Table.{next_state}
-use Rattle.trellis_tables.specs.Laws.{far_from}
+use Rattle.noise_bound.proofs.Names.{◌≡◌, ℕ, ◌+◌, ◌-◌, ◌*◌, ◌<◌, ◌≤◌, ◌⊎◌, inl, inr, Bool, true, List, [], ◌∷◌, ◌++◌, length, map, take}
+use Rattle.noise_bound.proofs.Names.{drop, arith, length-append, append_assoc, refl, sym, ◌∙◌, ap, subst, cases_lt, map-append, take_at}
+use Rattle.noise_bound.proofs.Names.{take-append-le, take-append-drop, length-take-le, take_all, IsSurvivor, IsReleased, IsSequence}
+use Rattle.noise_bound.proofs.Names.{v32_code, IsPrefixOf, point_of, Sample, Leads-split, far_from, Leads, cost, next_state}
+use Rattle.std.proofs.lemmas.List.{append-nil}
 use Rattle.trellis_tables.specs.V32Laws.{v32_bounded, v32_within}
-use Rattle.trellis_tables.proofs.Sequences.{Leads-split, Leads_once}
-use Rattle.exact_decoder.specs.Surviving.Trellises.{Trellis, IsSequence}
-use Rattle.exact_decoder.specs.Surviving.Survivors.{IsSurvivor, IsReleased}
+use Rattle.trellis_tables.proofs.Sequences.{Leads_once}
+use Rattle.exact_decoder.specs.Surviving.Trellises.{Trellis}
 use Rattle.exact_decoder.proofs.Surviving.Release.{survivor-one}
 use Rattle.exact_decoder.proofs.Surviving.Bellman.{least_cost, sequence-more, survivor-front}
-use Rattle.exact_decoder.specs.Surviving.V32.{v32_code}
 use Rattle.noise_bound.proofs.NoiselessCosts.{length-points, cost-append}
 use Rattle.noise_bound.proofs.Meetings.{Parted, Meeting, meets, parted-now, parted-cost, behind-cost}
 use Rattle.noise_bound.proofs.Detours.{other-end}

@@ -1,10 +1,8 @@
 -- Which bits may differ behind a descrambler.
-use Rattle.std.proofs.Common.{◌≡◌, ◌≢◌, ℕ, ◌+◌, ◌-◌, ◌<◌, ◌≤◌, ◌⊎◌, inl, inr, Bool, false, List, length, get_or, nat_lt, arith}
-use Rattle.std.proofs.lemmas.Bool.{cases_lt, cases_eq}
-use Rattle.std.proofs.lemmas.Bool.Decides.{nat_tests}
-use Rattle.scramblers.specs.Stream.{bit_at_place, earlier}
-use Rattle.scramblers.proofs.Readings.{depends_on_three}
-use Rattle.line_coding.specs.Demodulates.{line_of, Demodulates}
+use Rattle.noise_bound.proofs.Names.{◌≡◌, ◌≢◌, ℕ, ◌+◌, ◌-◌, ◌<◌, ◌≤◌, ◌⊎◌, inl, inr, Bool, false, List, length, get_or, nat_lt, arith}
+use Rattle.noise_bound.proofs.Names.{cases_lt, cases_eq, nat_tests, line_of, depends_on_three, earlier}
+use Rattle.scramblers.specs.Stream.{bit_at_place}
+use Rattle.line_coding.specs.Demodulates.{Demodulates}
 use Rattle.noise_bound.specs.Turned.{IsOfFirstTwo}
 use Rattle.noise_bound.specs.Laws.{QuadsAreAlike, QuadsAreAlikeOfAny, FewBitsDiffer, FewBitsDifferOfAny}
 use Rattle.noise_bound.proofs.Turned.{BothBegin, begin-from_one, begin-from_any}

@@ -1,16 +1,11 @@
 -- Each state is reached from the sent labels at a cost of at most 18: the last two labels are others.
-use Rattle.std.proofs.Common.{◌≡◌, ℕ, ◌+◌, ◌*◌, ◌<◌, ◌≤◌, List, [], ◌∷◌, ◌++◌, length, map, arith, length-append, Some, refl, sym, ◌∙◌, ap}
-use Rattle.std.proofs.Common.{subst}
-use Rattle.std.proofs.lemmas.List.{map-append}
-use Rattle.symbol_map.specs.Labels.{y0_of, y_of, IsInSubset}
-use Rattle.symbol_map.specs.Points.{point_of}
+use Rattle.noise_bound.proofs.Names.{◌≡◌, ℕ, ◌+◌, ◌*◌, ◌<◌, ◌≤◌, List, [], ◌∷◌, ◌++◌, length, map, arith, length-append, Some, refl, sym}
+use Rattle.noise_bound.proofs.Names.{◌∙◌, ap, subst, map-append, y_of, point_of, Leads-split, branch_of, far_from, Leads, cost, next_state}
+use Rattle.symbol_map.specs.Labels.{y0_of, IsInSubset}
 use Rattle.symbol_map.proofs.MapFacts.{subsets_are_near}
-use Rattle.trellis_tables.specs.Sequences.{Leads, cost}
-use Rattle.trellis_tables.specs.Table.{next_state}
 use Rattle.trellis_tables.specs.V32Laws.{v32_reaches}
-use Rattle.trellis_tables.specs.Laws.{far_from}
-use Rattle.trellis_tables.proofs.Sequences.{Leads-append, Leads-split}
-use Rattle.trellis_tables.proofs.Tables.{branch_of, next_state_from, y_of-lt}
+use Rattle.trellis_tables.proofs.Sequences.{Leads-append}
+use Rattle.trellis_tables.proofs.Tables.{next_state_from, y_of-lt}
 use Rattle.noise_bound.proofs.NoiselessCosts.{far-swap, length-points, cost-append, cost-own}
 
 -- a label near another, by which a state is left as by a third

@@ -1,20 +1,15 @@
 -- How far two sequences are apart that meet: each fact is a test over pairs of states and labels that computes, and what it shows.
-use Rattle.std.proofs.Common.{◌≡◌, ◌≢◌, ℕ, suc, ◌+◌, ◌*◌, ◌/◌, ◌≤◌, ◌⊎◌, inl, inr, Bool, true, ◌||◌, if◌then◌else◌, nat_eq, List, [], ◌∷◌}
-use Rattle.std.proofs.Common.{length, map, arith, Option, Some, None, refl, sym, ◌∙◌, ap, subst, eq-eqb}
+use Rattle.noise_bound.proofs.Names.{◌≡◌, ◌≢◌, ℕ, suc, ◌+◌, ◌*◌, ◌/◌, ◌≤◌, ◌⊎◌, inl, inr, Bool, true, nat_eq, List, [], ◌∷◌, length, map}
+use Rattle.noise_bound.proofs.Names.{arith, Option, Some, None, refl, sym, ◌∙◌, ap, subst, eq-eqb, eqb-true, cases_eq, apart_in_all, apart}
+use Rattle.noise_bound.proofs.Names.{point_of, leaves_apart, branch_of, far_from, Leads, cost, next_state}
+use Rattle.std.proofs.Common.{◌||◌, if◌then◌else◌}
 use Rattle.std.specs.Prelude.{nat_le, slice_index}
-use Rattle.std.proofs.lemmas.Bool.{leb-true, eqb-true, or_cases, cases_eq}
+use Rattle.std.proofs.lemmas.Bool.{leb-true, or_cases}
 use Rattle.symbol_map.specs.Finite.{each_below, at_each, at_each_pair}
-use Rattle.symbol_map.specs.Distance.{apart}
-use Rattle.symbol_map.specs.Points.{point_of}
-use Rattle.trellis_tables.specs.Laws.{far_from}
-use Rattle.trellis_tables.specs.Sequences.{Leads, cost}
-use Rattle.trellis_tables.specs.Table.{next_state}
-use Rattle.trellis_tables.proofs.Tables.{branch_of}
-use Rattle.trellis_tables.proofs.Branches.{leaves_apart}
 use Rattle.noise_bound.proofs.NoiselessCosts.{far-is}
 use Rattle.noise_bound.proofs.Meetings.{Parted, parted-cost}
 use Rattle.noise_bound.proofs.Detours.{other-end}
-use Rattle.noise_bound.specs.Distances.{apart_in_all, AreApartFrom}
+use Rattle.noise_bound.specs.Distances.{AreApartFrom}
 use Rattle.noise_bound.specs.DistanceLaws.{MeetingIsFar, MeetingAgainIsFar, ApartIsFar, PartingIsFar, EndsAreNear, CostIsDistance}
 
 -- the least that two sequences differ by from two states until they meet, a line for each state of one of them

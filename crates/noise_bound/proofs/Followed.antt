@@ -1,23 +1,10 @@
 -- Survivors of samples without noise, and what they release.
-use Rattle.std.proofs.Common.{◌≡◌, ℕ, ◌+◌, ◌≤◌, ◌⊎◌, inl, inr, Bool, true, nat_eq, List, ◌++◌, length, map, take, drop, arith}
-use Rattle.std.proofs.Common.{append_assoc, None, refl, sym, ◌∙◌, ap, subst, eq-eqb}
-use Rattle.std.proofs.lemmas.Bool.{cases_lt, cases_eq, eqb-true}
-use Rattle.std.proofs.lemmas.List.{take-map, take_all, take-append-drop, length-take-le}
-use Rattle.symbol_map.specs.declared.sample.Sample.{Sample}
-use Rattle.symbol_map.specs.Points.{point_of}
-use Rattle.trellis_tables.specs.Sequences.{Leads, cost}
-use Rattle.trellis_tables.specs.Table.{next_state}
-use Rattle.trellis_tables.specs.Laws.{far_from}
-use Rattle.trellis_tables.proofs.Sequences.{Leads-take}
-use Rattle.exact_decoder.specs.Surviving.Trellises.{IsSequence}
-use Rattle.shared_terms.specs.Prefix.{IsPrefixOf}
-use Rattle.exact_decoder.specs.Surviving.Orders.{Beats}
-use Rattle.exact_decoder.specs.Surviving.Survivors.{IsSurvivor, IsReleased, LostIs}
-use Rattle.exact_decoder.proofs.Surviving.Fronts.{lost-once}
-use Rattle.exact_decoder.specs.Surviving.V32.{v32_code}
-use Rattle.exact_decoder.specs.Decoder.{Decoding, DecoderStands, heard}
-use Rattle.noise_bound.specs.Noiseless.{v32_from, IsNoiseless}
-use Rattle.exact_decoder.specs.Laws.{IsOnlyLeast}
+use Rattle.noise_bound.proofs.Names.{◌≡◌, ℕ, ◌+◌, ◌≤◌, ◌⊎◌, inl, inr, Bool, true, nat_eq, List, ◌++◌, length, map, take, drop, arith}
+use Rattle.noise_bound.proofs.Names.{append_assoc, None, refl, sym, ◌∙◌, ap, subst, eq-eqb, cases_lt, cases_eq, eqb-true, take-map}
+use Rattle.noise_bound.proofs.Names.{take_all, take-append-drop, length-take-le, lost-once, Decoding, DecoderStands, heard, IsOnlyLeast}
+use Rattle.noise_bound.proofs.Names.{Beats, IsSurvivor, IsReleased, LostIs, IsSequence, v32_code, v32_from, IsPrefixOf, point_of, Sample}
+use Rattle.noise_bound.proofs.Names.{Leads-take, far_from, Leads, cost, next_state}
+use Rattle.noise_bound.specs.Noiseless.{IsNoiseless}
 use Rattle.noise_bound.specs.NoiselessLaws.{Follows}
 use Rattle.noise_bound.proofs.NoiselessCosts.{length-points, cost-own, no-cost-own}
 use Rattle.noise_bound.proofs.Agreeing.{Survives, AreNear, cheaper, few-from_one, few-from_any}

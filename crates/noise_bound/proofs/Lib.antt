@@ -1,3 +1,4 @@
+mod Names
 pub mod Margins
 pub mod Turned
 pub mod Quads

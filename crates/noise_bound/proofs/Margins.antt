@@ -1,22 +1,13 @@
 -- What a margin has measured, and what follows where that is little.
-use Rattle.std.proofs.Common.{◌≡◌, ◌∙◌, ℕ, ◌+◌, List, [], ◌∷◌, ◌++◌, length, map, take, refl, sym, ap, subst, arith}
-use Rattle.std.proofs.lemmas.List.{take_all, length_push}
-use Rattle.frame_check.specs.Bits.{bits_of}
-use Rattle.scramblers.specs.declared.mode.Mode.{Mode}
-use Rattle.symbol_map.specs.declared.sample.Sample.{Sample}
-use Rattle.symbol_map.specs.Distance.{distance_of}
-use Rattle.symbol_map.specs.Points.{point_of}
-use Rattle.trellis_tables.specs.Laws.{far_from}
-use Rattle.trellis_tables.specs.Sequences.{cost}
-use Rattle.exact_decoder.specs.Surviving.Survivors.{IsReleased}
-use Rattle.exact_decoder.specs.Surviving.V32.{v32_code}
+use Rattle.noise_bound.proofs.Names.{◌≡◌, ◌∙◌, ℕ, ◌+◌, List, [], ◌∷◌, ◌++◌, length, map, take, refl, sym, ap, subst, arith, take_all}
+use Rattle.noise_bound.proofs.Names.{IsReleased, v32_code, bits_of, ModulatorStands, IsCostOf, Measured, MarginStands, only, Mode}
+use Rattle.noise_bound.proofs.Names.{distance_of, point_of, Sample, far_from, cost}
+use Rattle.std.proofs.lemmas.List.{length_push}
 use Rattle.noise_bound.proofs.NoiselessCosts.{length-points}
-use Rattle.noise_bound.specs.Near.{only}
 use Rattle.noise_bound.proofs.Near.{releases-near, never-lost}
-use Rattle.line_coding.specs.Modulates.{ModulatorStands}
 use Rattle.line_coding.specs.declared.modulator.Modulator.{Modulator}
 use Rattle.line_coding.proofs.Standing.{modulated}
-use Rattle.noise_bound.specs.Margins.{distances, IsCostOf, Measured, MarginStands}
+use Rattle.noise_bound.specs.Margins.{distances}
 use Rattle.noise_bound.specs.Laws.{SureIsNear, SureIsDecoded}
 
 -- one sample more

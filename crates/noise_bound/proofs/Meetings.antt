@@ -1,13 +1,7 @@
 -- Two sequences of one length part for good behind the last state that they share. What the parted symbols cost grows.
-use Rattle.std.proofs.Common.{◌≡◌, ℕ, zero, suc, ◌+◌, ◌*◌, ◌<◌, ◌≤◌, ◌⊎◌, inl, inr, List, [], ◌∷◌, ◌++◌, length, map, arith, Some, refl}
-use Rattle.std.proofs.Common.{sym, ap, subst}
-use Rattle.std.proofs.lemmas.Bool.{cases_eq}
-use Rattle.symbol_map.specs.Points.{point_of}
-use Rattle.trellis_tables.specs.Sequences.{Leads, cost}
-use Rattle.trellis_tables.specs.Table.{next_state}
-use Rattle.trellis_tables.specs.Laws.{far_from}
-use Rattle.trellis_tables.proofs.Tables.{branch_of}
-use Rattle.trellis_tables.proofs.Branches.{leaves_apart, differs_within_three}
+use Rattle.noise_bound.proofs.Names.{◌≡◌, ℕ, zero, suc, ◌+◌, ◌*◌, ◌<◌, ◌≤◌, ◌⊎◌, inl, inr, List, [], ◌∷◌, ◌++◌, length, map, arith, Some}
+use Rattle.noise_bound.proofs.Names.{refl, sym, ap, subst, cases_eq, point_of, leaves_apart, branch_of, far_from, Leads, cost, next_state}
+use Rattle.trellis_tables.proofs.Branches.{differs_within_three}
 use Rattle.noise_bound.proofs.NoiselessCosts.{far-is}
 
 -- the two are in different states throughout

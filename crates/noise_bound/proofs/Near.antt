@@ -1,25 +1,12 @@
 -- Survivors of samples that are near the points of a code sequence, and what they release.
-use Rattle.std.proofs.Common.{◌≡◌, ℕ, ◌+◌, ◌*◌, ◌<◌, ◌≤◌, ◌⊎◌, inl, inr, Bool, true, List, ◌++◌, length, map, take, drop, arith}
-use Rattle.std.proofs.Common.{append_assoc, length-take, None, sym, ◌∙◌, ap, subst}
-use Rattle.std.proofs.lemmas.Bool.{cases_lt, cases_eq, eqb-true}
-use Rattle.std.proofs.lemmas.List.{take-append-drop, take_all}
-use Rattle.shared_terms.specs.Prefix.{IsPrefixOf}
-use Rattle.symbol_map.specs.declared.sample.Sample.{Sample}
-use Rattle.symbol_map.specs.Points.{point_of}
-use Rattle.trellis_tables.specs.Laws.{far_from}
-use Rattle.trellis_tables.specs.Sequences.{Leads, cost}
-use Rattle.trellis_tables.specs.Table.{next_state}
-use Rattle.trellis_tables.proofs.Sequences.{Leads-take}
-use Rattle.exact_decoder.specs.Surviving.Trellises.{IsSequence}
-use Rattle.exact_decoder.specs.Surviving.Orders.{Beats}
-use Rattle.exact_decoder.specs.Surviving.Survivors.{IsSurvivor, IsReleased, LostIs}
-use Rattle.exact_decoder.proofs.Surviving.Fronts.{lost-once}
-use Rattle.exact_decoder.specs.Surviving.V32.{v32_code}
-use Rattle.exact_decoder.specs.Decoder.{Decoding, DecoderStands, heard}
+use Rattle.noise_bound.proofs.Names.{◌≡◌, ℕ, ◌+◌, ◌*◌, ◌<◌, ◌≤◌, ◌⊎◌, inl, inr, Bool, true, List, ◌++◌, length, map, take, drop, arith}
+use Rattle.noise_bound.proofs.Names.{append_assoc, None, sym, ◌∙◌, ap, subst, cases_lt, cases_eq, eqb-true, take-append-drop, take_all}
+use Rattle.noise_bound.proofs.Names.{lost-once, Decoding, DecoderStands, heard, Beats, IsSurvivor, IsReleased, LostIs, IsSequence, v32_code}
+use Rattle.noise_bound.proofs.Names.{apart_in_all, only, sure, sure_of_any, IsNear, IsPrefixOf, point_of, Sample, Leads-take, far_from}
+use Rattle.noise_bound.proofs.Names.{Leads, cost, next_state}
+use Rattle.std.proofs.Common.{length-take}
 use Rattle.noise_bound.proofs.Agreeing.{Survives, AreNear, cheaper, released-begins, few-from_one, few-from_any}
 use Rattle.noise_bound.proofs.Followed.{few-unreleased_of_any}
-use Rattle.noise_bound.specs.Distances.{apart_in_all}
-use Rattle.noise_bound.specs.Near.{only, sure, sure_of_any, IsNear}
 use Rattle.noise_bound.specs.NoisyLaws.{ReleasesNear, FewUnreleased, NeverLost, DecodesNear, ReleasesNearOfAny, FewUnreleasedOfAny}
 use Rattle.noise_bound.specs.NoisyLaws.{NeverLostOfAny, DecodesNearOfAny, FewUnreleasedWithoutNoise}
 use Rattle.noise_bound.proofs.Distances.{meeting-is-far, one-or-far, cost-is-distance}

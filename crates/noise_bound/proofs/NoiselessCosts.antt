@@ -1,14 +1,8 @@
 -- What labels cost against the points of others, in units of 2048 squared.
-use Rattle.std.proofs.Common.{◌≡◌, ℕ, ◌+◌, ◌*◌, ◌<◌, List, [], ◌∷◌, ◌++◌, length, map, arith, refl, ◌∙◌}
-use Rattle.symbol_map.specs.declared.sample.Sample.{Sample}
-use Rattle.symbol_map.specs.Points.{point_of}
-use Rattle.symbol_map.specs.Distance.{apart}
-use Rattle.symbol_map.proofs.Distances.{distance_of-swap, equal_from_no_distance, no_distance_from_equal}
+use Rattle.noise_bound.proofs.Names.{◌≡◌, ℕ, ◌+◌, ◌*◌, ◌<◌, List, [], ◌∷◌, ◌++◌, length, map, arith, refl, ◌∙◌, distance_of-swap}
+use Rattle.noise_bound.proofs.Names.{equal_from_no_distance, apart, point_of, Sample, branch_of, far_from, Leads, cost, next_state}
+use Rattle.symbol_map.proofs.Distances.{no_distance_from_equal}
 use Rattle.symbol_map.proofs.MapFacts.{distance_in_map_units, points_differ}
-use Rattle.trellis_tables.specs.Sequences.{Leads, cost}
-use Rattle.trellis_tables.specs.Table.{next_state}
-use Rattle.trellis_tables.specs.Laws.{far_from}
-use Rattle.trellis_tables.proofs.Tables.{branch_of}
 
 pub far-is : (a b : ℕ) → a < 32 → b < 32 → far_from a (point_of b) ≡ 4194304 * apart a b
 far-is a b in_a in_b = distance_in_map_units a b in_a in_b

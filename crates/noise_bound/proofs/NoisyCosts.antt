@@ -1,11 +1,7 @@
 -- What labels cost that are near others, or near the same samples.
-use Rattle.std.proofs.Common.{◌≡◌, ℕ, zero, suc, ◌≤◌, List, [], ◌∷◌, length, take, map, arith, refl, sym}
-use Rattle.symbol_map.specs.declared.sample.Sample.{Sample}
-use Rattle.symbol_map.specs.Points.{point_of}
-use Rattle.symbol_map.specs.Distance.{distance_of}
-use Rattle.symbol_map.proofs.Distances.{near_is_near, distance_of-swap, equal_from_no_distance}
-use Rattle.trellis_tables.specs.Laws.{far_from}
-use Rattle.trellis_tables.specs.Sequences.{cost}
+use Rattle.noise_bound.proofs.Names.{◌≡◌, ℕ, zero, suc, ◌≤◌, List, [], ◌∷◌, length, take, map, arith, refl, sym, distance_of-swap}
+use Rattle.noise_bound.proofs.Names.{equal_from_no_distance, distance_of, point_of, Sample, far_from, cost}
+use Rattle.symbol_map.proofs.Distances.{near_is_near}
 use Rattle.noise_bound.specs.DistanceLaws.{CostOverOthers, DistanceOverSamples}
 
 pub cost-over_others : CostOverOthers

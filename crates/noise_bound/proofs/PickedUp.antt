@@ -1,28 +1,15 @@
 -- Of what is picked up of a recording and of its turn one begins the other.
-use Rattle.std.proofs.Common.{◌≡◌, ℕ, zero, suc, ◌+◌, ◌-◌, ◌<◌, ◌≤◌, inl, inr, Bool, false, List, [], ◌∷◌, ◌++◌, length, map, take, drop}
-use Rattle.std.proofs.Common.{nat_lt, arith, length-append, append_assoc, refl, sym, ◌∙◌, ap, subst}
-use Rattle.std.specs.List.{flat_map}
-use Rattle.std.proofs.lemmas.Bool.{cases_lt}
-use Rattle.std.proofs.lemmas.Bool.Decides.{nat_tests}
-use Rattle.std.proofs.lemmas.List.{ext_get_or, get_or-take, get_or_append_left, take_at, take-append-le, take-append-drop, take-map}
-use Rattle.std.proofs.lemmas.List.{length-take-le}
-use Rattle.frame_check.specs.Bits.{low_bits}
-use Rattle.shared_terms.specs.Prefix.{IsPrefixOf}
-use Rattle.scramblers.specs.declared.mode.Mode.{Mode}
+use Rattle.noise_bound.proofs.Names.{◌≡◌, ℕ, zero, suc, ◌+◌, ◌-◌, ◌<◌, ◌≤◌, inl, inr, Bool, false, List, [], ◌∷◌, ◌++◌, length, map, take}
+use Rattle.noise_bound.proofs.Names.{drop, nat_lt, arith, length-append, append_assoc, refl, sym, ◌∙◌, ap, subst, cases_lt, nat_tests}
+use Rattle.noise_bound.proofs.Names.{get_or_append_left, take_at, take-append-le, take-append-drop, take-map, length-take-le, flat_map}
+use Rattle.noise_bound.proofs.Names.{at_any, low_bits, quads-turned, all_states_turn, line_behind, sure_of_any, IsNear, depends_on_three}
+use Rattle.noise_bound.proofs.Names.{earlier, Mode, IsPrefixOf, quarter_turned, turned_label, Sample}
+use Rattle.std.proofs.lemmas.List.{ext_get_or, get_or-take}
 use Rattle.scramblers.specs.Mode.{tap_of}
-use Rattle.scramblers.specs.Stream.{earlier}
 use Rattle.scramblers.specs.Scrambles.{Descrambles}
-use Rattle.scramblers.proofs.Readings.{depends_on_three}
-use Rattle.symbol_map.specs.declared.sample.Sample.{Sample}
-use Rattle.symbol_map.specs.Distance.{quarter_turned}
-use Rattle.symbol_map.specs.Laws.{turned_label}
-use Rattle.exact_decoder.specs.Surviving.V32.{at_any}
-use Rattle.line_coding.proofs.TurnedSequences.{all_states_turn}
-use Rattle.noise_bound.specs.Near.{sure_of_any, IsNear}
-use Rattle.line_coding.specs.PickedUp.{IsPickedUp, line_behind}
+use Rattle.line_coding.specs.PickedUp.{IsPickedUp}
 use Rattle.line_coding.specs.MiddleReading.{Middle}
 use Rattle.line_coding.specs.Laws.{ReadsMiddle}
-use Rattle.line_coding.proofs.Quads.{quads-turned}
 use Rattle.line_coding.proofs.Readers.{readers_pick_up}
 use Rattle.bit_stuffing.specs.Found.{pieces_of}
 use Rattle.bit_stuffing.proofs.Sent.{pieces-stay}

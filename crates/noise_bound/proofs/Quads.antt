@@ -1,20 +1,14 @@
 -- Quads of labels that begin others, and of turned ones.
-use Rattle.std.proofs.Common.{◌≡◌, ℕ, ◌+◌, ◌-◌, ◌/◌, ◌<◌, ◌≤◌, false, List, [], ◌∷◌, ◌++◌, length, map, take, drop, get_or, arith}
-use Rattle.std.proofs.Common.{length-append, refl, sym, ◌∙◌, ap}
-use Rattle.std.specs.List.{flat_map}
+use Rattle.noise_bound.proofs.Names.{◌≡◌, ℕ, ◌+◌, ◌-◌, ◌/◌, ◌<◌, ◌≤◌, false, List, [], ◌∷◌, ◌++◌, length, map, take, drop, get_or, arith}
+use Rattle.noise_bound.proofs.Names.{length-append, refl, sym, ◌∙◌, ap, take_at, take-append-drop, get_or_append_left, flat_map, low_bits}
+use Rattle.noise_bound.proofs.Names.{quads-turned, line_of, line_behind, IsPrefixOf, y_of, turned_label}
 use Rattle.std.proofs.lemmas.Grind.{flat_map-append}
-use Rattle.std.proofs.lemmas.List.{take_at, take-append-drop, get_or-drop, get_or_append_left, length-map}
-use Rattle.frame_check.specs.Bits.{low_bits}
-use Rattle.shared_terms.specs.Prefix.{IsPrefixOf}
-use Rattle.symbol_map.specs.Labels.{q3q4_of, y_of}
-use Rattle.symbol_map.specs.Laws.{turned_label}
+use Rattle.std.proofs.lemmas.List.{get_or-drop, length-map}
+use Rattle.symbol_map.specs.Labels.{q3q4_of}
 use Rattle.trellis_tables.specs.Differential.Turned.{unturned_at}
 use Rattle.trellis_tables.specs.Quads.{quad_of}
 use Rattle.trellis_tables.specs.LabelReader.{quads_of, quad_at}
 use Rattle.trellis_tables.proofs.Readings.{quads_of-take, quads_of-turned, length-quads_of, get_or-quads_of}
-use Rattle.line_coding.specs.Demodulates.{line_of}
-use Rattle.line_coding.specs.PickedUp.{line_behind}
-use Rattle.line_coding.proofs.Quads.{quads-turned}
 use Rattle.noise_bound.proofs.Turned.{BothBegin}
 
 -- what more labels add to the quads

@@ -1,20 +1,12 @@
 -- A near recording after a quarter turn, and what both release.
-use Rattle.std.proofs.Common.{ℕ, ◌+◌, ◌<◌, List, ◌++◌, map, take, drop, arith, append_assoc, Option, Some, None, sym, ◌∙◌, ap, subst}
-use Rattle.std.proofs.lemmas.Bool.{eqb-true}
-use Rattle.std.proofs.lemmas.List.{take-append-drop}
-use Rattle.shared_terms.specs.Prefix.{IsPrefixOf}
-use Rattle.symbol_map.specs.declared.sample.Sample.{Sample}
-use Rattle.symbol_map.specs.Distance.{quarter_turned}
-use Rattle.symbol_map.specs.Laws.{turned_label}
+use Rattle.noise_bound.proofs.Names.{ℕ, ◌+◌, ◌<◌, List, ◌++◌, map, take, drop, arith, append_assoc, Option, Some, None, sym, ◌∙◌, ap, subst}
+use Rattle.noise_bound.proofs.Names.{eqb-true, take-append-drop, heard, IsReleased, at_any, v32_code, all_states_turn, only, sure}
+use Rattle.noise_bound.proofs.Names.{sure_of_any, IsNear, IsPrefixOf, quarter_turned, turned_label, Sample}
 use Rattle.trellis_tables.specs.Rotation.{rotated}
 use Rattle.trellis_tables.proofs.Rotations.{rotated-lt, one_start_turns, turn_keeps_cost}
-use Rattle.exact_decoder.specs.Surviving.Survivors.{IsReleased}
-use Rattle.exact_decoder.specs.Surviving.V32.{at_any, v32_code}
 use Rattle.line_coding.specs.QuarterTurns.{StartsTurn}
 use Rattle.line_coding.proofs.TurnedLabels.{labels-small, leads-within}
-use Rattle.line_coding.proofs.TurnedSequences.{sequences_turn, all_states_turn}
-use Rattle.exact_decoder.specs.Decoder.{heard}
-use Rattle.noise_bound.specs.Near.{only, sure, sure_of_any, IsNear}
+use Rattle.line_coding.proofs.TurnedSequences.{sequences_turn}
 use Rattle.noise_bound.proofs.Near.{near-front, releases-near, releases-near_of_any}
 use Rattle.noise_bound.specs.Turned.{BothRelease}
 use Rattle.noise_bound.specs.Laws.{NearTurns}

@@ -1,3 +1,4 @@
+mod Names
 pub mod Running
 pub mod Soaking
 pub mod Peering

@@ -1,12 +1,9 @@
 -- Samples of a piece, so many at once.
-use Rattle.std.proofs.Common.{◌≡◌, ◌∙◌, ℕ, suc, zero, ◌+◌, ◌-◌, ◌*◌, ◌/◌, ◌≤◌, List, [], ◌∷◌, ◌++◌, length, take, min, refl, sym, ap, arith}
-use Rattle.std.proofs.Common.{append_assoc}
+use Rattle.signal_commands.proofs.Names.{◌≡◌, ◌∙◌, ℕ, suc, zero, ◌+◌, ◌-◌, ◌*◌, ◌/◌, ◌≤◌, List, [], ◌∷◌, ◌++◌, length, take, min, refl, sym}
+use Rattle.signal_commands.proofs.Names.{ap, arith, append_assoc, length-take-le, samples_in-more, sample_at, samples_in, Sample}
 use Rattle.std.proofs.Math.Nat.{min-le_left, min-le_right}
 use Rattle.std.proofs.Math.Seq.{take-append-add}
-use Rattle.std.proofs.lemmas.List.{length-take-le}
-use Rattle.symbol_map.specs.declared.sample.Sample.{Sample}
-use Rattle.recordings.specs.Samples.{sample_of, sample_at, samples_in}
-use Rattle.recordings.proofs.Samples.{samples_in-more}
+use Rattle.recordings.specs.Samples.{sample_of}
 
 four : (n : ℕ) → 4 * suc n ≡ suc (suc (suc (suc (4 * n))))
 four n = omega arith

@@ -1,3 +1,4 @@
+mod Names
 pub mod Batches
 pub mod Encoding
 pub mod Decoding

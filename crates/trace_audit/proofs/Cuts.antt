@@ -1,9 +1,7 @@
 -- The lines of a text.
-use Rattle.std.proofs.Common.{◌≡◌, ◌≢◌, true, ℕ, List, [], ◌∷◌, ◌++◌, drop, refl, sym, ap, ◌∙◌, append_assoc}
-use Rattle.std.specs.List.{list_all}
-use Rattle.trace_audit.specs.Cutting.{front_of, rest_of}
+use Rattle.trace_audit.proofs.Names.{◌≡◌, ◌≢◌, true, ℕ, List, [], ◌∷◌, ◌++◌, drop, refl, sym, ap, ◌∙◌, append_assoc, list_all, front_of}
+use Rattle.trace_audit.proofs.Names.{rest_of, is_no_feed, text_of, AreWhole, IsCut}
 use Rattle.trace_audit.proofs.Fronts.{front-reads, rest-reads}
-use Rattle.trace_audit.specs.Differences.{is_no_feed, text_of, AreWhole, IsCut}
 
 -- the text of lines, with the first line feed on its own
 abbrev text-fed : (line : List ℕ) (lines : List (List ℕ)) → text_of (line ∷ lines) ≡ line ++ 10 ∷ text_of lines

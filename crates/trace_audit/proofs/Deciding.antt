@@ -1,9 +1,7 @@
 -- One thing is found of octets beside a text.
-use Rattle.std.proofs.Common.{arith, ◌≡◌, ℕ, List, Result, Ok, Err, refl, ◌∙◌, ap, subst}
-use Rattle.shared_terms.specs.declared.audit_cause.AuditCause.{AuditCause}
-use Rattle.trace_audit.specs.Differences.{text_of, FirstDiffers, IsCut}
-use Rattle.trace_audit.specs.declared.comparison.Difference.{Difference}
-use Rattle.trace_audit.specs.Verdict.{IsText, DiffersIn, IsFound, VerdictsAreOne}
+use Rattle.trace_audit.proofs.Names.{arith, ◌≡◌, ℕ, List, Result, Ok, Err, refl, ◌∙◌, ap, subst, AuditCause, text_of, FirstDiffers, IsCut}
+use Rattle.trace_audit.proofs.Names.{DiffersIn, IsFound, Difference}
+use Rattle.trace_audit.specs.Verdict.{IsText, VerdictsAreOne}
 
 -- the laws of differences and of cuts
 pub record VerdictLaws : Type 0 where

@@ -1,22 +1,15 @@
 -- Texts of frames, and of what is sent and heard.
-use Rattle.std.proofs.Common.{◌≡◌, ℕ, ◌+◌, ◌<◌, ◌≤◌, Bool, true, false, cond, List, [], ◌∷◌, ◌++◌, length, codes, decimal}
-use Rattle.std.proofs.Common.{Option, Some, None, refl, sym, ap, subst, ◌∙◌, arith, append_assoc, inl, inr, length-append}
-use Rattle.std.specs.Prelude.{IfSome}
-use Rattle.std.specs.Str.{bytes_eq}
-use Rattle.std.specs.Option.{option_map}
-use Rattle.std.proofs.lemmas.Fmt.{length-decimal-le}
-use Rattle.std.proofs.lemmas.Slice.Eq.{bytes_eq-Decides}
-use Rattle.break_signals.specs.declared.word.BreakWord.{BreakWord}
-use Rattle.break_signals.specs.declared.word.BreakWord.TheVariants.{Brk, Ack}
-use Rattle.lapm_frames.specs.declared.kind.FrameKind.{FrameKind}
-use Rattle.lapm_frames.specs.Parts.{kinds, first_named, parts_of_kind}
-use Rattle.line_texts.specs.FrameText.{kind_word, poll_word, number_word}
-use Rattle.trace_audit.specs.Cutting.{behind, first_of, front_of, rest_of, is_no_space}
-use Rattle.trace_audit.specs.Pieces.{behind_shape, behind_frame, behind_signal, behind_lost, behind_heard, behind_sent}
-use Rattle.trace_audit.specs.Grammar.{Shape, Numbered, Supervisory, Commanding, Responding, Rejecting, Exchanging, Unnumbered, count_bound}
-use Rattle.trace_audit.specs.Grammar.{shape_of, shape_named, FrameWords, AreInRange, IsBreak, count_word, information_word, shape_text}
-use Rattle.trace_audit.specs.Grammar.{IsFrameText}
-use Rattle.trace_audit.specs.Grammar.{IsSignal, odp, adp, frame, IsHeard, nothing, lost, passed, IsSent, mark, flags, none, signal}
+use Rattle.trace_audit.proofs.Names.{◌≡◌, ℕ, ◌+◌, ◌<◌, ◌≤◌, Bool, true, false, cond, List, [], ◌∷◌, ◌++◌, length, codes, decimal, Option}
+use Rattle.trace_audit.proofs.Names.{Some, None, refl, sym, ap, subst, ◌∙◌, arith, append_assoc, inl, inr, length-append, length-decimal-le}
+use Rattle.trace_audit.proofs.Names.{bytes_eq-Decides, option_map, IfSome, bytes_eq, BreakWord, Brk, Ack, parts_of_kind, FrameKind}
+use Rattle.trace_audit.proofs.Names.{kind_word, poll_word, number_word, behind, first_of, front_of, rest_of, is_no_space, Shape, Numbered}
+use Rattle.trace_audit.proofs.Names.{Supervisory, Commanding, Responding, Rejecting, Exchanging, Unnumbered, count_bound, shape_named}
+use Rattle.trace_audit.proofs.Names.{FrameWords, AreInRange, IsBreak, count_word, information_word, shape_text, IsFrameText, IsSignal, odp}
+use Rattle.trace_audit.proofs.Names.{adp, frame, IsHeard, nothing, lost, passed, IsSent, mark, flags, none, signal, behind_shape}
+use Rattle.trace_audit.proofs.Names.{behind_heard, behind_sent}
+use Rattle.lapm_frames.specs.Parts.{kinds, first_named}
+use Rattle.trace_audit.specs.Pieces.{behind_frame, behind_signal, behind_lost}
+use Rattle.trace_audit.specs.Grammar.{shape_of}
 use Rattle.trace_audit.proofs.Fronts.{chained, either, behind-is, front-rest}
 use Rattle.trace_audit.proofs.Shapes.{Stops, shape-reads, shape-is}
 

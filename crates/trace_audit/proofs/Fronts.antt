@@ -1,15 +1,11 @@
 -- What a text begins with: pieces from its front, and octets that pass a test.
-use Rattle.std.proofs.Common.{arith, ◌≡◌, ℕ, ◌<◌, ◌≤◌, Bool, true, false, cond, eqb, List, [], ◌∷◌, ◌++◌, length, take, drop, get_or}
-use Rattle.std.proofs.Common.{Option, Some}
-use Rattle.std.proofs.Common.{None, refl, sym, ap, ◌∙◌, append_assoc, ◌⊎◌, eq-eqb, append-nil, drop-cons, take-append-drop}
-use Rattle.std.proofs.lemmas.Bool.{and_parts}
-use Rattle.std.proofs.lemmas.List.{take_all}
-use Rattle.std.specs.List.{list_all}
+use Rattle.trace_audit.proofs.Names.{arith, ◌≡◌, ℕ, ◌<◌, ◌≤◌, Bool, true, false, cond, List, [], ◌∷◌, ◌++◌, length, take, drop, get_or}
+use Rattle.trace_audit.proofs.Names.{Option, Some, None, refl, sym, ap, ◌∙◌, append_assoc, ◌⊎◌, append-nil, take-append-drop, and_parts}
+use Rattle.trace_audit.proofs.Names.{take_all, same_Some, list_all, option_map, option_and_then, behind, front_of, rest_of, first_of}
+use Rattle.std.proofs.Common.{eqb}
+use Rattle.std.proofs.Common.{eq-eqb, drop-cons}
 use Rattle.std.specs.Prelude.{MatchOption, ◌≢◌}
 use Rattle.std.specs.Borrow.{Bor}
-use Rattle.std.specs.Option.{option_map, option_and_then}
-use Rattle.std.proofs.lemmas.Option.{same_Some}
-use Rattle.trace_audit.specs.Cutting.{behind, front_of, rest_of, first_of}
 
 -- ---- options in a row
 

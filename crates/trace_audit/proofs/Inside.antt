@@ -1,17 +1,13 @@
 -- What the folder of an audit knows of files, and what it holds of a turn's lines.
-use Rattle.std.proofs.Common.{◌≡◌, ◌≢◌, ℕ, List, [], Some, sym, ◌∙◌, ap, IsTrue, take}
-use Rattle.outside_calls.specs.Folder.{FolderState, GoesOn, KeepsName, Appended, Adds}
+use Rattle.trace_audit.proofs.Names.{◌≡◌, ◌≢◌, ℕ, List, [], Some, sym, ◌∙◌, ap, take, Written, IsApart, KnowsFiles, FolderState, Both}
+use Rattle.trace_audit.proofs.Names.{held_by, file_limit}
+use Rattle.std.proofs.Common.{IsTrue}
+use Rattle.outside_calls.specs.Folder.{GoesOn, KeepsName, Appended, Adds}
 use Rattle.outside_calls.specs.Outputs.{Holds}
 use Rattle.outside_calls.proofs.Holding.{Holds-kept, Holds-more, Holds-add}
-use Rattle.shared_terms.specs.Both.{Both}
 use Rattle.line_world.specs.Station.{file_at}
-use Rattle.turn_bound.specs.Limits.{file_limit}
-use Rattle.line_run.specs.Names.{Written}
-use Rattle.line_world.specs.World.{KnowsFiles}
-use Rattle.line_world.proofs.Folders.{IsApart}
 use Rattle.program_folders.specs.Audited.{swallowed}
 use Rattle.program_folders.proofs.Passed.{told-inside, told-outside, octets-inside, trace-told, trace-held}
-use Rattle.trace_audit.specs.Turns.{held_by}
 
 module _ (f : FolderState) (n : Written) (text : List ℕ) (r : ℕ) (apart : IsApart n) where
   -- a file that the folder handed in tells is told, and one that is told is so by that folder

@@ -1,28 +1,18 @@
 -- From every answer to the headline, and to which answer right inputs have.
-use Rattle.std.proofs.Common.{◌≡◌, ◌⊎◌, inl, inr, ℕ, Bool, true, false, ◌≤◌, ◌<◌, List, ◌++◌, length, Option, Result, Ok, Err, refl, sym}
-use Rattle.std.proofs.Common.{◌∙◌, ap, subst}
-use Rattle.std.proofs.Common.{arith}
-use Rattle.std.specs.Option.{option_map}
-use Rattle.outside_calls.specs.Folder.{FolderState, octets_at}
-use Rattle.shared_terms.specs.declared.audit_cause.AuditCause.{AuditCause}
-use Rattle.noise_script.specs.Script.{ScriptValue}
+use Rattle.trace_audit.proofs.Names.{◌≡◌, ◌⊎◌, inl, inr, ℕ, Bool, true, false, ◌≤◌, ◌<◌, List, ◌++◌, length, Option, Result, Ok, Err, refl}
+use Rattle.trace_audit.proofs.Names.{sym, ◌∙◌, ap, subst, arith, option_map, Status, Stop, RunEnd, wire_of, link_of, ScriptValue}
+use Rattle.trace_audit.proofs.Names.{FolderState, octets_at, LIMITS, AuditCause, Audits, Ends, DiffersIn, IsFound, AuditNames, files_of}
+use Rattle.trace_audit.proofs.Names.{Difference}
 use Rattle.noise_script.specs.Laws.{ScriptsAreOne, NoFaultInScripts}
-use Rattle.line_run.specs.Ends.{RunEnd, Left, OneResult, RunsTo}
-use Rattle.line_run.specs.Scripted.{wire_of, link_of}
-use Rattle.command_base.specs.declared.status.Status.{Status}
+use Rattle.line_run.specs.Ends.{Left, OneResult, RunsTo}
 use Rattle.command_base.specs.declared.status.Status.TheVariants.{Done, BadScript, TooLong, AuditNo, NoMemory}
-use Rattle.command_base.specs.declared.stop.Stop.{Stop}
 use Rattle.command_base.specs.declared.stop.Stop.TheVariants as stops
 use Rattle.command_base.specs.Job.{Answers}
 use Rattle.command_base.specs.Lines.{true_line}
 use Rattle.command_base.proofs.Jobs.{done-of, shared-of, Comes, is_done, is_own, is_memory, comes-to}
-use Rattle.run_inputs.specs.declared.limits.TheConstants.{LIMITS}
 use Rattle.run_inputs.proofs.Answering.{stopped-so}
 use Rattle.run_inputs.specs.Inputs.{RefusesOwn}
-use Rattle.trace_audit.specs.declared.comparison.Difference.{Difference}
-use Rattle.trace_audit.specs.Words.{AuditNames, files_of}
-use Rattle.trace_audit.specs.Verdict.{DiffersIn, IsFound}
-use Rattle.trace_audit.specs.Ends.{Audits, Ends, audit_job}
+use Rattle.trace_audit.specs.Ends.{audit_job}
 use Rattle.trace_audit.specs.Headline.{Audited, AuditedBy, Headline, YesIsTheTrace}
 use Rattle.trace_audit.specs.Completes.{AreRight, files_at, InputsRunTo, IsAnswerTo, Where, Completes}
 use Rattle.trace_audit.proofs.Deciding.{VerdictLaws, never-both, one-difference}

@@ -1,20 +1,13 @@
 -- A line's parts are read, and what is read has them.
-use Rattle.std.proofs.Common.{◌≡◌, ℕ, ◌+◌, ◌-◌, ◌<◌, ◌≤◌, Bool, true, false, cond, List, [], ◌∷◌, ◌++◌, length, take, codes, decimal}
-use Rattle.std.proofs.Common.{Option, Some, None, refl, sym, ap, subst, ◌∙◌, arith, append_assoc, ◌⊎◌, inl, inr, length-append, append-nil}
+use Rattle.trace_audit.proofs.Names.{◌≡◌, ℕ, ◌+◌, ◌-◌, ◌<◌, ◌≤◌, Bool, true, false, cond, List, [], ◌∷◌, ◌++◌, length, take, codes, decimal}
+use Rattle.trace_audit.proofs.Names.{Option, Some, None, refl, sym, ap, subst, ◌∙◌, arith, append_assoc, ◌⊎◌, inl, inr, length-append}
+use Rattle.trace_audit.proofs.Names.{append-nil, same_Some, option_map, option_and_then, IfSome, ◌==◌, bytes_eq, line_begins, break_word}
+use Rattle.trace_audit.proofs.Names.{Role, Originator, Answerer, behind, number_at, count_bound, IsHeard, IsSent, HasParts, behind_heard}
+use Rattle.trace_audit.proofs.Names.{behind_sent, chance_parts, LineText}
 use Rattle.std.proofs.Math.Seq.{take-append_seam}
-use Rattle.std.specs.Prelude.{IfSome, ◌==◌}
-use Rattle.std.specs.Option.{option_map, option_and_then}
-use Rattle.std.specs.Str.{bytes_eq}
-use Rattle.std.proofs.lemmas.Option.{same_Some}
-use Rattle.shared_terms.specs.declared.role.Role.{Role}
-use Rattle.shared_terms.specs.declared.role.Role.TheVariants.{Originator, Answerer}
-use Rattle.line_texts.specs.LineText.{line_begins, break_word}
-use Rattle.trace_audit.specs.declared.line.LineText.{LineText}
-use Rattle.trace_audit.specs.Cutting.{behind, number_at}
-use Rattle.trace_audit.specs.Pieces.{behind_heard, behind_sent}
-use Rattle.trace_audit.specs.Grammar.{count_bound, IsHeard, IsSent, IsChance, IsPlain, HasParts}
+use Rattle.trace_audit.specs.Grammar.{IsChance, IsPlain}
 use Rattle.trace_audit.specs.Reading.{before, heard_at, sent_at, role_at, ends_in, given_at, sent_and_given, reply_at, plain_line}
-use Rattle.trace_audit.specs.Reading.{chance_parts, plain_at, body_at, behind_turn, line_in}
+use Rattle.trace_audit.specs.Reading.{plain_at, body_at, behind_turn, line_in}
 use Rattle.trace_audit.proofs.Fronts.{chained, mapped, behind-is}
 use Rattle.trace_audit.proofs.Numbers.{number-reads, number-is}
 use Rattle.trace_audit.proofs.Shapes.{Stops}

@@ -1,12 +1,11 @@
 -- A text against lines, line by line.
-use Rattle.std.proofs.Common.{◌≡◌, ◌≢◌, ℕ, ◌+◌, ◌<◌, List, [], ◌∷◌, ◌++◌, length, take, drop}
-use Rattle.std.proofs.Common.{refl, sym, ap, subst, ◌∙◌, arith, append_assoc, length-append, append-nil}
+use Rattle.trace_audit.proofs.Names.{◌≡◌, ◌≢◌, ℕ, ◌+◌, ◌<◌, List, [], ◌∷◌, ◌++◌, length, take, drop, refl, sym, ap, subst, ◌∙◌, arith}
+use Rattle.trace_audit.proofs.Names.{append_assoc, length-append, append-nil, AuditCause, End, fed, text_of, GoesOnWith, LineDiffers}
+use Rattle.trace_audit.proofs.Names.{RestDiffers, FirstDiffers}
 use Rattle.std.proofs.Math.Seq.{drop-append_seam}
 use Rattle.std.proofs.lemmas.List.{nil_from_length}
-use Rattle.trace_audit.specs.Differences.{fed, text_of, GoesOnWith, LineDiffers, RestDiffers, FirstDiffers}
 use Rattle.trace_audit.specs.Compared.{HasLines, DiffersIn}
-use Rattle.shared_terms.specs.declared.audit_cause.AuditCause.{AuditCause}
-use Rattle.shared_terms.specs.declared.audit_cause.AuditCause.TheVariants.{End, Beyond}
+use Rattle.shared_terms.specs.declared.audit_cause.AuditCause.TheVariants.{Beyond}
 
 pub text_of-append : (a b : List (List ℕ)) → text_of (a ++ b) ≡ text_of a ++ text_of b
 text_of-append [] b = refl

@@ -1,12 +1,9 @@
 -- A text differs from lines first in one of them, and in one part of it.
-use Rattle.std.proofs.Common.{◌≡◌, ℕ, ◌+◌, List, [], ◌∷◌, ◌++◌, length, sym, ap, subst, ◌∙◌, arith, ◌⊎◌, inl, inr}
-use Rattle.std.proofs.lemmas.Bool.{cases_lt}
+use Rattle.trace_audit.proofs.Names.{◌≡◌, ℕ, ◌+◌, List, [], ◌∷◌, ◌++◌, length, sym, ap, subst, ◌∙◌, arith, ◌⊎◌, inl, inr, cases_lt}
+use Rattle.trace_audit.proofs.Names.{AuditCause, End, Spelling, text_of, StopsIn, OwnDiffers, LineDiffers, RestDiffers, FirstDiffers}
+use Rattle.trace_audit.proofs.Names.{LineText}
 use Rattle.trace_audit.proofs.LineParts.{one-reading}
-use Rattle.trace_audit.specs.declared.line.LineText.{LineText}
-use Rattle.trace_audit.specs.Differences.{text_of, IsRead, StopsIn, PartsDiffer, ReadsDiffer, OwnDiffers, Departs, LineDiffers, RestDiffers}
-use Rattle.trace_audit.specs.Differences.{FirstDiffers}
-use Rattle.shared_terms.specs.declared.audit_cause.AuditCause.{AuditCause}
-use Rattle.shared_terms.specs.declared.audit_cause.AuditCause.TheVariants.{End, Spelling}
+use Rattle.trace_audit.specs.Differences.{IsRead, PartsDiffer, ReadsDiffer, Departs}
 use Rattle.trace_audit.proofs.Lines.{not-before, split-same, front-same}
 
 parts-one : (a b : LineText) (c d : AuditCause) → PartsDiffer a b c → PartsDiffer a b d → c ≡ d

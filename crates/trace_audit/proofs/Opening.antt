@@ -1,31 +1,18 @@
 -- From the phases of an audit to how it ends.
-use Rattle.std.proofs.Common.{◌≡◌, inl, inr, ℕ, ◌<◌, IsTrue, List, [], ◌∷◌, length, Result, Ok, Err, refl, sym, ◌∙◌, ap, subst, take}
-use Rattle.std.proofs.Common.{arith}
-use Rattle.std.proofs.lemmas.List.{take_all}
-use Rattle.outside_calls.specs.Folder.{FolderState, octets_at, OnlyReads, CountsStand}
+use Rattle.trace_audit.proofs.Names.{◌≡◌, inl, inr, ℕ, ◌<◌, List, [], ◌∷◌, length, Result, Ok, Err, refl, sym, ◌∙◌, ap, subst, take, arith}
+use Rattle.trace_audit.proofs.Names.{take_all, stop-earlier, StopCounts, EndCounts, Status, Stop, Written, KnowsFiles, ScriptValue}
+use Rattle.trace_audit.proofs.Names.{OnlyReads-trans, octets-kept, told_later, FolderState, octets_at, OnlyReads, CountsStand, LIMITS, Both}
+use Rattle.trace_audit.proofs.Names.{trace_limit, Audits, Ends, RunFound, RunIs, IsFound, AuditNames, files_of, inputs_of, Difference}
+use Rattle.trace_audit.proofs.Names.{file_limit}
+use Rattle.std.proofs.Common.{IsTrue}
 use Rattle.outside_calls.specs.declared.folder.FolderFault.{FolderFault}
 use Rattle.outside_calls.specs.declared.folder.FolderFault.TheVariants as folder
-use Rattle.outside_calls.proofs.Steps.{OnlyReads-trans, octets-kept, told_later}
-use Rattle.shared_terms.specs.Both.{Both}
-use Rattle.noise_script.specs.Script.{ScriptValue}
-use Rattle.turn_bound.specs.Limits.{file_limit}
-use Rattle.line_run.specs.Names.{Written}
-use Rattle.line_world.specs.World.{KnowsFiles}
-use Rattle.command_base.specs.declared.status.Status.{Status}
 use Rattle.command_base.specs.declared.status.Status.TheVariants as status
-use Rattle.command_base.specs.declared.stop.Stop.{Stop}
 use Rattle.command_base.specs.declared.stop.Stop.TheVariants as stops
 use Rattle.command_base.specs.Inputs.{IsWithin, IsNotWithin}
-use Rattle.command_base.specs.Stops.{ReadFails, StopCounts, EndCounts}
-use Rattle.command_base.proofs.Jobs.{stop-earlier}
-use Rattle.run_inputs.specs.declared.limits.TheConstants.{LIMITS}
+use Rattle.command_base.specs.Stops.{ReadFails}
 use Rattle.run_inputs.specs.Inputs.{Refuses}
-use Rattle.trace_audit.specs.declared.comparison.Difference.{Difference}
-use Rattle.trace_audit.specs.Words.{AuditNames, files_of, inputs_of}
-use Rattle.trace_audit.specs.Compared.{trace_limit}
-use Rattle.trace_audit.specs.Verdict.{IsFound}
-use Rattle.trace_audit.specs.Turns.{RunFound, RunIs}
-use Rattle.trace_audit.specs.Ends.{AreOpen, IsBegun, Takes, Audits, FailsLater, AnswersOwn, EndsBy, Ends}
+use Rattle.trace_audit.specs.Ends.{AreOpen, IsBegun, Takes, FailsLater, AnswersOwn, EndsBy}
 
 -- ---- the inputs
 

@@ -1,35 +1,25 @@
 -- Both lines of a turn are lines that are read.
-use Rattle.std.proofs.Common.{◌≡◌, ℕ, ◌<◌, ◌≤◌, ◌^◌, true, false, List, [], ◌∷◌, length, arith, refl}
-use Rattle.std.proofs.Common.{sym, ◌∙◌, subst, Option, Some, None}
-use Rattle.std.specs.Prelude.{IfSome, unwrap_or}
-use Rattle.std.specs.Option.{option_map}
+use Rattle.trace_audit.proofs.Names.{◌≡◌, ℕ, ◌<◌, ◌≤◌, ◌^◌, true, false, List, [], ◌∷◌, length, arith, refl, sym, ◌∙◌, subst, Option, Some}
+use Rattle.trace_audit.proofs.Names.{None, option_map, IfSome, Frame, Heard, Nothing, Passed, Lost, Chance, Sent, SendLaws, AsksInOctets}
+use Rattle.trace_audit.proofs.Names.{LineRun, wire_of, link_of, is_chance, Outcome, Going, Turn, ScriptValue, IsInLimits, Both, of, Role}
+use Rattle.trace_audit.proofs.Names.{count_bound, line_of, LinesAreRead, IsReadableSent, IsReadableSignal, IsReadableHeard, IsReadable}
+use Rattle.std.specs.Prelude.{unwrap_or}
 use Rattle.frame_check.specs.declared.sizes.TheConstants.{INFO}
-use Rattle.shared_terms.specs.declared.role.Role.{Role}
 use Rattle.shared_terms.specs.Role.{other}
-use Rattle.shared_terms.specs.Both.{Both, of}
-use Rattle.lapm_frames.specs.declared.frame.Frame.{Frame}
 use Rattle.lapm_frames.specs.Frame.{information_of}
-use Rattle.lapm_frames.specs.declared.sent.Sent.{Sent}
 use Rattle.lapm_frames.specs.declared.sent.Sent.TheVariants as slots
-use Rattle.lapm_frames.specs.declared.heard.Heard.{Heard}
-use Rattle.lapm_frames.specs.declared.heard.Heard.TheVariants.{Nothing, Passed, Lost, Chance}
-use Rattle.noise_script.specs.Script.{ScriptValue, IsInLimits, delay_of}
+use Rattle.noise_script.specs.Script.{delay_of}
 use Rattle.link_account.specs.Account.{Account, given_break}
-use Rattle.link_run.specs.Run.{Accounts, Spoken, Turn}
+use Rattle.link_run.specs.Run.{Accounts, Spoken}
 use Rattle.link_run.specs.Carried.{sent_ago, has_message, Crosses, Carries}
-use Rattle.link_run.specs.Outcomes.{Outcome, Going, TurnIs}
-use Rattle.line_run.specs.Sampled.{HeardIn, LineRun}
-use Rattle.line_run.specs.Scripted.{wire_of, link_of}
-use Rattle.line_texts.specs.LineText.{is_chance}
-use Rattle.trace_audit.specs.Grammar.{count_bound}
-use Rattle.trace_audit.specs.Written.{IsReadableSent, IsReadableSignal, IsReadableHeard, IsReadable}
-use Rattle.line_ends.specs.Plain.{IsPlainSent, AsksInOctets}
-use Rattle.trace_audit.specs.Readable.{line_of, LinesAreRead}
+use Rattle.link_run.specs.Outcomes.{TurnIs}
+use Rattle.line_run.specs.Sampled.{HeardIn}
+use Rattle.line_ends.specs.Plain.{IsPlainSent}
 use Rattle.line_run.proofs.Slots.{SentAgo, sent-ago}
 use Rattle.line_run.proofs.Leaving.{hearing-in}
 use Rattle.line_ends.proofs.Words.{Owes}
 use Rattle.line_ends.proofs.Slots.{plain-sent, short-sent}
-use Rattle.line_ends.proofs.Sending.{SendLaws, HoldBoth, holds-all, mid-holds-at}
+use Rattle.line_ends.proofs.Sending.{HoldBoth, holds-all, mid-holds-at}
 
 -- a plain frame of few octets is read
 few : (o : Option (List ℕ)) → length (unwrap_or o []) ≤ INFO → IfSome o (λ info. length info < count_bound)

@@ -1,29 +1,17 @@
 -- The turns of an audit, one after the other, up to what is found.
-use Rattle.std.proofs.Common.{◌≡◌, ℕ, ◌+◌, ◌*◌, ◌<◌, ◌^◌, Bool, true, false, List, [], ◌∷◌, ◌++◌, length, Result, Ok, Err, refl}
-use Rattle.std.proofs.Common.{sym, ◌∙◌, ap, subst, take, arith, length-append}
-use Rattle.std.specs.Prelude.{IsTrue, MatchResult}
-use Rattle.outside_calls.specs.Folder.{FolderState, OnlyReads, CountsStand}
-use Rattle.outside_calls.proofs.Steps.{octets-kept}
+use Rattle.trace_audit.proofs.Names.{◌≡◌, ℕ, ◌+◌, ◌<◌, ◌^◌, Bool, true, false, List, [], ◌∷◌, ◌++◌, length, Result, Ok, Err, refl, sym, ◌∙◌}
+use Rattle.trace_audit.proofs.Names.{ap, subst, take, arith, length-append, IsTrue, StopCounts, EndCounts, Stop, Written, outputs_of}
+use Rattle.trace_audit.proofs.Names.{link_of, IsApart, knows-later, KnowsFiles, WorldAfter, script_of, turn_of, World, Turn, start}
+use Rattle.trace_audit.proofs.Names.{ScriptValue, octets-kept, FolderState, OnlyReads, CountsStand, Both, Compared, HasWindow, IsFew}
+use Rattle.trace_audit.proofs.Names.{audited, trace_limit, text_of, FirstDiffers, IsCut, trace_lines, TurnMade, AreCompared, HasFew}
+use Rattle.trace_audit.proofs.Names.{IsReading, RunFound, RunIs, audit_inputs, IsFound, Comparison, Difference}
+use Rattle.std.proofs.Common.{◌*◌}
+use Rattle.std.specs.Prelude.{MatchResult}
 use Rattle.outside_calls.proofs.OnlyOutputs.{told_earlier}
 use Rattle.outside_calls.proofs.Putting.{OnlyPuts-reads}
-use Rattle.shared_terms.specs.Both.{Both}
-use Rattle.noise_script.specs.Script.{ScriptValue}
-use Rattle.link_run.specs.Run.{Turn, start}
-use Rattle.line_run.specs.Scripted.{link_of}
-use Rattle.line_run.specs.Names.{Written, inputs_of, outputs_of}
-use Rattle.line_world.specs.World.{KnowsFiles, WorldAfter, script_of, turn_of}
-use Rattle.line_world.specs.declared.world.World.{World}
-use Rattle.line_world.proofs.Folders.{IsApart}
-use Rattle.line_world.proofs.Reached.{knows-later, knows-told, files_at}
-use Rattle.command_base.specs.declared.stop.Stop.{Stop}
-use Rattle.command_base.specs.Stops.{StopCounts, EndCounts}
-use Rattle.trace_audit.specs.Differences.{text_of, FirstDiffers, IsCut}
-use Rattle.trace_audit.specs.Compared.{Compared, HasWindow, IsFew, audited, trace_limit}
-use Rattle.trace_audit.specs.declared.comparison.Comparison.{Comparison}
-use Rattle.trace_audit.specs.declared.comparison.Difference.{Difference}
-use Rattle.trace_audit.specs.Lines.{trace_lines}
-use Rattle.trace_audit.specs.Verdict.{IsFound}
-use Rattle.trace_audit.specs.Turns.{ComesTo, TurnMade, AreCompared, HasFew, IsReading, RunFound, RunIs, found_end, audit_inputs}
+use Rattle.line_run.specs.Names.{inputs_of}
+use Rattle.line_world.proofs.Reached.{knows-told, files_at}
+use Rattle.trace_audit.specs.Turns.{ComesTo, found_end}
 
 -- two lines a turn
 trace-count : (ts : List Turn) → length (trace_lines ts) ≡ 2 * length ts

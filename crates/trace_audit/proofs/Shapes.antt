@@ -1,17 +1,10 @@
 -- What each piece of a line is, and that it is read.
-use Rattle.std.proofs.Common.{◌≡◌, ℕ, ◌<◌, Bool, true, false, List, [], ◌++◌, codes, decimal}
-use Rattle.std.proofs.Common.{Option, Some, None, refl, sym, ap, ◌∙◌, arith, append_assoc, inl, inr}
-use Rattle.std.specs.Prelude.{IfSome}
-use Rattle.std.specs.Option.{option_and_then}
-use Rattle.break_signals.specs.declared.word.BreakWord.{BreakWord}
-use Rattle.break_signals.specs.declared.word.BreakWord.TheVariants.{Brk, Ack}
-use Rattle.line_texts.specs.FrameText.{kind_word, poll_word, number_word}
-use Rattle.noise_script.specs.Numbers.{is_digit}
-use Rattle.trace_audit.specs.Cutting.{behind, first_of, behind_number, behind_labelled}
+use Rattle.trace_audit.proofs.Names.{◌≡◌, ℕ, ◌<◌, Bool, true, false, List, [], ◌++◌, codes, decimal, Option, Some, None, refl, sym, ap, ◌∙◌}
+use Rattle.trace_audit.proofs.Names.{arith, append_assoc, inl, inr, option_and_then, IfSome, BreakWord, Brk, Ack, kind_word, poll_word}
+use Rattle.trace_audit.proofs.Names.{number_word, is_digit, behind, first_of, behind_number, behind_labelled, Shape, Numbered, Supervisory}
+use Rattle.trace_audit.proofs.Names.{Commanding, Responding, Rejecting, Exchanging, Unnumbered, number_bound, count_bound, FrameWords}
+use Rattle.trace_audit.proofs.Names.{AreInRange, IsBreak, count_word, information_word, shape_text, behind_shape}
 use Rattle.trace_audit.specs.Pieces.{behind_direction, behind_poll, behind_count, behind_break, behind_labelled_break, behind_information}
-use Rattle.trace_audit.specs.Pieces.{behind_shape}
-use Rattle.trace_audit.specs.Grammar.{Shape, Numbered, Supervisory, Commanding, Responding, Rejecting, Exchanging, Unnumbered, number_bound}
-use Rattle.trace_audit.specs.Grammar.{count_bound, FrameWords, AreInRange, IsBreak, count_word, information_word, shape_text}
 use Rattle.trace_audit.proofs.Fronts.{chained, either, behind-reads, behind-is, begins, chain2, chain3, chain4, join2, join3, join4}
 use Rattle.trace_audit.proofs.Numbers.{behind-number-reads, behind-number-is, labelled-reads, labelled-is}
 

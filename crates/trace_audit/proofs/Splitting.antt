@@ -1,16 +1,9 @@
 -- The lines of a text, compared one after the other.
-use Rattle.std.proofs.Common.{◌≡◌, ◌≢◌, ℕ, ◌+◌, ◌<◌, List, [], ◌∷◌, ◌++◌, length, take, drop, refl, sym, ◌∙◌, ap, subst, arith}
-use Rattle.std.proofs.Common.{append_assoc, append-nil, length-append}
-use Rattle.std.specs.Prelude.{IsTrue}
-use Rattle.outside_calls.specs.Folder.{FolderState, OnlyReads}
-use Rattle.outside_calls.proofs.Steps.{told_later, octets-kept}
-use Rattle.trace_audit.specs.Cutting.{front_of, rest_of}
-use Rattle.trace_audit.specs.Differences.{is_no_feed, text_of, AreWhole, IsCut}
-use Rattle.trace_audit.specs.Compared.{Compared, IsFew, audited, trace_limit}
-use Rattle.trace_audit.specs.declared.comparison.Comparison.{Comparison}
+use Rattle.trace_audit.proofs.Names.{◌≡◌, ◌≢◌, ℕ, ◌+◌, ◌<◌, List, [], ◌∷◌, ◌++◌, length, take, drop, refl, sym, ◌∙◌, ap, subst, arith}
+use Rattle.trace_audit.proofs.Names.{append_assoc, append-nil, length-append, IsTrue, told_later, octets-kept, FolderState, OnlyReads}
+use Rattle.trace_audit.proofs.Names.{Compared, IsFew, audited, trace_limit, front_of, rest_of, is_no_feed, text_of, AreWhole, IsCut}
+use Rattle.trace_audit.proofs.Names.{AreLines, HasFew, Comparison}
 use Rattle.trace_audit.proofs.Cuts.{first-front, first-rest, first-some, one-cut}
-use Rattle.trace_audit.specs.Lines.{AreLines}
-use Rattle.trace_audit.specs.Turns.{HasFew}
 
 -- an empty text has no line
 pub no-lines : (lines : List (List ℕ)) → text_of lines ≡ [] → lines ≡ []

@@ -1,11 +1,8 @@
 -- The text of a trace by its lines.
-use Rattle.std.proofs.Common.{arith, ◌≡◌, ℕ, List, [], ◌∷◌, ◌++◌, refl, sym, ap, append-nil}
-use Rattle.shared_terms.specs.declared.role.Role.TheVariants.{Originator, Answerer}
-use Rattle.link_run.specs.Run.{Turn}
-use Rattle.link_run.specs.Trace.{side_line, turn_text, trace_text}
-use Rattle.trace_audit.specs.Differences.{text_of}
+use Rattle.trace_audit.proofs.Names.{arith, ◌≡◌, ℕ, List, [], ◌∷◌, ◌++◌, refl, sym, ap, append-nil, Turn, turn_text, trace_text, Originator}
+use Rattle.trace_audit.proofs.Names.{Answerer, text_of, turn_lines, trace_lines, TextsHaveLines}
+use Rattle.link_run.specs.Trace.{side_line}
 use Rattle.trace_audit.proofs.Lines.{text_of-append}
-use Rattle.trace_audit.specs.Lines.{turn_lines, trace_lines, TextsHaveLines}
 
 turn-cut : (turn : ℕ) (t : Turn) → turn_text turn t ≡ text_of (turn_lines turn t)
 turn-cut turn t = ap (λ x. side_line turn Originator t.orig ++ x) (sym (append-nil (side_line turn Answerer t.answ)))

@@ -1,42 +1,30 @@
 -- From a turn over the folder of an audit to the lines that it adds.
-use Rattle.std.proofs.Common.{◌≡◌, ℕ, ◌<◌, ◌^◌, Bool, true, false, List, [], ◌∷◌, ◌++◌, length, Result, Ok, Err, refl, sym, ◌∙◌, ap, subst}
-use Rattle.std.proofs.Common.{arith, append-nil}
+use Rattle.trace_audit.proofs.Names.{◌≡◌, ℕ, ◌<◌, ◌^◌, Bool, true, false, List, [], ◌∷◌, ◌++◌, length, Result, Ok, Err, refl, sym, ◌∙◌, ap}
+use Rattle.trace_audit.proofs.Names.{subst, arith, append-nil, EndCounts, Stop, AsksInOctets, RunEnd, Written, outputs_of, LineRun, wire_of}
+use Rattle.trace_audit.proofs.Names.{link_of, IsApart, knows-later, KnowsFiles, script_of, turn_of, World, Outcome, Going, Turn, trace_text}
+use Rattle.trace_audit.proofs.Names.{turn_text, ScriptValue, IsInLimits, FolderState, Role, Originator, text_of, AreWhole, AreLines}
+use Rattle.trace_audit.proofs.Names.{chance_words, turn_lines, trace_lines, TextsHaveLines, TurnsHaveLines, ChancesHaveLines, IsReading}
+use Rattle.trace_audit.proofs.Names.{held_by, TurnMade}
 use Rattle.std.specs.Prelude.{IfErr}
-use Rattle.outside_calls.specs.Folder.{FolderState}
 use Rattle.outside_calls.specs.Outputs.{OnlyPuts}
-use Rattle.shared_terms.specs.declared.role.Role.{Role}
-use Rattle.shared_terms.specs.declared.role.Role.TheVariants.{Originator}
 use Rattle.shared_terms.specs.declared.fault.LinkFault.TheVariants as causes
-use Rattle.noise_script.specs.Script.{ScriptValue, IsInLimits}
 use Rattle.line_texts.specs.LineText.{chance_line}
-use Rattle.link_run.specs.Run.{Turn}
-use Rattle.link_run.specs.Outcomes.{Outcome, Going, Done, Broken}
-use Rattle.link_run.specs.Trace.{trace_text, turn_text}
-use Rattle.line_run.specs.Sampled.{Wire, LineRun}
-use Rattle.line_run.specs.Ends.{RunEnd, EndsBy, EndsInTurn}
+use Rattle.link_run.specs.Outcomes.{Done, Broken}
+use Rattle.line_run.specs.Sampled.{Wire}
+use Rattle.line_run.specs.Ends.{EndsBy, EndsInTurn}
 use Rattle.line_run.specs.Ends as runs
-use Rattle.line_run.specs.Scripted.{wire_of, link_of}
 use Rattle.line_run.specs.Stream.{both_sent_by}
 use Rattle.line_run.proofs.WhatIsLeft.{left_of, leaves-so}
-use Rattle.line_run.specs.Names.{Written, inputs_of, outputs_of}
-use Rattle.line_world.specs.World.{KnowsFiles, script_of, turn_of}
+use Rattle.line_run.specs.Names.{inputs_of}
 use Rattle.line_world.specs.Turn.{GoesOnBy, LosesLine, MeetsChance, TurnAnswers, TurnCounts}
 use Rattle.line_world.specs.Turn as turns
-use Rattle.line_world.specs.declared.world.World.{World}
 use Rattle.line_world.specs.declared.step.Step.{Step}
 use Rattle.line_world.specs.declared.step.Step.TheVariants as steps
 use Rattle.line_run.specs.declared.fault.RunFault.{RunFault}
 use Rattle.line_run.specs.declared.fault.RunFault.TheVariants as faults
-use Rattle.line_world.proofs.Folders.{IsApart}
-use Rattle.line_world.proofs.Reached.{knows-later}
-use Rattle.command_base.specs.declared.stop.Stop.{Stop}
-use Rattle.command_base.specs.Stops.{EndCounts}
-use Rattle.trace_audit.specs.Differences.{text_of, AreWhole}
 use Rattle.trace_audit.proofs.Lines.{text_of-append}
-use Rattle.trace_audit.specs.Lines.{AreLines, chance_words, turn_lines, trace_lines, TextsHaveLines, TurnsHaveLines, ChancesHaveLines}
-use Rattle.line_ends.specs.Plain.{AsksInOctets}
 use Rattle.program_folders.specs.Passed.{OnlyPassed}
-use Rattle.trace_audit.specs.Turns.{IsReading, step_end, held_by, Watched, StillRuns, HasRun, TurnMade}
+use Rattle.trace_audit.specs.Turns.{step_end, Watched, StillRuns, HasRun}
 use Rattle.trace_audit.proofs.Inside.{knows-inside, knows-outside, text-added, text-more, text-kept}
 
 -- the laws of traces' lines

@@ -1,25 +1,13 @@
 -- No line feed stands in a line that is read.
-use Rattle.std.proofs.Common.{◌≡◌, ℕ, ◌<◌, Bool, true, false, List, [], ◌++◌, codes, decimal, refl, subst, sym, arith, ◌∙◌}
-use Rattle.std.proofs.Common.{Option, Some, None, inl, inr}
-use Rattle.std.specs.Prelude.{IfSome, nat_le}
-use Rattle.std.specs.List.{list_all}
-use Rattle.std.proofs.lemmas.Bool.{and_parts}
-use Rattle.std.proofs.lemmas.Bool.Decides.{nat_tests}
+use Rattle.trace_audit.proofs.Names.{◌≡◌, ℕ, ◌<◌, Bool, true, false, List, [], ◌++◌, codes, decimal, refl, subst, sym, arith, ◌∙◌, Option}
+use Rattle.trace_audit.proofs.Names.{Some, None, inl, inr, and_parts, nat_tests, list_all, IfSome, nat_le, BreakWord, Brk, Ack}
+use Rattle.trace_audit.proofs.Names.{parts_of_kind, FrameKind, kind_word, poll_word, number_word, line_begins, break_word, at-most}
+use Rattle.trace_audit.proofs.Names.{is_digit, role_word, Role, Shape, Numbered, Supervisory, Commanding, Responding, Rejecting, Exchanging}
+use Rattle.trace_audit.proofs.Names.{Unnumbered, count_bound, FrameWords, AreInRange, IsBreak, count_word, information_word, shape_text}
+use Rattle.trace_audit.proofs.Names.{IsFrameText, IsSignal, odp, adp, frame, IsHeard, nothing, lost, passed, IsSent, mark, flags, none}
+use Rattle.trace_audit.proofs.Names.{signal, HasParts, LineText}
 use Rattle.std.proofs.lemmas.List.Folds.{list_all-append}
-use Rattle.shared_terms.specs.declared.role.Role.{Role}
-use Rattle.shared_terms.specs.Role.{role_word}
-use Rattle.break_signals.specs.declared.word.BreakWord.{BreakWord}
-use Rattle.break_signals.specs.declared.word.BreakWord.TheVariants.{Brk, Ack}
-use Rattle.noise_script.specs.Numbers.{is_digit}
-use Rattle.noise_script.proofs.Decimals.{at-most, both, number-all}
-use Rattle.lapm_frames.specs.declared.kind.FrameKind.{FrameKind}
-use Rattle.lapm_frames.specs.Parts.{parts_of_kind}
-use Rattle.line_texts.specs.FrameText.{kind_word, poll_word, number_word}
-use Rattle.line_texts.specs.LineText.{line_begins, break_word}
-use Rattle.trace_audit.specs.declared.line.LineText.{LineText}
-use Rattle.trace_audit.specs.Grammar.{Shape, Numbered, Supervisory, Commanding, Responding, Rejecting, Exchanging, Unnumbered, count_bound}
-use Rattle.trace_audit.specs.Grammar.{FrameWords, AreInRange, IsBreak, count_word, information_word, shape_text, IsFrameText, IsSignal, odp}
-use Rattle.trace_audit.specs.Grammar.{adp, frame, IsHeard, nothing, lost, passed, IsSent, mark, flags, none, signal, HasParts}
+use Rattle.noise_script.proofs.Decimals.{both, number-all}
 use Rattle.trace_audit.proofs.Frames.{at-names}
 use Rattle.trace_audit.specs.Cutting.{is_no_feed}
 

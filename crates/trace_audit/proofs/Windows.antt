@@ -1,21 +1,15 @@
 -- What the octets that a text begins with tell of it.
-use Rattle.std.proofs.Common.{◌≡◌, ◌≢◌, ℕ, zero, suc, ◌+◌, ◌-◌, ◌<◌, ◌≤◌, Bool, true, false, not, cond, List, [], ◌∷◌, ◌++◌}
-use Rattle.std.proofs.Common.{length, take, drop, refl, sym, ap, subst, ◌∙◌, arith, append_assoc, ◌⊎◌, inl, inr, length-append, append-nil}
-use Rattle.std.proofs.Common.{take-append-drop, length-take}
-use Rattle.std.specs.Prelude.{◌==◌}
-use Rattle.std.specs.List.{list_all}
-use Rattle.std.specs.Str.{bytes_eq}
-use Rattle.std.proofs.lemmas.Slice.Eq.{bytes_eq-Decides}
-use Rattle.std.proofs.lemmas.Bool.{and_parts, eqb-true, cases_lt, not-false, and_from}
-use Rattle.std.proofs.lemmas.List.{take_all}
-use Rattle.trace_audit.specs.Cutting.{front_of, rest_of}
+use Rattle.trace_audit.proofs.Names.{◌≡◌, ◌≢◌, ℕ, zero, suc, ◌+◌, ◌-◌, ◌<◌, ◌≤◌, Bool, true, false, cond, List, [], ◌∷◌, ◌++◌, length, take}
+use Rattle.trace_audit.proofs.Names.{drop, refl, sym, ap, subst, ◌∙◌, arith, append_assoc, ◌⊎◌, inl, inr, length-append, append-nil}
+use Rattle.trace_audit.proofs.Names.{take-append-drop, length-take, and_parts, cases_lt, not-false, take_all, bytes_eq-Decides, list_all}
+use Rattle.trace_audit.proofs.Names.{◌==◌, bytes_eq, AuditCause, Spelling, front_of, rest_of, is_no_feed, fed, StopsIn, GoesOnWith}
+use Rattle.trace_audit.proofs.Names.{OwnDiffers, LineDiffers, HasParts, LineText}
+use Rattle.std.proofs.Common.{not}
+use Rattle.std.proofs.lemmas.Bool.{eqb-true, and_from}
 use Rattle.trace_audit.proofs.Fronts.{begins, front-rest, front-passes, front-reads, rest-reads}
 use Rattle.trace_audit.proofs.LineParts.{one-line}
-use Rattle.trace_audit.specs.Grammar.{HasParts}
-use Rattle.trace_audit.specs.declared.line.LineText.{LineText}
-use Rattle.trace_audit.specs.Differences.{is_no_feed, fed, own_line, StopsIn, GoesOnWith, OwnDiffers, LineDiffers}
-use Rattle.shared_terms.specs.declared.audit_cause.AuditCause.{AuditCause}
-use Rattle.shared_terms.specs.declared.audit_cause.AuditCause.TheVariants.{Spelling, Turn, Role, Arrived, Sent, Break}
+use Rattle.trace_audit.specs.Differences.{own_line}
+use Rattle.shared_terms.specs.declared.audit_cause.AuditCause.TheVariants.{Turn, Role, Arrived, Sent, Break}
 
 -- no line feed stands in these octets
 abbrev pub IsWhole : List ℕ → Type 0

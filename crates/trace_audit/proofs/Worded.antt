@@ -1,20 +1,10 @@
 -- The words of a trace's lines are read.
-use Rattle.std.proofs.Common.{arith, ◌≡◌, ◌≢◌, true, false, ℕ, List, [], ◌∷◌, length, None, refl, subst}
-use Rattle.std.specs.List.{list_all}
-use Rattle.shared_terms.specs.declared.role.Role.{Role}
-use Rattle.shared_terms.specs.declared.role.Role.TheVariants.{Originator, Answerer}
-use Rattle.shared_terms.specs.Both.{of}
-use Rattle.lapm_frames.specs.declared.heard.Heard.{Heard}
-use Rattle.lapm_frames.specs.declared.heard.Heard.TheVariants.{Chance}
+use Rattle.trace_audit.proofs.Names.{arith, ◌≡◌, ◌≢◌, true, false, ℕ, List, [], ◌∷◌, length, None, refl, subst, list_all, Heard, Chance}
+use Rattle.trace_audit.proofs.Names.{is_chance, TraceLine, of, Role, Originator, Answerer, HasParts, chance_words, AreLines, TurnsHaveLines}
+use Rattle.trace_audit.proofs.Names.{ChancesHaveLines, LinesAreRead, line_of, IsReadable, parts_of_line, text_of_line, LineText}
 use Rattle.link_run.specs.Run.{Side}
-use Rattle.line_texts.specs.LineText.{is_chance}
-use Rattle.line_texts.specs.declared.trace_line.TraceLine.{TraceLine}
 use Rattle.trace_audit.specs.Cutting.{is_no_feed}
-use Rattle.trace_audit.specs.Grammar.{HasParts}
-use Rattle.trace_audit.specs.declared.line.LineText.{LineText}
-use Rattle.trace_audit.specs.Written.{IsReadable, parts_of_line, text_of_line}
-use Rattle.trace_audit.specs.Readable.{LinesAreRead, line_of}
-use Rattle.trace_audit.specs.Lines.{side_words, chance_words, AreLines, TurnsHaveLines, ChancesHaveLines}
+use Rattle.trace_audit.specs.Lines.{side_words}
 
 -- what is written is read
 abbrev pub WrittenIsRead : Type 0

@@ -1,36 +1,26 @@
 -- What is written of a line has its parts.
-use Rattle.std.proofs.Common.{◌≡◌, ℕ, ◌<◌, ◌≤◌, Bool, true, false, cond, ◌||◌, nat_eq, nat_lt, List, [], ◌∷◌, ◌++◌, length, codes, decimal}
-use Rattle.std.proofs.Common.{Option, Some, None, Result, Ok, Err, refl, sym, ap, subst, ◌∙◌, arith, append_assoc, length-append}
-use Rattle.std.proofs.Common.{append-nil, inl, inr}
-use Rattle.std.specs.Prelude.{IfSome}
-use Rattle.std.proofs.lemmas.Fmt.{length-decimal-le}
+use Rattle.trace_audit.proofs.Names.{◌≡◌, ℕ, ◌<◌, ◌≤◌, Bool, true, false, cond, List, [], ◌∷◌, ◌++◌, length, codes, decimal, Option, Some}
+use Rattle.trace_audit.proofs.Names.{None, Result, Ok, Err, refl, sym, ap, subst, ◌∙◌, arith, append_assoc, length-append, append-nil, inl}
+use Rattle.trace_audit.proofs.Names.{inr, length-decimal-le, IfSome, BreakWord, Brk, Ack, Frame, Heard, Nothing, Passed, Lost, Chance, Sent}
+use Rattle.trace_audit.proofs.Names.{kind_word, poll_word, number_word, break_word, is_chance, line_begins, TraceLine, role_word, Role}
+use Rattle.trace_audit.proofs.Names.{Shape, Numbered, Supervisory, Commanding, Responding, Rejecting, Exchanging, Unnumbered, number_bound}
+use Rattle.trace_audit.proofs.Names.{count_bound, shape_named, FrameWords, IsBreak, count_word, information_word, shape_text, IsFrameText}
+use Rattle.trace_audit.proofs.Names.{IsSignal, odp, adp, frame, IsHeard, nothing, lost, passed, IsSent, mark, flags, none, signal, HasParts}
+use Rattle.trace_audit.proofs.Names.{chance_parts, IsReadableSent, IsReadableSignal, IsReadableHeard, IsReadable, text_of_line}
+use Rattle.trace_audit.proofs.Names.{parts_of_line}
+use Rattle.std.proofs.Common.{◌||◌, nat_eq, nat_lt}
 use Rattle.frame_check.specs.Octets.{AreOctets}
-use Rattle.shared_terms.specs.declared.role.Role.{Role}
-use Rattle.shared_terms.specs.Role.{role_word}
-use Rattle.lapm_frames.specs.declared.frame.Frame.{Frame}
 use Rattle.lapm_frames.specs.declared.frame.Frame.TheVariants as frames
-use Rattle.lapm_frames.specs.declared.sent.Sent.{Sent}
 use Rattle.lapm_frames.specs.declared.sent.Sent.TheVariants as slots
-use Rattle.lapm_frames.specs.declared.heard.Heard.{Heard}
-use Rattle.lapm_frames.specs.declared.heard.Heard.TheVariants.{Nothing, Passed, Lost, Chance}
 use Rattle.lapm_frames.specs.Parts.{parts_of}
-use Rattle.break_signals.specs.declared.word.BreakWord.{BreakWord}
-use Rattle.break_signals.specs.declared.word.BreakWord.TheVariants.{Brk, Ack}
 use Rattle.break_signals.specs.declared.fault.BreakFault.{BreakFault}
 use Rattle.break_signals.specs.declared.fault.BreakFault.TheVariants.{Kind, Number, Length}
 use Rattle.break_signals.specs.Words.{word_in, spelled}
 use Rattle.break_signals.proofs.Spelling.{is_spelled_back_always}
-use Rattle.line_texts.specs.FrameText.{IsInformation, kind_word, poll_word, number_word, if_word, break_in, frame_text, information_words}
-use Rattle.line_texts.specs.LineText.{slot_word, heard_word, sent_word, break_word, is_chance, line_begins}
+use Rattle.line_texts.specs.FrameText.{IsInformation, if_word, break_in, frame_text, information_words}
+use Rattle.line_texts.specs.LineText.{slot_word, heard_word, sent_word}
 use Rattle.line_texts.specs.LineText.{line_text}
-use Rattle.line_texts.specs.declared.trace_line.TraceLine.{TraceLine}
-use Rattle.trace_audit.specs.Grammar.{Shape, Numbered, Supervisory, Commanding, Responding, Rejecting, Exchanging, Unnumbered, number_bound}
-use Rattle.trace_audit.specs.Grammar.{count_bound, shape_named}
-use Rattle.trace_audit.specs.Grammar.{FrameWords, IsBreak, count_word, information_word, shape_text, IsFrameText, IsSignal, odp, adp, frame}
-use Rattle.trace_audit.specs.Grammar.{IsHeard, nothing, lost, passed, IsSent, mark, flags, none, signal, HasParts}
-use Rattle.trace_audit.specs.Reading.{chance_parts}
-use Rattle.trace_audit.specs.Written.{IsReadableFrame, IsReadableSent, IsReadableSignal, IsReadableHeard, IsReadable, text_of_line}
-use Rattle.trace_audit.specs.Written.{parts_of_line}
+use Rattle.trace_audit.specs.Written.{IsReadableFrame}
 use Rattle.trace_audit.proofs.Frames.{heard-short, sent-short}
 
 -- ---- breaks

@@ -1,21 +1,16 @@
 -- A field has one offer or one first fault, and never both.
-use Rattle.std.proofs.Common.{◌≡◌, ◌≢◌, ℕ, ◌+◌, ◌/◌, ◌%◌, ◌<◌, ◌≤◌, ◌⊎◌, inl, inr, List, [], ◌∷◌, ◌++◌, length, Option, Some, None, Result}
-use Rattle.std.proofs.Common.{Ok, Err, lit≤, length-append, arith, refl, sym, ◌∙◌, ap, subst}
-use Rattle.std.specs.Prelude.{IfOk, IfErr, ◌↔◌, IsTrue, not, unwrap_or}
-use Rattle.std.proofs.lemmas.Bool.{false≢true}
-use Rattle.std.proofs.lemmas.Bool.Decides.{nat_tests}
+use Rattle.xid_params.proofs.Names.{◌≡◌, ◌≢◌, ℕ, ◌+◌, ◌/◌, ◌%◌, ◌<◌, ◌≤◌, ◌⊎◌, inl, inr, List, [], ◌∷◌, ◌++◌, length, Option, Some, None}
+use Rattle.xid_params.proofs.Names.{length-append, arith, refl, sym, ◌∙◌, ap, subst, false≢true, nat_tests, flat_map, IfOk, IfErr, INFO}
+use Rattle.xid_params.proofs.Names.{place_of, place_behind, IsGroupWrong, IsParameterWrong, GroupHas, InnerHas, Has, FirstFault, Offers}
+use Rattle.xid_params.proofs.Names.{IsEnd, GroupsSpell, OfferSpelling, offer_in, IsAllowed, identifier_of, accepts, is_low, octets_of_bits}
+use Rattle.xid_params.proofs.Names.{segments_of, stands_well, said, offer_of, AreWell, Part, group_octets, named, number_of, XidFault}
+use Rattle.xid_params.proofs.Names.{Offer, TxLength, RxLength, TxWindow, RxWindow}
+use Rattle.std.proofs.Common.{Result}
+use Rattle.std.proofs.Common.{Ok, Err, lit≤}
+use Rattle.std.specs.Prelude.{◌↔◌, IsTrue, not, unwrap_or}
 use Rattle.std.proofs.lemmas.Result.{IfOk-weaker}
-use Rattle.frame_check.specs.declared.sizes.TheConstants.{INFO}
-use Rattle.std.specs.List.{flat_map}
 use Rattle.std.specs.Result.{result_ok}
-use Rattle.xid_params.specs.declared.fault.XidFault.{XidFault}
-use Rattle.xid_params.specs.declared.offer.Offer.{Offer}
-use Rattle.xid_params.specs.declared.parameter.Parameter.TheVariants.{TxLength, RxLength, TxWindow, RxWindow}
-use Rattle.xid_params.specs.Parts.{Part, group_octets, named, number_of}
-use Rattle.xid_params.specs.Parameters.{identifier_of, accepts, is_low, octets_of_bits, segments_of, stands_well, said, offer_of, AreWell}
-use Rattle.xid_params.specs.Offers.{IsEnd, GroupsSpell, OfferSpelling, offer_in, IsAllowed}
-use Rattle.xid_params.specs.Faults.{place_of, place_behind, IsGroupWrong, IsParameterWrong, GroupHas, InnerHas, IsNoXid, Has, FirstFault}
-use Rattle.xid_params.specs.Gathered.{Offers}
+use Rattle.xid_params.specs.Faults.{IsNoXid}
 use Rattle.xid_params.proofs.Lists.{group-free, compare}
 use Rattle.xid_params.proofs.Tables.{and-right, well-none}
 use Rattle.xid_params.proofs.Parameters.{within}

@@ -1,21 +1,17 @@
 -- The offer that is found is the one that is spelled.
-use Rattle.std.proofs.Common.{◌≡◌, ℕ, zero, suc, ◌+◌, ◌*◌, ◌/◌, ◌%◌, ◌<◌, ◌≤◌, Bool, true, false, IsTrue, ◌&&◌, List, [], ◌∷◌, ◌++◌, length}
-use Rattle.std.proofs.Common.{take, drop, nat_eq, nat_le, cond, Option, Some, None, append_assoc, length-append, length-drop, arith, refl}
-use Rattle.std.proofs.Common.{sym, ◌∙◌, ap, subst}
-use Rattle.std.specs.List.{flat_map}
-use Rattle.std.specs.Option.{option_and_then}
-use Rattle.std.proofs.lemmas.Bool.Decides.{nat_tests}
+use Rattle.xid_params.proofs.Names.{◌≡◌, ℕ, zero, suc, ◌+◌, ◌*◌, ◌/◌, ◌%◌, ◌<◌, ◌≤◌, Bool, true, false, IsTrue, ◌&&◌, List, [], ◌∷◌, ◌++◌}
+use Rattle.xid_params.proofs.Names.{length, take, nat_eq, cond, Option, Some, None, append_assoc, length-append, arith, refl, sym, ◌∙◌, ap}
+use Rattle.xid_params.proofs.Names.{subst, nat_tests, flat_map, option_and_then, IsEnd, GroupsSpell, OfferSpelling, groups_in}
+use Rattle.xid_params.proofs.Names.{parameters_in, all_well, offer_with, offer_of_groups, offer_in, identifier_of, stands_well, offer_of}
+use Rattle.xid_params.proofs.Names.{AreWell, ParametersSpell, Part, group_octets, parameter_octets, named, Offer, Parameter, Functions}
+use Rattle.xid_params.proofs.Names.{TxLength, RxLength, TxWindow, RxWindow}
+use Rattle.std.proofs.Common.{drop, nat_le, length-drop}
 use Rattle.std.proofs.lemmas.List.{take-append-drop, length-take-le}
 use Rattle.std.proofs.lemmas.Grind.{common_steps}
 use Rattle.std.proofs.Math.Seq.{take-append_seam, drop-append_seam}
 use Rattle.std.proofs.lemmas.Option.{cond_some}
-use Rattle.xid_params.specs.declared.offer.Offer.{Offer}
-use Rattle.xid_params.specs.declared.parameter.Parameter.{Parameter}
-use Rattle.xid_params.specs.declared.parameter.Parameter.TheVariants.{Functions, TxLength, RxLength, TxWindow, RxWindow}
-use Rattle.xid_params.specs.Parts.{Part, group_octets, parameter_octets, named}
-use Rattle.xid_params.specs.Parameters.{identifier_of, stands_well, offer_of, AreWell, ParametersSpell}
-use Rattle.xid_params.specs.Offers.{IsEnd, GroupsSpell, OfferSpelling, before, groups_in, parameters_in, all_well, offer_with}
-use Rattle.xid_params.specs.Offers.{offer_of_groups, offer_in, SpellingIsFound}
+use Rattle.xid_params.specs.Offers.{before}
+use Rattle.xid_params.specs.Offers.{SpellingIsFound}
 use Rattle.xid_params.proofs.Tables.{and-left, and-right, and-both}
 use Rattle.xid_params.proofs.Small.{AreSmall, small}
 

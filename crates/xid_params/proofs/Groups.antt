@@ -1,19 +1,12 @@
 -- Groups as they are passed, the faults of a field, and the first of these.
-use Rattle.std.proofs.Common.{◌≡◌, ◌≢◌, ℕ, suc, ◌+◌, ◌-◌, ◌/◌, ◌%◌, ◌<◌, ◌≤◌, ◌⊎◌, inl, inr, true, false, List, [], ◌∷◌, ◌++◌, length}
-use Rattle.std.proofs.Common.{nat_eq, Option, Some, None, append_assoc, length-append, arith, refl, sym, ◌∙◌, ap, subst}
-use Rattle.std.specs.List.{flat_map}
-use Rattle.std.proofs.lemmas.Bool.Decides.{nat_tests}
-use Rattle.std.proofs.lemmas.List.{append-nil}
-use Rattle.std.proofs.lemmas.List.Concat.{flat_map-append}
-use Rattle.xid_params.specs.declared.fault.XidFault.{XidFault}
-use Rattle.xid_params.specs.declared.fault.XidFault.TheVariants.{Format, Group, Length, Value, Repeated}
-use Rattle.xid_params.specs.declared.offer.Offer.{Offer}
-use Rattle.xid_params.specs.Parts.{Part, group_octets, named}
-use Rattle.xid_params.specs.Parameters.{ParametersSpell}
+use Rattle.xid_params.proofs.Names.{◌≡◌, ◌≢◌, ℕ, suc, ◌+◌, ◌-◌, ◌/◌, ◌%◌, ◌<◌, ◌≤◌, ◌⊎◌, inl, inr, true, false, List, [], ◌∷◌, ◌++◌, length}
+use Rattle.xid_params.proofs.Names.{nat_eq, Option, Some, None, append_assoc, length-append, arith, refl, sym, ◌∙◌, ap, subst, nat_tests}
+use Rattle.xid_params.proofs.Names.{append-nil, flat_map-append, flat_map, place_of, place_behind, IsGroupWrong, GroupHas, InnerHas, Has}
+use Rattle.xid_params.proofs.Names.{IsFirst, FirstFault, ParameterHas, Offers, ParametersSpell, Part, group_octets, named, XidFault, Format}
+use Rattle.xid_params.proofs.Names.{Group, Length, Value, Repeated, Offer}
 use Rattle.xid_params.specs.Offers.{Passes}
-use Rattle.xid_params.specs.Faults.{place_of, place_behind, IsGroupCut, IsGroupWrong, GroupHas, InnerHas, FormatHas, Has, IsFirst}
-use Rattle.xid_params.specs.Faults.{FirstFault, ParameterHas}
-use Rattle.xid_params.specs.Gathered.{IsOffered, Offers}
+use Rattle.xid_params.specs.Faults.{IsGroupCut, FormatHas}
+use Rattle.xid_params.specs.Gathered.{IsOffered}
 use Rattle.xid_params.proofs.Lists.{group-free, compare, named-append}
 use Rattle.xid_params.proofs.Tables.{named-other, named-first}
 use Rattle.xid_params.proofs.Parameters.{le-before, no-fault, within, fault-from}

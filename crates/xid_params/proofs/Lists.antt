@@ -1,8 +1,6 @@
 -- Lists of parts as octets.
-use Rattle.std.proofs.Common.{◌≡◌, ℕ, ◌/◌, ◌%◌, ◌⊎◌, inl, inr, Bool, List, [], ◌∷◌, ◌++◌, length, cond, append_assoc}
-use Rattle.std.proofs.Common.{arith, refl, sym, ◌∙◌, ap}
-use Rattle.std.specs.List.{flat_map}
-use Rattle.xid_params.specs.Parts.{Part, group_octets, parameter_octets, named}
+use Rattle.xid_params.proofs.Names.{◌≡◌, ℕ, ◌/◌, ◌%◌, ◌⊎◌, inl, inr, Bool, List, [], ◌∷◌, ◌++◌, length, cond, append_assoc, arith, refl}
+use Rattle.xid_params.proofs.Names.{sym, ◌∙◌, ap, flat_map, Part, group_octets, parameter_octets, named}
 
 -- A part is known by the octets in front.
 pub record IsFree (spell : Part → List ℕ) : Type 0 where

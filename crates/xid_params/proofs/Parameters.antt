@@ -1,20 +1,11 @@
 -- Group 80: its parameters as they are passed, their faults, and the first of these.
-use Rattle.std.proofs.Common.{◌≡◌, ℕ, suc, ◌+◌, ◌-◌, ◌<◌, ◌≤◌, ◌⊎◌, inl, inr, Bool, not, IsTrue, List, [], ◌∷◌, ◌++◌, length}
-use Rattle.std.proofs.Common.{append_assoc, length-append, arith, refl, sym, ◌∙◌, ap, subst}
-use Rattle.std.specs.List.{flat_map}
+use Rattle.xid_params.proofs.Names.{◌≡◌, ℕ, suc, ◌+◌, ◌-◌, ◌<◌, ◌≤◌, ◌⊎◌, inl, inr, Bool, not, IsTrue, List, [], ◌∷◌, ◌++◌, length}
+use Rattle.xid_params.proofs.Names.{append_assoc, length-append, arith, refl, sym, ◌∙◌, ap, subst, append-nil, flat_map-append, flat_map}
+use Rattle.xid_params.proofs.Names.{place_of, IsRepeated, IsParameterWrong, ParameterHas, IsFirst, Stands, identifier_of, accepts, is_low}
+use Rattle.xid_params.proofs.Names.{AreWell, ParametersSpell, Part, parameter_octets, named, XidFault, Format, Group, Length, Value}
+use Rattle.xid_params.proofs.Names.{Repeated, Given, Offer, Parameter}
 use Rattle.std.proofs.lemmas.Bool.{cases_lt}
-use Rattle.std.proofs.lemmas.List.{append-nil}
-use Rattle.std.proofs.lemmas.List.Concat.{flat_map-append}
-use Rattle.xid_params.specs.declared.fault.XidFault.{XidFault}
-use Rattle.xid_params.specs.declared.fault.XidFault.TheVariants.{Format, Group, Length, Value, Repeated}
-use Rattle.xid_params.specs.declared.given.Given.{Given}
-use Rattle.xid_params.specs.declared.offer.Offer.{Offer}
-use Rattle.xid_params.specs.declared.parameter.Parameter.{Parameter}
-use Rattle.xid_params.specs.Parts.{Part, parameter_octets, named}
-use Rattle.xid_params.specs.Parameters.{identifier_of, accepts, is_low, AreWell, ParametersSpell}
-use Rattle.xid_params.specs.Faults.{place_of, IsParameterCut, IsRepeated, HasWrongLength, IsIdentifiedWrong, IsParameterWrong, ParameterHas}
-use Rattle.xid_params.specs.Faults.{IsFirst}
-use Rattle.xid_params.specs.Gathered.{Stands}
+use Rattle.xid_params.specs.Faults.{IsParameterCut, HasWrongLength, IsIdentifiedWrong}
 use Rattle.xid_params.proofs.Lists.{parameter-free, cut-append, compare}
 use Rattle.xid_params.proofs.Tables.{same-parameter, stands-alone}
 

@@ -1,16 +1,9 @@
 -- One more parameter, and what is gathered and known of those before it.
-use Rattle.std.proofs.Common.{◌≡◌, ◌≢◌, ℕ, Bool, true, false, not, IsTrue, ◌&&◌, List, [], ◌∷◌, ◌++◌, length, nat_eq, cond, Option, Some}
-use Rattle.std.proofs.Common.{arith, refl, sym, ◌∙◌, ap, subst}
-use Rattle.std.proofs.lemmas.Bool.{false≢true}
-use Rattle.std.proofs.lemmas.Bool.Decides.{nat_tests}
-use Rattle.std.proofs.lemmas.List.{append-nil}
-use Rattle.xid_params.specs.declared.given.Given.{Given}
-use Rattle.xid_params.specs.declared.parameter.Parameter.{Parameter}
-use Rattle.xid_params.specs.declared.parameter.Parameter.TheVariants.{Functions, TxLength, RxLength, TxWindow, RxWindow}
-use Rattle.xid_params.specs.Parts.{Part, named}
-use Rattle.xid_params.specs.Parameters.{identifier_of, accepts, is_low, has_bit, octets_of_bits, segments_of, stands_well, said, AreWell}
-use Rattle.xid_params.specs.Faults.{IsRepeated}
-use Rattle.xid_params.specs.Gathered.{Stands}
+use Rattle.xid_params.proofs.Names.{◌≡◌, ◌≢◌, ℕ, Bool, true, false, not, IsTrue, ◌&&◌, List, [], ◌∷◌, ◌++◌, length, nat_eq, cond, Option}
+use Rattle.xid_params.proofs.Names.{Some, arith, refl, sym, ◌∙◌, ap, subst, false≢true, nat_tests, append-nil, IsRepeated, Stands}
+use Rattle.xid_params.proofs.Names.{identifier_of, accepts, is_low, octets_of_bits, segments_of, stands_well, said, AreWell, Part, named}
+use Rattle.xid_params.proofs.Names.{Given, Parameter, Functions, TxLength, RxLength, TxWindow, RxWindow}
+use Rattle.xid_params.specs.Parameters.{has_bit}
 use Rattle.xid_params.proofs.Lists.{named-append}
 
 -- parameters are told apart by their identifiers

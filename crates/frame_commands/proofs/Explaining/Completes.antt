@@ -1,26 +1,20 @@
 -- Every answer of the command, and when it is done.
-use Rattle.std.proofs.Common.{◌≡◌, ◌∙◌, inl, inr, ℕ, ◌≤◌, ◌<◌, List, [], length, Ok, Err, refl, sym, subst, arith}
+use Rattle.frame_commands.proofs.Names.{◌≡◌, ◌∙◌, inl, inr, ℕ, ◌≤◌, ◌<◌, List, [], length, Ok, Err, refl, sym, subst, arith}
+use Rattle.frame_commands.proofs.Names.{done-unless-memory, Answers, Tells, Status, Done, Own, IsBadHex, xid_job, OnlyOutputs-refl}
+use Rattle.frame_commands.proofs.Names.{CountsStand-refl, FolderState}
 use Rattle.hex.specs.Hex.{decode_of}
 use Rattle.hex.proofs.HexLemmas.{decode_of-ok, decode_of-same}
-use Rattle.outside_calls.specs.Folder.{FolderState}
-use Rattle.outside_calls.proofs.Steps.{CountsStand-refl}
 use Rattle.xid_params.specs.declared.offer.Offer.{Offer}
 use Rattle.xid_params.specs.Offers.{OfferSpelling}
 use Rattle.xid_params.proofs.Exact.{never-both}
 use Rattle.command_base.specs.declared.limits.TheConstants.{HEX_LIMIT}
-use Rattle.command_base.specs.declared.status.Status.{Status}
-use Rattle.command_base.specs.declared.status.Status.TheVariants.{Done, Usage, BadScript, BadRecording, BadHex, BadXid, TooLong, ReadFault}
+use Rattle.command_base.specs.declared.status.Status.TheVariants.{Usage, BadScript, BadRecording, BadHex, BadXid, TooLong, ReadFault}
 use Rattle.command_base.specs.declared.status.Status.TheVariants.{WriteFault}
 use Rattle.command_base.specs.declared.status.Status.TheVariants.{LineLost, NotDetected, LinkLost, ChanceMatch, NoMemory, PeerFault}
 use Rattle.command_base.specs.declared.status.Status.TheVariants.{AuditNo, BadTap, PairLinkLost, PairNotDetected}
-use Rattle.command_base.specs.declared.stop.Stop.TheVariants.{Own}
 use Rattle.command_base.specs.Stops.{IsOwn}
-use Rattle.command_base.specs.Job.{SaysStop, Answers}
-use Rattle.command_base.specs.Tells.{Tells}
-use Rattle.outside_calls.proofs.OnlyOutputs.{OnlyOutputs-refl}
-use Rattle.command_base.proofs.Jobs.{done-unless-memory}
-use Rattle.frame_commands.specs.Explaining.Digits.{IsBadHex}
-use Rattle.frame_commands.specs.Explaining.Ends.{Explains, Refuses, xid_job}
+use Rattle.command_base.specs.Job.{SaysStop}
+use Rattle.frame_commands.specs.Explaining.Ends.{Explains, Refuses}
 use Rattle.frame_commands.specs.Explaining.OfferLine.{offer_line}
 use Rattle.frame_commands.specs.Explaining.Completes.{SpellAnOffer, Completes}
 

@@ -1,17 +1,12 @@
 -- From every answer to what the command promises.
-use Rattle.std.proofs.Common.{ℕ, ◌≤◌, ◌<◌, List, [], ◌++◌, length, Result, subst, arith}
-use Rattle.outside_calls.specs.Folder.{FolderState, octets_at, Said}
-use Rattle.shared_terms.specs.declared.limits.TheConstants.{FILE_LIMIT}
-use Rattle.command_base.specs.declared.status.Status.{Status}
-use Rattle.command_base.specs.declared.stop.Stop.{Stop}
-use Rattle.command_base.specs.Job.{Answers}
+use Rattle.frame_commands.proofs.Names.{ℕ, ◌≤◌, ◌<◌, List, [], ◌++◌, length, Result, subst, arith, shared-of, done-unless-memory, Answers}
+use Rattle.frame_commands.proofs.Names.{Status, Stop, FramesNames, FolderState, octets_at, Said, OnlyOutputs, FILE_LIMIT}
 use Rattle.command_base.specs.Lines.{pieces_line}
-use Rattle.outside_calls.specs.Outputs.{KeepsAll, OnlyOutputs}
+use Rattle.outside_calls.specs.Outputs.{KeepsAll}
 use Rattle.command_base.specs.Status.{IsRefusal}
 use Rattle.command_base.specs.Stops.{end_status}
-use Rattle.command_base.proofs.Jobs.{IsDone, done-of, shared-of, done-unless-memory}
+use Rattle.command_base.proofs.Jobs.{IsDone, done-of}
 use Rattle.command_base.proofs.Saying.{Said-Said}
-use Rattle.frame_commands.specs.Listing.Words.{FramesNames}
 use Rattle.frame_commands.specs.Listing.Ends.{frames_job}
 use Rattle.frame_commands.specs.Listing.Completes.{Completes}
 use Rattle.frame_commands.specs.Listing.Headline.{ListsAll, Headline}

@@ -1,24 +1,22 @@
 -- From single steps to how a listing ends.
-use Rattle.std.proofs.Common.{◌≡◌, ◌∙◌, inl, ℕ, ◌+◌, Bool, true, false, IsTrue, List, [], ◌++◌, refl, sym, ap, subst, append-nil}
+use Rattle.frame_commands.proofs.Names.{◌≡◌, ◌∙◌, inl, ℕ, ◌+◌, IsTrue, List, [], ◌++◌, refl, sym, ap, subst, Stop, Own, Say, HeardTo, Begun}
+use Rattle.frame_commands.proofs.Names.{FramesNames, OnlyOutputs-reads, OnlyOutputs-says, OnlyOutputs-trans, FolderState, octets_at, Said}
+use Rattle.frame_commands.proofs.Names.{FILE_LIMIT}
+use Rattle.std.proofs.Common.{Bool, true, false, append-nil}
 use Rattle.std.proofs.Common.{append_assoc}
 use Rattle.shared_terms.specs.Prefix.{IsPrefixOf}
-use Rattle.outside_calls.specs.Folder.{FolderState, octets_at, OnlyReads, OnlySays, Said}
+use Rattle.outside_calls.specs.Folder.{OnlyReads, OnlySays}
 use Rattle.frame_check.specs.Bits.{bits_of}
 use Rattle.frame_check.proofs.BitLists.{bits_of-append}
 use Rattle.bit_stuffing.specs.Found.{pieces_of}
 use Rattle.bit_stuffing.proofs.Sent.{pieces-stay}
 use Rattle.shared_terms.specs.declared.role.Role.{Role}
-use Rattle.shared_terms.specs.declared.limits.TheConstants.{FILE_LIMIT}
-use Rattle.command_base.specs.declared.stop.Stop.{Stop}
-use Rattle.command_base.specs.declared.stop.Stop.TheVariants.{Own, Read, Write, Say, NoMemory}
+use Rattle.command_base.specs.declared.stop.Stop.TheVariants.{Read, Write, NoMemory}
 use Rattle.command_base.specs.Inputs.{IsNotWithin, ReadTo}
-use Rattle.outside_calls.proofs.OnlyOutputs.{OnlyOutputs-reads, OnlyOutputs-says, OnlyOutputs-trans}
 use Rattle.command_base.proofs.Reading.{ReadTo-none, ReadTo-kept, ReadTo-begins}
-use Rattle.frame_commands.specs.Listing.Words.{FramesNames}
 use Rattle.command_base.specs.Readings.{AreLines}
 use Rattle.command_base.specs.Heard.{Listening, Heard, PartlyHeard}
 use Rattle.command_base.proofs.Hearing.{said-after, heard-after}
-use Rattle.frame_commands.specs.Listing.Heard.{HeardTo, Begun}
 use Rattle.frame_commands.specs.Listing.Ends.{SaysAll, AreFirst, SaysFirst, SaysPart, EndsBy}
 
 -- Lines of the pieces in bits with which the bits of octets begin, where the file begins with these octets: so they are the

@@ -1,30 +1,24 @@
 -- As an end hears it gives its link up for its peer's faults alone, and as it is to speak for none of these.
-use Rattle.std.proofs.Common.{arith, ◌≡◌, ◌&&◌, ℕ, Bool, true, false, if◌then◌else◌, nat_eq, nat_le, Option, Result, Ok, Err, subst}
-use Rattle.std.specs.Option.{option_map}
-use Rattle.shared_terms.specs.declared.role.Role.{Role}
-use Rattle.shared_terms.specs.declared.role.Role.TheVariants.{Originator, Answerer}
-use Rattle.shared_terms.specs.Role.{is_originator}
-use Rattle.lapm_frames.specs.declared.frame.Frame.{Frame}
+use Rattle.line_world.proofs.Names.{arith, ◌≡◌, ◌&&◌, ℕ, Bool, true, false, nat_eq, Option, Result, Ok, Err, subst, option_map, Arrived}
+use Rattle.line_world.proofs.Names.{Frame, Outgoing, IsPeers, Account, hear, Said, speak, is_originator, LinkFault, Role, Originator}
+use Rattle.line_world.proofs.Names.{Answerer}
+use Rattle.std.proofs.Common.{if◌then◌else◌, nat_le}
 use Rattle.lapm_frames.specs.declared.frame.Frame.TheVariants.{I, Rr, Rnr, Rej, Srej, Sabme, Disc, Xid}
 use Rattle.xid_params.specs.Offers.{written}
 use Rattle.shared_terms.specs.Timer.{expires, wait}
-use Rattle.lapm_sender.specs.Outgoing.{Outgoing, acknowledged, rejected, replied, selected, paused_at, resumed, expired}
+use Rattle.lapm_sender.specs.Outgoing.{acknowledged, rejected, replied, selected, paused_at, resumed, expired}
 use Rattle.break_signals.specs.Breaks.{OwnBreaks, ticked}
-use Rattle.lapm_frames.specs.declared.arrived.Arrived.{Arrived}
 use Rattle.lapm_frames.specs.declared.arrived.Arrived.TheVariants as arrivals
-use Rattle.shared_terms.specs.declared.fault.LinkFault.{LinkFault}
 use Rattle.shared_terms.specs.declared.fault.LinkFault.TheVariants.{NotDetected}
 use Rattle.link_account.specs.declared.phase.Phase.{Phase}
 use Rattle.link_account.specs.declared.phase.Phase.TheVariants.{Detecting, Negotiating, Establishing, Connected, Releasing, Closed}
 use Rattle.link_account.specs.declared.answer.Answer.TheVariants as answers
-use Rattle.link_account.specs.Account.{Account}
-use Rattle.link_account.specs.Hear.{hear, on_frame, on_detecting, on_negotiating, on_establishing, on_releasing, on_closed, on_connected}
+use Rattle.link_account.specs.Hear.{on_frame, on_detecting, on_negotiating, on_establishing, on_releasing, on_closed, on_connected}
 use Rattle.link_account.specs.Hear.{on_number, on_disc, then_in, taking, replying, hurrying, pausing, ends_wait, owing, peer_reset, trying}
-use Rattle.link_account.specs.Speak.{Said, speak, speak_in, speak_detecting, speak_negotiating, speak_connected, speak_linked}
+use Rattle.link_account.specs.Speak.{speak_in, speak_detecting, speak_negotiating, speak_connected, speak_linked}
 use Rattle.link_account.specs.Speak.{speak_releasing, u_try, spent, tries_frame, trying_again, polling, breaking, on_timer}
 use Rattle.link_account.specs.Speak.{timer_expires, then_tries, after_timers, says}
 use Rattle.lapm_frames.specs.declared.sent.Sent.TheVariants as slots
-use Rattle.line_world.specs.OneEnd.Laws.{IsPeers}
 
 -- ---- hearing
 

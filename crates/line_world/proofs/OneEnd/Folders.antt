@@ -1,20 +1,13 @@
 -- What the steps of a turn leave of the folder, in a row.
-use Rattle.std.proofs.Common.{arith, ◌≡◌, ℕ, ◌≤◌, List, [], ◌∷◌, length, take, IsTrue, sym, ◌∙◌, ap, subst, Result, Err}
-use Rattle.std.specs.Prelude.{IsErrOf}
-use Rattle.outside_calls.specs.Folder.{FolderState, KeepsName, OnlyWrites, FaultsStand, CountsStand, HasCause, Rose}
-use Rattle.outside_calls.specs.declared.folder.FolderFault.{FolderFault}
+use Rattle.line_world.proofs.Names.{arith, ◌≡◌, ℕ, ◌≤◌, List, [], ◌∷◌, length, take, IsTrue, sym, ◌∙◌, ap, subst, Result, Err, IsErrOf}
+use Rattle.line_world.proofs.Names.{fault_of, IsReading, PeerNames, StaysKnown, FaultCounts, file_at, ReadsOn, SingleFault, Account}
+use Rattle.line_world.proofs.Names.{OnlyPuts-one, SomeRose-earlier, told_later, octets-kept, FaultsStand-trans, CountsStand-trans}
+use Rattle.line_world.proofs.Names.{FolderState, KeepsName, OnlyWrites, FaultsStand, CountsStand, HasCause, Rose, AreApartFrom, OnlyPuts}
+use Rattle.line_world.proofs.Names.{FolderFault}
 use Rattle.outside_calls.specs.declared.folder.FolderFault.TheVariants as folder
-use Rattle.outside_calls.proofs.Steps.{told_later, octets-kept, FaultsStand-trans, CountsStand-trans}
-use Rattle.outside_calls.specs.Outputs.{AreApartFrom, OnlyPuts}
-use Rattle.outside_calls.proofs.Putting.{OnlyPuts-one, SomeRose-earlier}
-use Rattle.line_world.specs.Station.{file_at, ReadsOn}
-use Rattle.link_account.specs.Account.{Account}
-use Rattle.line_world.specs.declared.one_end.step.SingleFault.{SingleFault}
 use Rattle.line_world.specs.declared.one_end.step.SingleFault.TheVariants as faults
-use Rattle.line_world.specs.OneEnd.Single.{PeerNames, StaysKnown, file_limit, inputs_of, outputs_of}
-use Rattle.line_world.specs.Faults.{fault_of}
-use Rattle.line_world.specs.OneEnd.Turn.{FaultCounts}
-use Rattle.line_world.specs.OneEnd.Mid.{IsReading, IsWriting}
+use Rattle.line_world.specs.OneEnd.Single.{file_limit, inputs_of, outputs_of}
+use Rattle.line_world.specs.OneEnd.Mid.{IsWriting}
 
 -- no output is the other one, nor the file
 abbrev pub IsApart : PeerNames → Type 0

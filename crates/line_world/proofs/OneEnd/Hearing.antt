@@ -1,28 +1,22 @@
 -- What is heard, one more bit at a time.
-use Rattle.std.proofs.Common.{◌≡◌, inl, inr, ◌∙◌, ℕ, ◌+◌, ◌-◌, ◌/◌, ◌^◌, ◌<◌, ◌≤◌, Bool, false, List, [], ◌∷◌, ◌++◌, length, take, get_or}
-use Rattle.std.proofs.Common.{nat_eq, bit_and}
-use Rattle.std.proofs.Common.{Option, None, replicate, refl, sym, ap, subst, arith, append_assoc, append-nil, length-append}
+use Rattle.line_world.proofs.Names.{◌≡◌, inl, inr, ◌∙◌, ℕ, ◌+◌, ◌-◌, ◌^◌, ◌<◌, ◌≤◌, Bool, false, List, [], ◌∷◌, ◌++◌, length, take, get_or}
+use Rattle.line_world.proofs.Names.{nat_eq, Option, None, refl, sym, ap, subst, arith, append_assoc, append-nil, length-append, cases_lt}
+use Rattle.line_world.proofs.Names.{take_more, take_all, take-append-le, length-replicate, lent_of, IsLent, EndsPattern, octet_bits}
+use Rattle.line_world.proofs.Names.{bits_of, Sixteen, SpellsFrame, Arrived, Frame, Seen, EndsWith, IsQuiet, AreQuiet, IsFirst, IsHeard}
+use Rattle.line_world.proofs.Names.{filled, slot_octets, Role}
+use Rattle.std.proofs.Common.{◌/◌}
+use Rattle.std.proofs.Common.{bit_and}
+use Rattle.std.proofs.Common.{replicate}
 use Rattle.std.specs.Option.{option_map_or}
-use Rattle.std.proofs.lemmas.List.{take_more, take_all, take-append-le, length-replicate}
-use Rattle.std.proofs.lemmas.Bool.{cases_lt}
 use Rattle.std.proofs.lemmas.Nat.{and_mask}
 use Rattle.std.proofs.lemmas.List.{nil_from_length}
-use Rattle.frame_check.specs.Bits.{octet_bits, bits_of}
 use Rattle.frame_check.proofs.BitLists.{length-low_bits, get_or-low_bits, bits_of-snoc}
-use Rattle.frame_check.specs.declared.check.Check.TheVariants.{Sixteen}
-use Rattle.shared_terms.specs.declared.role.Role.{Role}
-use Rattle.bit_stuffing.specs.Pieces.{IsLent}
-use Rattle.bit_stuffing.specs.Found.{Found, found_at, lent_of, listed, pieces_of}
+use Rattle.bit_stuffing.specs.Found.{Found, found_at, listed, pieces_of}
 use Rattle.bit_stuffing.proofs.Found.{lent-is, lent-once, pieces-more}
 use Rattle.bit_stuffing.proofs.Sent.{pieces-stay}
-use Rattle.detection.specs.Patterns.{EndsPattern, IsSeen, seen_at}
+use Rattle.detection.specs.Patterns.{IsSeen, seen_at}
 use Rattle.detection.specs.Sights.{Sight, SightsAdded, sights_at, sights_of}
-use Rattle.lapm_frames.specs.declared.frame.Frame.{Frame}
-use Rattle.lapm_frames.specs.Checked.{SpellsFrame}
-use Rattle.lapm_frames.specs.declared.seen.Seen.{Seen}
-use Rattle.lapm_frames.specs.declared.arrived.Arrived.{Arrived}
 use Rattle.lapm_frames.specs.declared.arrived.Arrived.TheVariants as arrivals
-use Rattle.line_world.specs.OneEnd.Heard.{EndsWith, IsQuiet, AreQuiet, IsFirst, IsHeard, filled, slot_octets}
 
 -- ---- what ends with one bit
 

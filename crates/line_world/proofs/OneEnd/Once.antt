@@ -1,34 +1,20 @@
 -- One thing is heard in bits, and one run is made of it.
-use Rattle.std.proofs.Common.{◌≡◌, ◌∙◌, inl, inr, ℕ, ◌+◌, ◌-◌, ◌<◌, Bool, true, false, List, [], ◌∷◌, ◌++◌, length, map, take, get_or}
-use Rattle.std.proofs.Common.{Option, Some, None, Result, Ok, Err, refl, sym, ap, subst, arith, append_assoc, length-append}
-use Rattle.std.specs.List.{concat}
-use Rattle.std.proofs.lemmas.Bool.{false≢true, cases_lt}
-use Rattle.std.proofs.Math.Seq.{take-append_seam}
-use Rattle.std.proofs.lemmas.List.{take-append-le, get_or-append_right, length-replicate}
-use Rattle.frame_check.specs.declared.check.Check.{Check}
-use Rattle.frame_check.specs.declared.check.Check.TheVariants.{Sixteen}
-use Rattle.shared_terms.specs.declared.role.Role.{Role}
-use Rattle.shared_terms.specs.Role.{other}
+use Rattle.line_world.proofs.Names.{◌≡◌, ◌∙◌, inl, inr, ℕ, ◌+◌, ◌-◌, ◌<◌, Bool, true, false, List, [], ◌∷◌, ◌++◌, length, map, take, get_or}
+use Rattle.line_world.proofs.Names.{Option, Some, None, Result, Ok, Err, refl, sym, ap, subst, arith, append_assoc, length-append}
+use Rattle.line_world.proofs.Names.{take-append_seam, false≢true, cases_lt, take-append-le, length-replicate, concat, lent_of, IsLent}
+use Rattle.line_world.proofs.Names.{EndsPattern, Check, Sixteen, SpellsFrame, Arrived, Frame, Seen, EndsWith, IsQuiet, AreQuiet, IsFirst}
+use Rattle.line_world.proofs.Names.{stream, slot_bits, IsPeers, Past, Going, Closed, Broken, party_of, Account, given_break, hear, Said}
+use Rattle.line_world.proofs.Names.{LoneTurn, hangs_up, lone_served, deliveries, speaks_alone, has_finished, Spoken, spoken, other}
+use Rattle.line_world.proofs.Names.{LinkFault, Role}
+use Rattle.std.proofs.lemmas.List.{get_or-append_right}
 use Rattle.bit_stuffing.specs.Flags.{FlagEndsAt}
-use Rattle.bit_stuffing.specs.Pieces.{EndsWhole, IsLent}
-use Rattle.bit_stuffing.specs.Found.{lent_of}
-use Rattle.detection.specs.Patterns.{EndsPattern, first, second, ones}
-use Rattle.lapm_frames.specs.declared.frame.Frame.{Frame}
-use Rattle.lapm_frames.specs.Checked.{SpellsFrame}
-use Rattle.lapm_frames.specs.declared.seen.Seen.{Seen}
-use Rattle.lapm_frames.specs.declared.arrived.Arrived.{Arrived}
+use Rattle.bit_stuffing.specs.Pieces.{EndsWhole}
+use Rattle.detection.specs.Patterns.{first, second, ones}
 use Rattle.lapm_frames.specs.declared.arrived.Arrived.TheVariants as arrivals
-use Rattle.shared_terms.specs.declared.fault.LinkFault.{LinkFault}
-use Rattle.link_account.specs.Account.{Account, given_break}
-use Rattle.link_account.specs.Hear.{hear}
-use Rattle.link_account.specs.Speak.{Said}
-use Rattle.link_run.specs.End.{deliveries, speaks_alone, has_finished}
-use Rattle.link_run.specs.Run.{Party, Spoken, spoken}
-use Rattle.link_run.specs.Alone.{LoneTurn, LoneRun, LoneBroken, OneLoneRun, hangs_up, lone_served}
-use Rattle.line_world.specs.OneEnd.Heard.{EndsWith, IsQuiet, AreQuiet, IsFirst, stream, slot_bits}
-use Rattle.line_world.specs.OneEnd.Peer.{Past, TurnIs, Outcome, Going, Closed, Broken, HearsSlots, party_of}
+use Rattle.link_run.specs.Run.{Party}
+use Rattle.link_run.specs.Alone.{LoneRun, LoneBroken, OneLoneRun}
+use Rattle.line_world.specs.OneEnd.Peer.{TurnIs, Outcome, HearsSlots}
 use Rattle.line_world.specs.OneEnd.Laws.{OneIsHeard, OnePeerRun, OnePeerTurn, HearingBreaks, PeersFaultsAreHeard, OtherFaultsAreWants}
-use Rattle.line_world.specs.OneEnd.Laws.{IsPeers}
 use Rattle.line_world.proofs.OneEnd.Breaking.{hears-peers, speaks-wants}
 
 -- ---- what ends with one bit

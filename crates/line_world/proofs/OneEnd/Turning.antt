@@ -1,43 +1,24 @@
 -- The steps of a turn.
-use Rattle.std.proofs.Common.{◌≡◌, inl, inr, ◌∙◌, ℕ, zero, suc, ◌+◌, ◌≤◌, Bool, true, false, cond, not, ◌&&◌, ◌||◌, List, [], ◌∷◌, length}
-use Rattle.std.proofs.Common.{refl, sym, ap, subst, arith, Option, Some, None, Result, Ok, Err}
-use Rattle.std.specs.List.{concat}
-use Rattle.std.proofs.lemmas.Bool.{false≢true}
-use Rattle.std.specs.Prelude.{slice_get, is_ok}
-use Rattle.std.specs.Option.{option_map}
-use Rattle.outside_calls.specs.Folder.{FolderState, GoesOn, OnlyWrites, Adds, Appended, PartlyAppended}
-use Rattle.outside_calls.proofs.Steps.{GoesOn-refl}
-use Rattle.outside_calls.specs.Outputs.{OnlyPuts, AddEach}
-use Rattle.outside_calls.proofs.Putting.{KeepsEach-refl, AddEach-next, AddPart-next, AddPart-none}
-use Rattle.shared_terms.specs.declared.role.Role.{Role}
-use Rattle.shared_terms.specs.declared.role.Role.TheVariants.{Originator, Answerer}
-use Rattle.shared_terms.specs.Role.{is_originator, other}
-use Rattle.xid_params.specs.Offers.{IsAllowed}
+use Rattle.line_world.proofs.Names.{◌≡◌, inl, inr, ◌∙◌, ℕ, zero, suc, ◌+◌, ◌≤◌, Bool, true, false, cond, not, ◌&&◌, ◌||◌, List, [], ◌∷◌}
+use Rattle.line_world.proofs.Names.{length, refl, sym, ap, subst, arith, Option, Some, None, Result, Ok, Err, false≢true, concat}
+use Rattle.line_world.proofs.Names.{option_map, slice_get, HasHeard, Arrived, Sent, trace_line, IsHeard, stream, slot_bits, IsReading}
+use Rattle.line_world.proofs.Names.{handed, served_with, Past, Going, Closed, Broken, party_of, over, PeerNames, StaysKnown, EndsBy, Stands}
+use Rattle.line_world.proofs.Names.{HearsAs, SpeaksAs, Supplies, SingleFault, Station, Account, is_connected, is_done, break_waits}
+use Rattle.line_world.proofs.Names.{given_break, after_given, hear, Said, speak, Setup, LoneTurn, hangs_up, lone_served, BreakLine}
+use Rattle.line_world.proofs.Names.{deliveries, asked_at, is_closed, is_ready, has_finished, speaks_alone, spoken, KeepsEach-refl}
+use Rattle.line_world.proofs.Names.{AddEach-next, AddPart-next, AddPart-none, GoesOn-refl, FolderState, GoesOn, OnlyWrites, Adds, Appended}
+use Rattle.line_world.proofs.Names.{PartlyAppended, OnlyPuts, AddEach, is_originator, other, LinkFault, Role, Originator, Answerer}
+use Rattle.line_world.proofs.Names.{IsAllowed}
+use Rattle.std.specs.Prelude.{is_ok}
 use Rattle.xid_params.specs.Terms.{default_offer}
-use Rattle.lapm_frames.specs.declared.arrived.Arrived.{Arrived}
-use Rattle.lapm_frames.specs.declared.sent.Sent.{Sent}
-use Rattle.shared_terms.specs.declared.fault.LinkFault.{LinkFault}
-use Rattle.link_account.specs.declared.setup.Setup.{Setup}
-use Rattle.link_account.specs.Account.{Account, is_connected, is_done, break_waits, given_break, after_given}
-use Rattle.link_account.specs.Hear.{hear}
-use Rattle.link_account.specs.Speak.{Said, speak}
-use Rattle.link_run.specs.End.{BreakLine, deliveries, asked_at, is_closed, is_ready, has_finished, speaks_alone}
-use Rattle.link_run.specs.Run.{spoken}
-use Rattle.link_run.specs.Alone.{LoneTurn, LoneGoing, LoneNext, Goes_on, Is_last, Is_faulty, Is_broken, hangs_up, lone_served}
+use Rattle.link_run.specs.Alone.{LoneGoing, LoneNext, Goes_on, Is_last, Is_faulty, Is_broken}
 use Rattle.link_run.specs.Alone.{LoneRunsByWhatIsReadOn, LoneRunsKeepTheirSetup, EachLoneTurnIsMade}
-use Rattle.line_world.specs.declared.station.Station.{Station}
-use Rattle.line_world.specs.Station.{Stands, HearsAs, SpeaksAs, Supplies}
-use Rattle.line_texts.specs.LineText.{trace_line}
-use Rattle.line_world.specs.OneEnd.Heard.{IsHeard, stream, slot_bits}
-use Rattle.detection.specs.Ear.{HasHeard}
-use Rattle.line_world.specs.OneEnd.Peer.{Past, PeerRun, PeerTurn, Outcome, Going, Closed, Broken, party_of, over, heard_as, turn_line}
-use Rattle.line_world.specs.OneEnd.Single.{PeerNames, StaysKnown, file_limit, outputs_of}
-use Rattle.line_world.specs.OneEnd.Turn.{Makes, Stops, StopsInReading, GoesOnBy, EndsBy}
-use Rattle.line_world.specs.OneEnd.Mid.{InTurn, BreaksOff, Serves, AddsLine, AddsPart, HasGone, EndsLine, IsReading, IsWriting, handed}
-use Rattle.line_world.specs.OneEnd.Mid.{served_with}
+use Rattle.line_world.specs.OneEnd.Peer.{PeerRun, PeerTurn, Outcome, heard_as, turn_line}
+use Rattle.line_world.specs.OneEnd.Single.{file_limit, outputs_of}
+use Rattle.line_world.specs.OneEnd.Turn.{Makes, Stops, StopsInReading, GoesOnBy}
+use Rattle.line_world.specs.OneEnd.Mid.{InTurn, BreaksOff, Serves, AddsLine, AddsPart, HasGone, EndsLine, IsWriting}
 use Rattle.line_world.proofs.OneEnd.Folders.{IsApart, got-only, trace-only, stays-known}
 use Rattle.line_world.specs.declared.one_end.single.Single.{Single}
-use Rattle.line_world.specs.declared.one_end.step.SingleFault.{SingleFault}
 use Rattle.line_world.specs.declared.one_end.step.SingleFault.TheVariants as faults
 use Rattle.line_world.specs.declared.one_end.step.SingleStep.{SingleStep}
 use Rattle.line_world.specs.declared.one_end.step.SingleStep.TheVariants as steps

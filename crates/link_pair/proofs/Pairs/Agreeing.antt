@@ -1,26 +1,12 @@
 -- A link's turns depend on what went beside them by then, and on nothing that goes there later.
-use Rattle.std.proofs.Common.{◌≡◌, ℕ, zero, suc, ◌+◌, ◌-◌, ◌<◌, ◌≤◌, Bool, false, cond, nat_eq, List, [], ◌∷◌, ◌++◌, length, drop}
-use Rattle.std.proofs.Common.{arith, refl, sym, ◌∙◌, ap, subst, Option, Some, None}
-use Rattle.std.proofs.lemmas.Bool.Decides.{nat_tests}
-use Rattle.std.proofs.lemmas.List.{length-drop}
-use Rattle.frame_check.specs.declared.check.Check.{Check}
-use Rattle.shared_terms.specs.declared.role.Role.{Role}
-use Rattle.shared_terms.specs.Role.{other}
-use Rattle.shared_terms.specs.Both.{of}
-use Rattle.detection.specs.Slots.{signal_bits}
-use Rattle.lapm_frames.specs.declared.heard.Heard.{Heard}
-use Rattle.noise_script.specs.Script.{ScriptValue, delay_of}
-use Rattle.sample_line.specs.Recorded.{Records}
-use Rattle.link_account.specs.Account.{check_of}
-use Rattle.link_run.specs.Run.{Link, Accounts, Spoken, Turn}
-use Rattle.link_run.specs.Carried.{sent_ago}
-use Rattle.link_run.specs.Outcomes.{Outcome}
-use Rattle.line_run.specs.Sampled.{and_then, signal_in, signals, signals_before, ArrivesAs, IsHeardOf, HeardIn, IsHeardOver, LineRun}
-use Rattle.line_run.specs.Ends.{RunEnd, IsDone, LinkLost, NotDetected, Left, EndsInTurn, EndsBy}
-use Rattle.line_run.proofs.Slots.{SentAgo, sent-ago}
-use Rattle.link_pair.specs.Pairs.Beside.{signal_or_flags, slot_in, lasting}
-use Rattle.line_run.specs.Scripted.{wire_at}
-use Rattle.link_pair.specs.Pairs.Pair.{last_ends, IsByLink, Progress, Goes, Ended, HearsIdly, IdlesFor, Lasts}
+use Rattle.link_pair.proofs.Names.{◌≡◌, ℕ, zero, suc, ◌+◌, ◌-◌, ◌<◌, ◌≤◌, Bool, false, cond, nat_eq, List, [], ◌∷◌, ◌++◌, length, drop}
+use Rattle.link_pair.proofs.Names.{arith, refl, sym, ◌∙◌, ap, subst, Option, Some, None, nat_tests, length-drop, signal_bits, Check, Heard}
+use Rattle.link_pair.proofs.Names.{SentAgo, sent-ago, RunEnd, IsDone, LinkLost, NotDetected, Left, EndsInTurn, and_then, signal_in, signals}
+use Rattle.link_pair.proofs.Names.{signals_before, ArrivesAs, IsHeardOf, HeardIn, LineRun, wire_at, check_of, signal_or_flags, slot_in}
+use Rattle.link_pair.proofs.Names.{lasting, last_ends, IsByLink, Progress, Goes, Ended, HearsIdly, IdlesFor, Lasts, sent_ago, Outcome, Link}
+use Rattle.link_pair.proofs.Names.{Accounts, Spoken, Turn, ScriptValue, delay_of, Records, of, other, Role}
+use Rattle.line_run.specs.Sampled.{IsHeardOver}
+use Rattle.line_run.specs.Ends.{EndsBy}
 use Rattle.link_pair.proofs.Pairs.Clear.{Beside, bits_in}
 
 -- the same goes beside the first so many slots

@@ -1,30 +1,18 @@
 -- Whatever goes over the line, a slot of a link is lost, mistaken or heard; so each turn of a link is made, or the line ends the pair.
-use Rattle.std.proofs.Common.{◌≡◌, ◌⊎◌, inl, inr, ℕ, suc, ◌-◌, ◌<◌, ◌≤◌, true, false, List, ◌∷◌, length, arith, refl, sym, ◌∙◌, ap, subst}
-use Rattle.std.proofs.lemmas.Bool.{false≢true}
-use Rattle.shared_terms.specs.declared.role.Role.{Role}
-use Rattle.shared_terms.specs.declared.role.Role.TheVariants.{Originator, Answerer}
-use Rattle.shared_terms.specs.Role.{other}
-use Rattle.shared_terms.specs.Both.{Both, of}
-use Rattle.noise_script.specs.Script.{ScriptValue, IsInLimits, delay_of}
+use Rattle.link_pair.proofs.Names.{◌≡◌, ◌⊎◌, inl, inr, ℕ, suc, ◌-◌, ◌<◌, ◌≤◌, true, false, List, ◌∷◌, length, arith, refl, sym, ◌∙◌, ap}
+use Rattle.link_pair.proofs.Names.{subst, false≢true, left_of, leaves-so, RunEnd, IsDone, LinkLost, NotDetected, Left, EndsInTurn, RunsTo}
+use Rattle.link_pair.proofs.Names.{Wire, LineRun, LineEnd, EndsLine, link_of, ScriptsMayPlay, wire_at, check_of, slot_in, lasting, is_going}
+use Rattle.link_pair.proofs.Names.{Progress, Goes, Ended, turns_in, ends_in, turns_on_line, HearsIdly, IdlesFor, Lasts, Outcome, Going}
+use Rattle.link_pair.proofs.Names.{Done, Broken, TurnIs, Link, Accounts, Turn, trace_text, ScriptValue, IsInLimits, delay_of, Both, of}
+use Rattle.link_pair.proofs.Names.{other, Role, Originator, Answerer}
 use Rattle.shared_terms.specs.declared.fault.LinkFault.{LinkFault}
 use Rattle.shared_terms.specs.declared.fault.LinkFault.TheVariants as faults
-use Rattle.link_account.specs.Account.{check_of}
-use Rattle.link_run.specs.Run.{Link, Accounts, Turn}
-use Rattle.link_run.specs.Outcomes.{Outcome, Going, Done, Broken, TurnIs}
-use Rattle.link_run.specs.Trace.{trace_text}
 use Rattle.link_run.specs.Laws.{EachEndIsNamed, IsNamed}
-use Rattle.line_run.specs.Sampled.{Wire, LineRun, LineEnd, EndsLine}
-use Rattle.line_run.specs.Scripted.{link_of, ScriptsMayPlay, wire_at}
-use Rattle.line_run.specs.Ends.{RunEnd, IsDone, LinkLost, NotDetected, Left, EndsInTurn, RunsTo}
 use Rattle.line_ends.specs.Causes.{MadeOver, HeardTurnsAreMade}
 use Rattle.line_ends.specs.EachEnds.{Becomes}
 use Rattle.line_ends.proofs.Becoming.{BecomeLaws, slot-becomes, line-or-heard}
-use Rattle.link_pair.specs.Pairs.Beside.{slot_in, lasting}
-use Rattle.link_pair.specs.Pairs.Pair.{Progress, Goes, Ended, turns_in, ends_in, turns_on_line, HearsIdly, IdlesFor, Lasts}
-use Rattle.link_pair.specs.Pairs.Ends.{is_going}
 use Rattle.link_pair.proofs.Pairs.Fitting.{AllFitting, fitting-lasting, BesideFits}
 use Rattle.link_pair.proofs.Pairs.Clear.{Beside, bits_in, arriving-behind}
-use Rattle.line_run.proofs.WhatIsLeft.{left_of, leaves-so}
 use Rattle.link_pair.proofs.Pairs.Agreeing.{slot-stays}
 
 pub record NextLaws : Type 0 where

@@ -1,35 +1,24 @@
 -- What is heard of a slot depends on that slot, its check and the script's lose lines alone, where noise is faint: whatever goes beside it.
-use Rattle.std.proofs.Common.{◌≡◌, ◌≢◌, ◌⊎◌, inl, inr, ℕ, ◌+◌, ◌-◌, ◌*◌, ◌<◌, ◌≤◌, Bool, List, [], ◌∷◌, ◌++◌, length, drop, arith}
-use Rattle.std.proofs.Common.{refl, sym, subst, Option, Some, None, append-nil}
-use Rattle.frame_check.specs.declared.check.Check.{Check}
+use Rattle.link_pair.proofs.Names.{◌≡◌, ◌≢◌, ◌⊎◌, inl, inr, ℕ, ◌+◌, ◌-◌, ◌*◌, ◌<◌, ◌≤◌, Bool, List, [], ◌∷◌, ◌++◌, length, drop, arith}
+use Rattle.link_pair.proofs.Names.{refl, sym, subst, Option, Some, None, append-nil, Signal, signal_bits, Check, IsSendable, Heard, Chance}
+use Rattle.link_pair.proofs.Names.{IsFaint, SentAgo, sent-ago, Wire, signals_before, ArrivesAs, IsHeardOf, slot_symbols, longest_of}
+use Rattle.link_pair.proofs.Names.{wire_at, AllSendable, ChecksAgree, sent_ago, Spoken, Turn, ScriptValue, delay_of, Records, signal_of, of}
+use Rattle.link_pair.proofs.Names.{Role}
 use Rattle.bit_stuffing.specs.declared.slot_writer.TheConstants.{HEAD, TAIL}
 use Rattle.symbol_map.specs.declared.sample.Sample.{Sample}
 use Rattle.exact_decoder.specs.Surviving.Survivors.{LostIs}
 use Rattle.exact_decoder.specs.Surviving.V32.{line_depth, line_trellis}
-use Rattle.shared_terms.specs.declared.role.Role.{Role}
-use Rattle.shared_terms.specs.Both.{of}
-use Rattle.detection.specs.Slots.{Signal, signal_bits}
-use Rattle.lapm_frames.specs.declared.heard.Heard.{Heard}
-use Rattle.lapm_frames.specs.declared.heard.Heard.TheVariants.{Nothing, Chance}
-use Rattle.lapm_frames.specs.Sendable.{IsSendable}
-use Rattle.noise_script.specs.Script.{ScriptValue, delay_of, loses}
-use Rattle.sample_line.specs.Signals.{signal_of}
-use Rattle.sample_line.specs.Recorded.{Records}
+use Rattle.lapm_frames.specs.declared.heard.Heard.TheVariants.{Nothing}
+use Rattle.noise_script.specs.Script.{loses}
 use Rattle.sample_line.specs.Outcomes.{IsOutcome}
 use Rattle.sample_line.specs.Laws.{OneOutcome}
-use Rattle.line_run.specs.Unhindered.{ChecksAgree, octets_in, patterns_in, unhindered}
+use Rattle.line_run.specs.Unhindered.{octets_in, patterns_in, unhindered}
 use Rattle.line_run.specs.Laws.{FaintNeverLost, FaintReceivedIsSent, FaintSentIsReceived, NeverChance, SlotsAreRecorded}
 use Rattle.line_run.proofs.Received.{as-expected}
-use Rattle.link_run.specs.Run.{Spoken, Turn}
-use Rattle.link_run.specs.Carried.{sent_ago}
-use Rattle.line_run.specs.Sampled.{Wire, signals_before, bits_of, Arrives, ArrivesAs, IsHeardOf, LosesLine}
-use Rattle.line_run.specs.Scripted.{slot_symbols, longest_of, wire_at}
-use Rattle.line_ends.specs.Completes.{IsFaint}
-use Rattle.line_run.specs.Stream.{AllSendable}
+use Rattle.line_run.specs.Sampled.{bits_of, Arrives, LosesLine}
 use Rattle.line_ends.proofs.Receiving.{lost-or-not}
 use Rattle.line_run.proofs.Bits.{signals-upto}
 use Rattle.line_ends.proofs.Becoming.{Sent_behind}
-use Rattle.line_run.proofs.Slots.{SentAgo, sent-ago}
 use Rattle.link_pair.proofs.Pairs.Fitting.{AllFit, all-fit, fit-and-one, AllFitting, fitting-dropped, BesideFits, before-fit}
 use Rattle.line_ends.proofs.Hearing.{slots-long as long}
 

@@ -1,12 +1,8 @@
 -- Which pairs are done.
-use Rattle.std.proofs.Common.{arith, ◌≡◌, ℕ, ◌∙◌, ap}
-use Rattle.line_run.specs.Ends.{RunEnd, IsDone, GivesUp}
-use Rattle.line_ends.specs.Causes.{LostLinksWereStarved}
+use Rattle.link_pair.proofs.Names.{arith, ◌≡◌, ℕ, ◌∙◌, ap, LostLinksWereStarved, RunEnd, IsDone, first_wire, second_wire, end_of, EndsDone}
+use Rattle.link_pair.proofs.Names.{UnstarvedPairsAreDone, QuietPairsAreDone, FaintPairsAreIsolated, IsByLink}
+use Rattle.line_run.specs.Ends.{GivesUp}
 use Rattle.line_ends.specs.Completes.{CompletesQuiet}
-use Rattle.link_pair.specs.Pairs.Beside.{first_wire, second_wire}
-use Rattle.link_pair.specs.Pairs.Pair.{IsByLink}
-use Rattle.link_pair.specs.Pairs.Ends.{end_of}
-use Rattle.link_pair.specs.Pairs.Laws.{EndsDone, UnstarvedPairsAreDone, QuietPairsAreDone, FaintPairsAreIsolated}
 
 -- an end of the link that nobody gave up is done
 not-given-up : (end : RunEnd) → IsByLink end → (GivesUp end → ⊥) → (turn : ℕ) × (end ≡ IsDone turn)

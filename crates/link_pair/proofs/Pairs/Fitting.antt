@@ -1,25 +1,17 @@
 -- What both links send fits the slots of the line, in whatever order the slots come.
-use Rattle.std.proofs.Common.{arith, ◌≡◌, ℕ, zero, suc, ◌*◌, ◌<◌, Bool, true, false, cond, nat_eq, List, [], ◌∷◌, ◌++◌, length, drop, refl}
-use Rattle.std.proofs.Common.{sym, ap, subst, Option, Some, None}
+use Rattle.link_pair.proofs.Names.{arith, ◌≡◌, ℕ, zero, suc, ◌*◌, ◌<◌, Bool, true, false, cond, nat_eq, List, [], ◌∷◌, ◌++◌, length, drop}
+use Rattle.link_pair.proofs.Names.{refl, sym, ap, subst, Option, Some, None, Signal, FlagSlot, IsSendable, Wire, and_then, signal_in}
+use Rattle.link_pair.proofs.Names.{signals, signals_before, LineRun, link_of, slot_symbols, longest_of, SlotsAreCodable, AllSendable}
+use Rattle.link_pair.proofs.Names.{signal_or_flags, slot_in, after_second, after_first, idle_turn, lasting, Accounts, Spoken, Turn}
+use Rattle.link_pair.proofs.Names.{IsInLimits, signal_of, Both, of, Role}
 use Rattle.std.proofs.lemmas.List.{append-nil}
 use Rattle.bit_stuffing.specs.Slots.{next_phase}
 use Rattle.bit_stuffing.proofs.Fill.{next-low}
-use Rattle.shared_terms.specs.declared.role.Role.{Role}
-use Rattle.shared_terms.specs.Both.{Both, of}
-use Rattle.detection.specs.Slots.{Signal, slot_of}
-use Rattle.detection.specs.Slots.Signal.{FlagSlot}
+use Rattle.detection.specs.Slots.{slot_of}
 use Rattle.lapm_frames.specs.declared.sent.Sent.{Sent}
 use Rattle.lapm_frames.specs.declared.sent.Sent.TheVariants as slots
-use Rattle.lapm_frames.specs.Sendable.{IsSendable}
-use Rattle.noise_script.specs.Script.{IsInLimits}
-use Rattle.sample_line.specs.Signals.{signal_of}
 use Rattle.line_run.specs.Fitting.{Fits, AreFit}
 use Rattle.line_run.proofs.Fits.{codable-fits, spelled-octets}
-use Rattle.link_run.specs.Run.{Accounts, Spoken, Turn}
-use Rattle.line_run.specs.Sampled.{Wire, and_then, signal_in, signals, signals_before, LineRun}
-use Rattle.line_run.specs.Scripted.{link_of, slot_symbols, longest_of, SlotsAreCodable}
-use Rattle.line_run.specs.Stream.{AllSendable}
-use Rattle.link_pair.specs.Pairs.Beside.{signal_or_flags, slot_in, after_second, after_first, idle_turn, lasting}
 
 -- what fits a slot of this size behind whatever was sent before
 abbrev pub FitsAlways : ℕ → Signal → Type 0

@@ -1,26 +1,14 @@
 -- The slots of a link that has ended.
-use Rattle.std.proofs.Common.{◌≡◌, ◌⊎◌, inl, inr, ℕ, zero, suc, ◌-◌, List, arith, ◌∙◌, ap, subst, Some}
+use Rattle.link_pair.proofs.Names.{◌≡◌, ◌⊎◌, inl, inr, ℕ, zero, suc, ◌-◌, List, arith, ◌∙◌, ap, subst, Some, agree-on, RunEnd, IsDone}
+use Rattle.link_pair.proofs.Names.{LinkLost, NotDetected, Left, EndsInTurn, OneIsCarried, LineRun, link_of, wire_at, ChecksAgree, check_of}
+use Rattle.link_pair.proofs.Names.{lasting, last_ends, IsByLink, sent_ago, Outcome, JudgesOnceHeard, Accounts, Spoken, Turn, ScriptValue}
+use Rattle.link_pair.proofs.Names.{IsInLimits, delay_of, Both, of, other, Role}
 use Rattle.std.specs.Prelude.{slice_get}
-use Rattle.shared_terms.specs.declared.role.Role.{Role}
-use Rattle.shared_terms.specs.Role.{other}
-use Rattle.shared_terms.specs.Both.{Both, of}
 use Rattle.lapm_frames.specs.Checked.{check_for}
 use Rattle.lapm_frames.specs.declared.frame.Frame.{Frame}
 use Rattle.lapm_frames.specs.declared.sent.Sent.TheVariants as slots
-use Rattle.line_run.specs.Unhindered.{ChecksAgree}
-use Rattle.noise_script.specs.Script.{ScriptValue, IsInLimits, delay_of}
-use Rattle.link_account.specs.Account.{check_of}
-use Rattle.link_run.specs.Run.{Accounts, Spoken, Turn}
-use Rattle.link_run.specs.Carried.{sent_in, sent_ago}
-use Rattle.link_run.specs.Overheard.{JudgesOnceHeard}
-use Rattle.link_run.specs.Outcomes.{Outcome}
-use Rattle.line_run.specs.Sampled.{LineRun}
-use Rattle.line_run.specs.Scripted.{link_of, wire_at}
-use Rattle.line_run.specs.LineLaws.{OneIsCarried}
-use Rattle.line_run.specs.Ends.{RunEnd, IsDone, LinkLost, NotDetected, Left, EndsInTurn, EndsBy}
-use Rattle.line_ends.proofs.Hearing.{agree-on}
-use Rattle.link_pair.specs.Pairs.Beside.{lasting}
-use Rattle.link_pair.specs.Pairs.Pair.{last_ends, IsByLink}
+use Rattle.link_run.specs.Carried.{sent_in}
+use Rattle.line_run.specs.Ends.{EndsBy}
 use Rattle.link_pair.proofs.Pairs.Fitting.{idle-sends}
 use Rattle.link_pair.proofs.Pairs.Clear.{Beside, Agrees}
 use Rattle.link_pair.proofs.Pairs.Isolating.{IsolationLaws, over, hearing-in}

@@ -1,22 +1,11 @@
 -- Where noise is faint a link runs as it would whatever goes beside it.
-use Rattle.std.proofs.Common.{arith, ◌≡◌, ℕ, ◌<◌, List, [], ◌∷◌, length, sym, subst}
-use Rattle.shared_terms.specs.declared.role.Role.{Role}
-use Rattle.shared_terms.specs.Role.{other}
-use Rattle.shared_terms.specs.Both.{Both, of}
-use Rattle.noise_script.specs.Script.{ScriptValue, IsInLimits, delay_of}
-use Rattle.link_account.specs.Account.{check_of}
-use Rattle.link_run.specs.Run.{Accounts, Turn, Hears}
-use Rattle.link_run.specs.Outcomes.{Outcome, TurnIs}
+use Rattle.link_pair.proofs.Names.{arith, ◌≡◌, ℕ, ◌<◌, List, [], ◌∷◌, length, sym, subst, agree-on, IsFaint, AreOfOctets, RunEnd, IsDone}
+use Rattle.link_pair.proofs.Names.{LinkLost, NotDetected, Left, EndsInTurn, RunsTo, SamplesAreCarried, IsHeardOf, HeardIn, LineRun, link_of}
+use Rattle.link_pair.proofs.Names.{ScriptsMayPlay, ScriptsHaveDelays, SlotsAreCodable, wire_at, check_of, IsByLink, Outcome, TurnIs}
+use Rattle.link_pair.proofs.Names.{Accounts, Turn, Hears, ScriptValue, IsInLimits, delay_of, Both, of, other, Role}
 use Rattle.link_run.specs.Laws.{RunsOver}
 use Rattle.link_run.specs.Overheard.{JudgesByItsCheck}
-use Rattle.line_run.specs.Sampled.{IsHeardOf, HeardIn, LineRun}
-use Rattle.line_run.specs.Scripted.{link_of, ScriptsMayPlay, ScriptsHaveDelays, SlotsAreCodable}
-use Rattle.line_run.specs.LineLaws.{SamplesAreCarried}
-use Rattle.line_run.specs.Ends.{RunEnd, IsDone, LinkLost, NotDetected, Left, EndsInTurn, RunsTo}
-use Rattle.line_ends.specs.Completes.{IsFaint, AreOfOctets, OctetsAreSendable}
-use Rattle.line_ends.proofs.Hearing.{agree-on}
-use Rattle.line_run.specs.Scripted.{wire_at}
-use Rattle.link_pair.specs.Pairs.Pair.{IsByLink}
+use Rattle.line_ends.specs.Completes.{OctetsAreSendable}
 use Rattle.link_pair.proofs.Pairs.Fitting.{AllFitting, fitting-run, BesideFits}
 use Rattle.link_pair.proofs.Pairs.Clear.{ClearLaws, Beside, bits_in, IsClear, Agrees, due, heard-due, due-heard}
 

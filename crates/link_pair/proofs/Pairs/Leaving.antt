@@ -1,25 +1,16 @@
 -- What a pair leaves of each link, and how many rounds it has.
-use Rattle.std.proofs.Common.{◌≡◌, ℕ, ◌^◌, ◌<◌, true, List, arith, sym, subst}
-use Rattle.std.proofs.lemmas.Bool.{false≢true}
-use Rattle.shared_terms.specs.declared.role.Role.{Role}
-use Rattle.shared_terms.specs.Role.{other}
-use Rattle.shared_terms.specs.Both.{Both, of}
-use Rattle.shared_terms.specs.Prefix.{IsPrefixOf}
-use Rattle.noise_script.specs.Script.{ScriptValue, IsInLimits, delay_of}
-use Rattle.link_run.specs.Run.{Accounts, Turn}
+use Rattle.link_pair.proofs.Names.{◌≡◌, ℕ, ◌^◌, ◌<◌, true, List, arith, sym, subst, false≢true, LostLinksWereStarved, RunEnd, IsDone, Left}
+use Rattle.link_pair.proofs.Names.{SamplesAreCarried, LineRun, LineEnd, link_of, ScriptsMayPlay, ScriptsHaveDelays, wire_at}
+use Rattle.link_pair.proofs.Names.{LineRunsEndSoon, first_dlci, second_dlci, after_second, after_first, first_wire, second_wire, BothDone}
+use Rattle.link_pair.proofs.Names.{end_of, line_end, is_going, LeavesOf, by_links, by_line, ArePrefixes, PairsLeavePrefixes}
+use Rattle.link_pair.proofs.Names.{DonePairsAreWhole, AreFewRounds, AreShort, PairsHaveFewRounds, Progress, Goes, Ended, turns_in, Lasts}
+use Rattle.link_pair.proofs.Names.{Accounts, Turn, ScriptValue, IsInLimits, delay_of, Both, of, IsPrefixOf, other, Role}
 use Rattle.link_run.specs.Laws.{TakesPrefixes}
-use Rattle.line_run.specs.Sampled.{LineRun, LineEnd}
-use Rattle.line_run.specs.Scripted.{link_of, ScriptsMayPlay, ScriptsHaveDelays, wire_at}
-use Rattle.line_run.specs.Scripts.{LineRunsEndSoon, NoLineRunIsLong}
-use Rattle.line_run.specs.LineLaws.{SamplesAreCarried}
-use Rattle.line_run.specs.Ends.{RunEnd, IsDone, Left, MayRun, RunsLeavePrefixes, DoneLeavesWhole}
+use Rattle.line_run.specs.Scripts.{NoLineRunIsLong}
+use Rattle.line_run.specs.Ends.{MayRun, RunsLeavePrefixes, DoneLeavesWhole}
 use Rattle.line_run.specs.Ends as runs
-use Rattle.line_ends.specs.Causes.{LostLinksWereStarved}
-use Rattle.link_pair.specs.Pairs.Beside.{first_dlci, second_dlci, after_second, after_first, first_wire, second_wire}
-use Rattle.link_pair.specs.Pairs.Pair.{Progress, Goes, Ended, turns_in, Lasts}
-use Rattle.link_pair.specs.Pairs.Ends.{BothDone, end_of, line_end, is_going, LeavesOf, by_links, by_line}
-use Rattle.link_pair.specs.Pairs.Laws.{ArePrefixes, PairsLeavePrefixes, AreWhole, DonePairsAreWhole, PairedLinksWereStarved, IsRunOver}
-use Rattle.link_pair.specs.Pairs.Laws.{PairedLinksRun, AreFewRounds, AreShort, PairsHaveFewRounds}
+use Rattle.link_pair.specs.Pairs.Laws.{AreWhole, PairedLinksWereStarved, IsRunOver}
+use Rattle.link_pair.specs.Pairs.Laws.{PairedLinksRun}
 use Rattle.link_pair.proofs.Pairs.Clear.{Beside}
 use Rattle.link_pair.proofs.Prefixes.{same-prefix}
 

@@ -1,21 +1,12 @@
 -- A pair has one result.
-use Rattle.std.proofs.Common.{◌≡◌, ◌⊎◌, inl, inr, ℕ, suc, ◌-◌, ◌*◌, ◌<◌, ◌≤◌, ◌||◌, max, Bool, true, false, List, ◌++◌}
-use Rattle.std.proofs.Common.{length, arith, refl, sym, ◌∙◌, ap, subst}
+use Rattle.link_pair.proofs.Names.{◌≡◌, ◌⊎◌, inl, inr, ℕ, suc, ◌-◌, ◌*◌, ◌<◌, ◌≤◌, ◌||◌, max, Bool, true, false, List, ◌++◌, length, arith}
+use Rattle.link_pair.proofs.Names.{refl, sym, ◌∙◌, ap, subst, compare, left-is, RunEnd, IsDone, Left, LineEnd, ScriptsHaveDelays}
+use Rattle.link_pair.proofs.Names.{first_wire, second_wire, Which, First, Second, PairEnd, end_of, line_end, is_going, EndsTurn, LeavesOf}
+use Rattle.link_pair.proofs.Names.{text_for, PairRunsTo, by_links, by_line, OnePairResult, Progress, Goes, Ended, turns_in, ends_in}
+use Rattle.link_pair.proofs.Names.{turns_on_line, PairAt, trace_text, ScriptValue, Both}
 use Rattle.std.proofs.lemmas.Bool.{cases_lt}
-use Rattle.shared_terms.specs.Both.{Both}
-use Rattle.noise_script.specs.Script.{ScriptValue}
-use Rattle.link_run.specs.Trace.{trace_text}
-use Rattle.line_run.specs.Sampled.{LineEnd}
-use Rattle.line_run.specs.Scripted.{ScriptsHaveDelays}
 use Rattle.line_run.specs.LineLaws.{OneLineEnd}
-use Rattle.line_run.specs.Ends.{RunEnd, IsDone, Left}
-use Rattle.link_pair.specs.Pairs.Beside.{first_wire, second_wire}
-use Rattle.link_pair.specs.Pairs.Pair.{Progress, Goes, Ended, turns_in, ends_in, turns_on_line, PairAt}
-use Rattle.link_pair.specs.Pairs.Ends.{Which, First, Second, PairEnd, end_of, line_end, is_going, EndsTurn, LeavesOf, text_for, LineEnds}
-use Rattle.link_pair.specs.Pairs.Ends.{PairRunsTo, by_links, by_line}
-use Rattle.link_pair.specs.Pairs.Laws.{OnePairResult}
-use Rattle.line_run.proofs.WhatIsLeft.{left-is}
-use Rattle.line_run.proofs.Resulting.{compare}
+use Rattle.link_pair.specs.Pairs.Ends.{LineEnds}
 use Rattle.link_pair.proofs.Pairs.Same.{SameLaws, ends-or-hears}
 use Rattle.link_pair.proofs.Pairs.Stepping.{HasDelays, At, one-at, HearsTurn, Earlier, turns_by, same-place, back-to}
 

@@ -1,26 +1,16 @@
 -- Each pair ends.
-use Rattle.std.proofs.Common.{◌≡◌, ◌⊎◌, inl, inr, ℕ, zero, suc, ◌+◌, ◌^◌, ◌<◌, ◌≤◌, ◌||◌, max, Bool, true, false, List, [], ◌++◌}
-use Rattle.std.proofs.Common.{length, arith, refl, sym, ◌∙◌, ap, subst, Some}
-use Rattle.std.proofs.lemmas.Bool.{false≢true}
+use Rattle.link_pair.proofs.Names.{◌≡◌, ◌⊎◌, inl, inr, ℕ, zero, suc, ◌+◌, ◌^◌, ◌<◌, ◌≤◌, ◌||◌, max, Bool, true, false, List, [], ◌++◌}
+use Rattle.link_pair.proofs.Names.{length, arith, refl, sym, ◌∙◌, ap, subst, Some, false≢true, AreOfOctets, left_of, leaves-so, Left}
+use Rattle.link_pair.proofs.Names.{LineEnd, link_of, wire_at, first_dlci, second_dlci, after_second, after_first, slot_in, Which, First}
+use Rattle.link_pair.proofs.Names.{Second, end_of, line_end, is_going, EndsTurn, LeavesOf, text_for, by_links, by_line, AreShort}
+use Rattle.link_pair.proofs.Names.{PairsHaveFewRounds, Progress, Goes, Ended, turns_in, Lasts, PairAt, start, trace_text, ScriptValue}
+use Rattle.link_pair.proofs.Names.{IsInLimits, delay_of, Both, Role}
 use Rattle.std.proofs.lemmas.Bool.{or_left, or_right}
-use Rattle.shared_terms.specs.declared.role.Role.{Role}
-use Rattle.shared_terms.specs.Both.{Both}
-use Rattle.noise_script.specs.Script.{ScriptValue, IsInLimits, delay_of}
-use Rattle.link_run.specs.Run.{start}
-use Rattle.link_run.specs.Trace.{trace_text}
-use Rattle.line_run.specs.Sampled.{LineEnd}
-use Rattle.line_run.specs.Scripted.{link_of, wire_at}
-use Rattle.line_run.specs.Ends.{Left}
-use Rattle.line_ends.specs.Completes.{AreOfOctets}
-use Rattle.link_pair.specs.Pairs.Beside.{first_dlci, second_dlci, after_second, after_first, slot_in}
-use Rattle.link_pair.specs.Pairs.Pair.{Progress, Goes, Ended, turns_in, Lasts, PairAt}
-use Rattle.link_pair.specs.Pairs.Ends.{Which, First, Second, end_of, line_end, is_going, EndsTurn, LeavesOf, text_for, by_links, by_line}
-use Rattle.link_pair.specs.Pairs.Laws.{AreShort, PairsHaveFewRounds, HasPairEnd, EachPairEnds}
+use Rattle.link_pair.specs.Pairs.Laws.{HasPairEnd, EachPairEnds}
 use Rattle.link_pair.proofs.Pairs.Fitting.{AllFitting, BesideFits, second-beside, first-beside}
 use Rattle.link_pair.proofs.Pairs.Clear.{Beside, bits_in}
 use Rattle.link_pair.proofs.Pairs.Isolating.{IsolationLaws, fitting-on}
 use Rattle.link_pair.proofs.Pairs.Pairing.{has-run}
-use Rattle.line_run.proofs.WhatIsLeft.{left_of, leaves-so}
 use Rattle.link_pair.proofs.Pairs.Agreeing.{same-lasts}
 use Rattle.link_pair.proofs.Pairs.Stepping.{At}
 use Rattle.link_pair.proofs.Pairs.Becoming.{NextLaws, NextOf, On_line, Made, next-of}

@@ -1,23 +1,11 @@
 -- Pairs whose noise is faint: the line doesn't end them, and each link runs as it does alone.
-use Rattle.std.proofs.Common.{ℕ, ◌-◌, ◌<◌, List, length, arith, sym, subst, None}
-use Rattle.shared_terms.specs.declared.role.Role.{Role}
-use Rattle.shared_terms.specs.declared.role.Role.TheVariants.{Originator, Answerer}
-use Rattle.shared_terms.specs.Role.{other}
-use Rattle.shared_terms.specs.Both.{Both, of}
-use Rattle.lapm_frames.specs.declared.heard.Heard.TheVariants.{Chance}
-use Rattle.noise_script.specs.Script.{ScriptValue}
-use Rattle.link_account.specs.Account.{check_of}
-use Rattle.link_run.specs.Run.{Link, Accounts, Turn}
-use Rattle.link_run.specs.Overheard.{JudgesOnceHeard}
-use Rattle.line_run.specs.Sampled.{Wire, LineRun, LineEnd, EndsLine}
+use Rattle.link_pair.proofs.Names.{ℕ, ◌-◌, ◌<◌, List, length, arith, sym, subst, None, Chance, IsFaint, DisplacesNoneIsFaint, OneIsCarried}
+use Rattle.link_pair.proofs.Names.{Wire, LineRun, LineEnd, EndsLine, link_of, wire_at, check_of, first_dlci, second_dlci, after_second}
+use Rattle.link_pair.proofs.Names.{after_first, Which, First, Second, EndsTurn, by_links, by_line, FaintPairsAreIsolated, Progress, Goes}
+use Rattle.link_pair.proofs.Names.{Ended, turns_in, ends_in, turns_on_line, Lasts, PairAt, JudgesOnceHeard, Link, Accounts, Turn}
+use Rattle.link_pair.proofs.Names.{ScriptValue, Both, of, other, Role, Originator, Answerer}
 use Rattle.line_run.specs.Sampled as lines
-use Rattle.line_run.specs.Scripted.{link_of, wire_at}
-use Rattle.line_run.specs.LineLaws.{OneIsCarried}
-use Rattle.line_ends.specs.Completes.{IsFaint, DisplacesNoneIsFaint}
-use Rattle.link_pair.specs.Pairs.Beside.{first_dlci, second_dlci, after_second, after_first}
-use Rattle.link_pair.specs.Pairs.Pair.{Progress, Goes, Ended, turns_in, ends_in, turns_on_line, Lasts, PairAt}
-use Rattle.link_pair.specs.Pairs.Ends.{Which, First, Second, EndsTurn, by_links, by_line}
-use Rattle.link_pair.specs.Pairs.Laws.{FaintPairsAreIsolated, UndisplacedPairsAreIsolated}
+use Rattle.link_pair.specs.Pairs.Laws.{UndisplacedPairsAreIsolated}
 use Rattle.link_pair.proofs.Pairs.Fitting.{AllFitting, BesideFits, second-beside, first-beside, none-beside, fitting-lasting}
 use Rattle.link_pair.proofs.Pairs.Fitting.{sendable-lasting}
 use Rattle.link_pair.proofs.Pairs.Clear.{Beside, bits_in, IsClear, Agrees, heard-due, due-well, not-lost}

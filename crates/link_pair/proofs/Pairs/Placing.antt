@@ -1,22 +1,10 @@
 -- The slots of a pair in the order in which they are sent: as each link's turn begins, the slot that is due is that link's.
-use Rattle.std.proofs.Common.{◌≡◌, ℕ, zero, suc, ◌-◌, ◌*◌, ◌<◌, ◌≤◌, Bool, true, false, cond, nat_eq, List, [], ◌∷◌, length, drop}
-use Rattle.std.proofs.Common.{arith, refl, sym, ◌∙◌, ap, Some, None}
-use Rattle.std.specs.Prelude.{is_some}
-use Rattle.std.proofs.lemmas.Bool.Decides.{nat_tests}
-use Rattle.shared_terms.specs.declared.role.Role.{Role}
-use Rattle.shared_terms.specs.declared.role.Role.TheVariants.{Originator, Answerer}
-use Rattle.shared_terms.specs.Both.{of}
-use Rattle.detection.specs.Slots.Signal.{FlagSlot}
-use Rattle.noise_script.specs.Script.{ScriptValue, delay_of}
-use Rattle.link_run.specs.Run.{Link, Turn}
-use Rattle.line_run.specs.Scripted.{link_of, wire_at}
-use Rattle.link_pair.specs.Pairs.Beside.{first_dlci, second_dlci, signal_or_flags, slot_in, after_second, after_first}
-use Rattle.link_pair.specs.Pairs.Beside.{second_wire, idle_turn, lasting}
-use Rattle.link_pair.specs.Pairs.Pair.{Progress, Goes, Ended, turns_in, turns_on_line, Lasts}
-use Rattle.line_run.specs.Stream.{Carried, AreSent, IsDue}
+use Rattle.link_pair.proofs.Names.{◌≡◌, ℕ, zero, suc, ◌-◌, ◌*◌, ◌<◌, ◌≤◌, Bool, true, false, cond, nat_eq, List, [], ◌∷◌, length, drop}
+use Rattle.link_pair.proofs.Names.{arith, refl, sym, ◌∙◌, ap, Some, None, nat_tests, is_some, FlagSlot, link_of, wire_at, Carried, AreSent}
+use Rattle.link_pair.proofs.Names.{IsDue, first_dlci, second_dlci, signal_or_flags, slot_in, after_second, after_first, second_wire}
+use Rattle.link_pair.proofs.Names.{idle_turn, lasting, FirstSlotsAreDue, SecondSlotsAreDue, Progress, Goes, Ended, turns_in, turns_on_line}
+use Rattle.link_pair.proofs.Names.{Lasts, both_sent, first_sent, Link, Turn, ScriptValue, delay_of, of, Role, Originator, Answerer}
 use Rattle.line_run.proofs.Streaming.{run-sent}
-use Rattle.link_pair.specs.Pairs.Stream.{both_sent, first_sent}
-use Rattle.link_pair.specs.Pairs.Laws.{FirstSlotsAreDue, SecondSlotsAreDue}
 use Rattle.link_pair.proofs.Pairs.Clear.{Beside}
 use Rattle.link_pair.proofs.Pairs.Pairing.{has-run}
 use Rattle.link_pair.proofs.Pairs.Agreeing.{same-before, length-lasting}

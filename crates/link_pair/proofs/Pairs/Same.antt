@@ -1,22 +1,14 @@
 -- What a link came to over a channel in so many rounds is one thing.
-use Rattle.std.proofs.Common.{◌≡◌, ◌≢◌, ◌⊎◌, inl, inr, ℕ, ◌<◌, List, ◌∷◌, length, arith, refl, sym, ◌∙◌, ap, subst}
-use Rattle.shared_terms.specs.declared.role.Role.{Role}
-use Rattle.shared_terms.specs.declared.role.Role.TheVariants.{Originator, Answerer}
-use Rattle.shared_terms.specs.Role.{other}
-use Rattle.shared_terms.specs.Both.{of}
+use Rattle.link_pair.proofs.Names.{◌≡◌, ◌≢◌, ◌⊎◌, inl, inr, ℕ, ◌<◌, List, ◌∷◌, length, arith, refl, sym, ◌∙◌, ap, subst, hearing-in}
+use Rattle.link_pair.proofs.Names.{compare, left_of, left-is, RunEnd, IsDone, LinkLost, NotDetected, Left, Wire, IsHeardOf, HeardIn}
+use Rattle.link_pair.proofs.Names.{LineRun, LineEnd, EndsLine, check_of, Progress, Goes, Ended, last_ends, IsByLink, HearsIdly, HasEnded}
+use Rattle.link_pair.proofs.Names.{Lasts, Outcome, Going, Done, Broken, TurnIs, Link, Accounts, Turn, Hears, trace_text, of, other, Role}
+use Rattle.link_pair.proofs.Names.{Originator, Answerer}
 use Rattle.shared_terms.specs.declared.fault.LinkFault.TheVariants as faults
-use Rattle.link_account.specs.Account.{check_of}
-use Rattle.link_run.specs.Run.{Link, Accounts, Turn, Hears}
-use Rattle.link_run.specs.Outcomes.{Outcome, Going, Done, Broken, TurnIs}
-use Rattle.link_run.specs.Trace.{trace_text}
 use Rattle.link_run.specs.Laws.{heard_in, OneOutcome}
-use Rattle.line_run.specs.Sampled.{Wire, IsHeardOf, HeardIn, LineRun, LineEnd, EndsLine}
 use Rattle.line_run.specs.LineLaws.{HeardOnce, OneLineRun, EndsOrIsHeard}
-use Rattle.line_run.proofs.Leaving.{hearing-in}
-use Rattle.line_run.proofs.WhatIsLeft.{left_of, left-is}
-use Rattle.line_run.proofs.Resulting.{done-not, broken-not, Cut, cut, compare}
-use Rattle.line_run.specs.Ends.{RunEnd, IsDone, LinkLost, NotDetected, Left, Leaves, EndsBy}
-use Rattle.link_pair.specs.Pairs.Pair.{Progress, Goes, Ended, last_ends, IsByLink, HearsIdly, HasEnded, Lasts}
+use Rattle.line_run.proofs.Resulting.{done-not, broken-not, Cut, cut}
+use Rattle.line_run.specs.Ends.{Leaves, EndsBy}
 
 pub record SameLaws : Type 0 where
   pub heard : HeardOnce

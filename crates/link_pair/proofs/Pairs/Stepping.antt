@@ -1,19 +1,11 @@
 -- Pairs turn by turn: what there was before the last turn, and that there was one thing.
-use Rattle.std.proofs.Common.{◌≡◌, ◌⊎◌, inl, inr, ℕ, zero, suc, ◌+◌, ◌-◌, ◌*◌, ◌<◌, ◌≤◌, false, List, [], ◌∷◌, length, arith, refl}
-use Rattle.std.proofs.Common.{sym, ◌∙◌, ap, subst, Some}
-use Rattle.std.proofs.lemmas.Bool.{false≢true}
-use Rattle.shared_terms.specs.declared.role.Role.{Role}
-use Rattle.shared_terms.specs.Both.{Both}
-use Rattle.noise_script.specs.Script.{ScriptValue, delay_of}
-use Rattle.link_run.specs.Run.{Link, Accounts, Turn, start}
-use Rattle.line_run.specs.Scripted.{link_of, wire_at}
-use Rattle.line_run.specs.Ends.{RunEnd, Left}
-use Rattle.link_pair.specs.Pairs.Beside.{first_dlci, second_dlci, slot_in, after_second, after_first, first_wire, second_wire, lasting}
-use Rattle.link_pair.specs.Pairs.Pair.{Progress, Goes, Ended, turns_in, ends_in, turns_on_line, HearsIdly, IdlesFor, Lasts, PairAt}
-use Rattle.link_pair.specs.Pairs.Ends.{Which, First, Second, is_going, firsts_at}
+use Rattle.link_pair.proofs.Names.{◌≡◌, ◌⊎◌, inl, inr, ℕ, zero, suc, ◌+◌, ◌-◌, ◌*◌, ◌<◌, ◌≤◌, false, List, [], ◌∷◌, length, arith, refl}
+use Rattle.link_pair.proofs.Names.{sym, ◌∙◌, ap, subst, Some, false≢true, hearing-in, RunEnd, Left, link_of, wire_at, first_dlci}
+use Rattle.link_pair.proofs.Names.{second_dlci, slot_in, after_second, after_first, first_wire, second_wire, lasting, Which, First, Second}
+use Rattle.link_pair.proofs.Names.{is_going, firsts_at, Progress, Goes, Ended, turns_in, ends_in, turns_on_line, HearsIdly, IdlesFor, Lasts}
+use Rattle.link_pair.proofs.Names.{PairAt, Link, Accounts, Turn, start, ScriptValue, delay_of, Both, Role}
 use Rattle.link_pair.proofs.Pairs.Clear.{Beside}
 use Rattle.link_pair.proofs.Pairs.Same.{SameLaws, well-heard, EndedIs, ended-is, lasts-once}
-use Rattle.line_run.proofs.Leaving.{hearing-in}
 use Rattle.line_run.proofs.Resulting.{same-or-less}
 use Rattle.link_pair.proofs.Pairs.Agreeing.{same-lasts, slot-stays}
 

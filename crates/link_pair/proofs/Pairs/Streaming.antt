@@ -1,21 +1,13 @@
 -- The slots of both links in one stream are those that each link's channel has.
-use Rattle.std.proofs.Common.{◌≡◌, ℕ, zero, suc, ◌+◌, ◌-◌, ◌*◌, ◌<◌, ◌≤◌, Bool, true, cond, nat_eq, List, [], ◌∷◌, ◌++◌, length, map}
-use Rattle.std.proofs.Common.{take, drop, arith, length-append, refl, sym, ◌∙◌, ap, subst, Option, Some, append-nil, append_assoc}
-use Rattle.std.specs.Prelude.{is_some}
-use Rattle.std.proofs.lemmas.Bool.Decides.{nat_tests}
-use Rattle.std.proofs.lemmas.List.{map-append, length-drop}
-use Rattle.shared_terms.specs.declared.role.Role.{Role}
-use Rattle.shared_terms.specs.Both.{of}
-use Rattle.detection.specs.Slots.{Signal}
-use Rattle.noise_script.specs.Script.{ScriptValue, delay_of}
-use Rattle.link_run.specs.Run.{Spoken, Turn}
-use Rattle.link_run.specs.Carried.{sent_ago}
-use Rattle.line_run.specs.Sampled.{Wire, signal_in, signals, signals_before}
-use Rattle.link_pair.specs.Pairs.Beside.{first_dlci, second_dlci, signal_or_flags, slot_in, after_second, after_first, first_wire}
-use Rattle.link_pair.specs.Pairs.Beside.{second_wire}
-use Rattle.line_run.specs.Stream.{Carried, carried_signal, carry, AreSent, IsDue}
+use Rattle.link_pair.proofs.Names.{◌≡◌, ℕ, zero, suc, ◌+◌, ◌-◌, ◌*◌, ◌<◌, ◌≤◌, Bool, true, cond, nat_eq, List, [], ◌∷◌, ◌++◌, length, map}
+use Rattle.link_pair.proofs.Names.{take, drop, arith, refl, sym, ◌∙◌, ap, subst, Option, Some, append-nil, nat_tests, length-drop, is_some}
+use Rattle.link_pair.proofs.Names.{Signal, Wire, signal_in, signals, signals_before, Carried, carry, AreSent, IsDue, first_dlci}
+use Rattle.link_pair.proofs.Names.{second_dlci, signal_or_flags, slot_in, after_second, after_first, first_wire, second_wire, both_sent}
+use Rattle.link_pair.proofs.Names.{first_sent, sent_ago, Spoken, Turn, ScriptValue, delay_of, of, Role}
+use Rattle.std.proofs.Common.{length-append, append_assoc}
+use Rattle.std.proofs.lemmas.List.{map-append}
+use Rattle.line_run.specs.Stream.{carried_signal}
 use Rattle.line_run.proofs.Streaming.{one-carried, carried-signal, Back, back, none-back, sent-dropped, cut-at}
-use Rattle.link_pair.specs.Pairs.Stream.{both_sent, first_sent}
 use Rattle.link_pair.proofs.Pairs.Agreeing.{SameBelow, same-signals, same-before, slot-stays}
 
 carried-one : (dlci : ℕ) (role : Role) (o : Option Spoken) → is_some o ≡ true

@@ -1,32 +1,16 @@
 -- From every answer to what the command promises.
-use Rattle.std.proofs.Common.{◌≡◌, ◌∙◌, ◌⊎◌, inl, inr, ℕ, Bool, true, false, IsTrue, List, [], ◌++◌, length, ◌≤◌, ◌<◌, Result}
-use Rattle.std.proofs.Common.{refl, ap, subst, arith}
-use Rattle.std.specs.Option.{option_map}
-use Rattle.outside_calls.specs.Folder.{FolderState, octets_at}
-use Rattle.shared_terms.specs.declared.fault.LinkFault.{LinkFault}
-use Rattle.shared_terms.specs.declared.limits.TheConstants.{FILE_LIMIT}
-use Rattle.command_base.specs.declared.status.Status.{Status}
-use Rattle.command_base.specs.declared.status.Status.TheVariants.{Done, TooLong, NotDetected, LinkLost, NoMemory}
+use Rattle.run_commands.proofs.Names.{◌≡◌, ◌∙◌, ◌⊎◌, inl, inr, ℕ, Bool, true, false, IsTrue, List, [], ◌++◌, length, ◌≤◌, ◌<◌, Result, refl}
+use Rattle.run_commands.proofs.Names.{ap, subst, arith, option_map, refusal-own, last-only, done-of, shared-of, done-unless-memory, Comes}
+use Rattle.run_commands.proofs.Names.{is_done, is_own, is_memory, comes-to, IsWithin, Answers, done_line, IsSound, IsRefusal, end_status}
+use Rattle.run_commands.proofs.Names.{Status, Done, TooLong, NotDetected, LinkLost, NoMemory, Stop, Holds-kept, FolderState, octets_at}
+use Rattle.run_commands.proofs.Names.{KeepsAll, OnlyOutputs, HoldLeft, OneResult, PeerEnd, IsDone, GivesUp, RunsTo, Names, inputs_of}
+use Rattle.run_commands.proofs.Names.{outputs_of, stopped-so, LinkFault, FILE_LIMIT}
 use Rattle.command_base.specs.declared.status.Status.TheVariants.{PeerFault}
-use Rattle.command_base.specs.declared.stop.Stop.{Stop}
 use Rattle.command_base.specs.declared.stop.Stop.TheVariants as stops
-use Rattle.command_base.specs.Inputs.{IsWithin}
-use Rattle.command_base.specs.Job.{Answers}
-use Rattle.command_base.specs.Status.{IsRefusal}
-use Rattle.command_base.specs.Stops.{end_status}
-use Rattle.command_base.specs.Lines.{done_line}
-use Rattle.outside_calls.specs.Outputs.{KeepsAll, OnlyOutputs}
-use Rattle.outside_calls.proofs.Holding.{Holds-kept}
-use Rattle.command_base.proofs.Jobs.{refusal-own, last-only, done-of, shared-of}
-use Rattle.run_inputs.proofs.Answering.{stopped-so}
-use Rattle.command_base.proofs.Jobs.{done-unless-memory, Comes, is_done, is_own, is_memory, comes-to}
-use Rattle.command_base.specs.Sound.{IsSound}
-use Rattle.run_commands.specs.Peering.Words.{Names, inputs_of, outputs_of}
-use Rattle.run_commands.specs.Peering.Runs.{Left, PeerEnd, IsDone, GivesUp, RunsTo}
-use Rattle.run_commands.specs.Peering.Ends.{Ends, EndsBy, HoldLeft, IsTooLong, RanTo, answer_of, peer_job}
+use Rattle.run_commands.specs.Peering.Runs.{Left}
+use Rattle.run_commands.specs.Peering.Ends.{Ends, EndsBy, IsTooLong, RanTo, answer_of, peer_job}
 use Rattle.run_commands.specs.Peering.Headline.{Ran, GaveUp, RanBy, Headline}
 use Rattle.run_commands.specs.Peering.Completes.{AreTold, InputsRunTo, Answered, Completes}
-use Rattle.run_commands.specs.Peering.Laws.{OneResult}
 
 own-refused : (old before : FolderState) (n : Names) (answer : Status) → IsRefusal answer → EndsBy old before n (stops.Own answer)
     → KeepsAll old before

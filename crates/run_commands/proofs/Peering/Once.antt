@@ -1,15 +1,12 @@
 -- A role, a file and octets have one result at most.
-use Rattle.std.proofs.Common.{◌≡◌, ◌≢◌, ◌∙◌, inl, inr, ℕ, ◌+◌, ◌<◌, List, [], ◌∷◌, length, refl, sym, ap, subst, arith}
-use Rattle.std.proofs.lemmas.Bool.{cases_lt}
-use Rattle.shared_terms.specs.declared.role.Role.{Role}
-use Rattle.shared_terms.specs.Role.{other}
+use Rattle.run_commands.proofs.Names.{◌≡◌, ◌≢◌, ◌∙◌, inl, inr, ℕ, ◌+◌, ◌<◌, List, [], ◌∷◌, length, refl, sym, ap, subst, arith, cases_lt}
+use Rattle.run_commands.proofs.Names.{Past, PeerTurn, Outcome, Going, Closed, Broken, party_of, LoneTurn, OneResult, PeerEnd, IsDone}
+use Rattle.run_commands.proofs.Names.{GivesUp, MakesTurn, RunsTo, left_of, left_after, slot_at, slots_before, other, Role}
 use Rattle.link_account.specs.Account.{Account}
-use Rattle.link_run.specs.Alone.{LoneTurn, LoneRun}
-use Rattle.line_world.specs.OneEnd.Peer.{Past, PeerTurn, Outcome, Going, Closed, Broken, HearsSlots, party_of}
+use Rattle.link_run.specs.Alone.{LoneRun}
+use Rattle.line_world.specs.OneEnd.Peer.{HearsSlots}
 use Rattle.line_world.specs.OneEnd.Laws.{OnePeerRun, OnePeerTurn}
-use Rattle.run_commands.specs.Peering.Runs.{Left, PeerEnd, IsDone, GivesUp, HearsAll, IsPast, MakesTurn, RunsTo, left_of, left_after}
-use Rattle.run_commands.specs.Peering.Runs.{slot_at, slots_before}
-use Rattle.run_commands.specs.Peering.Laws.{OneResult}
+use Rattle.run_commands.specs.Peering.Runs.{Left, HearsAll, IsPast}
 
 pub record RunLaws : Type 0 where
   pub run : OnePeerRun

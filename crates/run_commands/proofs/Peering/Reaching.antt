@@ -1,37 +1,28 @@
 -- From one turn to the next, and to the end of a run.
-use Rattle.std.proofs.Common.{◌≡◌, inl, inr, ◌∙◌, ℕ, suc, ◌+◌, ◌*◌, ◌<◌, ◌≤◌, Bool, true, false, IsTrue, List, [], ◌∷◌, ◌++◌, length}
-use Rattle.std.proofs.Common.{take, refl, sym, ap, subst, arith, append-nil, append_assoc, length-append}
-use Rattle.std.proofs.lemmas.Bool.{false≢true, cases_lt}
-use Rattle.std.proofs.lemmas.List.{take_all}
-use Rattle.std.proofs.lemmas.List.Folds.{concat-append}
-use Rattle.std.specs.List.{concat}
-use Rattle.outside_calls.specs.Folder.{FolderState, octets_at, GoesOn, KeepsName, OnlyReads, CountsStand}
-use Rattle.outside_calls.proofs.Steps.{GoesOn-trans, KeepsName-trans, octets-kept, told_later, CountsStand-trans}
-use Rattle.outside_calls.specs.declared.folder.FolderFault.{FolderFault}
+use Rattle.run_commands.proofs.Names.{◌≡◌, inl, inr, ◌∙◌, ℕ, suc, ◌+◌, ◌*◌, ◌<◌, ◌≤◌, Bool, true, false, IsTrue, List, [], ◌∷◌, ◌++◌}
+use Rattle.run_commands.proofs.Names.{length, take, refl, sym, ap, subst, arith, append_assoc, length-append, cases_lt, take_all}
+use Rattle.run_commands.proofs.Names.{concat-append, concat, stop-earlier, IsWithin, ReadTo, ReadFails, StopCounts, Read, slot_octets, Past}
+use Rattle.run_commands.proofs.Names.{PeerRun, PeerTurn, Outcome, Going, Closed, Broken, party_of, after, over, SingleAfter, file_limit}
+use Rattle.run_commands.proofs.Names.{Makes, Single, LoneTurn, LoneHearingsDeliver, LoneSpeakingTakesNothing, deliveries, KeepsEach-reads}
+use Rattle.run_commands.proofs.Names.{HoldEach-kept, OnlyPuts-reads, OnlyPuts-trans, GoesOn-trans, KeepsName-trans, octets-kept, told_later}
+use Rattle.run_commands.proofs.Names.{CountsStand-trans, FolderState, octets_at, GoesOn, KeepsName, OnlyReads, CountsStand, AreApart}
+use Rattle.run_commands.proofs.Names.{AreNoneOf, AreApartFrom, Holds, OnlyPuts, HoldPart, FolderFault, HoldLeft, PeerEnd, IsDone, GivesUp}
+use Rattle.run_commands.proofs.Names.{MakesTurn, RunsTo, left_of, left_after, slot_at, slots_before, Reached, fault_stop, Names, inputs_of}
+use Rattle.run_commands.proofs.Names.{outputs_of, turn_names, LinkFault, FILE_LIMIT, Role}
+use Rattle.std.proofs.Common.{append-nil}
+use Rattle.std.proofs.lemmas.Bool.{false≢true}
 use Rattle.outside_calls.specs.declared.folder.FolderFault.TheVariants as folder
-use Rattle.shared_terms.specs.declared.role.Role.{Role}
-use Rattle.shared_terms.specs.declared.fault.LinkFault.{LinkFault}
-use Rattle.link_run.specs.End.{deliveries}
-use Rattle.link_run.specs.Alone.{LoneTurn, LoneHearingsDeliver, LoneSpeakingTakesNothing}
-use Rattle.line_world.specs.declared.one_end.single.Single.{Single}
 use Rattle.line_world.specs.declared.one_end.step.SingleFault.{SingleFault}
 use Rattle.line_world.specs.declared.one_end.step.SingleFault.TheVariants as faults
-use Rattle.line_world.specs.OneEnd.Heard.{slot_octets}
-use Rattle.line_world.specs.OneEnd.Peer.{Past, PeerRun, PeerTurn, Outcome, Going, Closed, Broken, party_of, after, over, turn_line}
-use Rattle.line_world.specs.OneEnd.Single.{KnowsFile, SingleAfter, file_limit}
-use Rattle.line_world.specs.OneEnd.Turn.{Makes, Stops, added, StopsInReading as TurnStopsInReading, EndsBy as TurnEndsBy, FaultCounts}
-use Rattle.shared_terms.specs.declared.limits.TheConstants.{FILE_LIMIT}
-use Rattle.command_base.specs.declared.stop.Stop.TheVariants.{Read, Write}
-use Rattle.command_base.specs.Inputs.{IsWithin, ReadTo}
-use Rattle.command_base.specs.Stops.{IsOwn, ReadFails, StopCounts}
-use Rattle.command_base.proofs.Jobs.{stop-earlier}
-use Rattle.outside_calls.specs.Outputs.{AreApart, AreNoneOf, AreApartFrom, Holds, OnlyPuts, HoldPart}
-use Rattle.outside_calls.proofs.Putting.{KeepsEach-reads, HoldEach-add, HoldEach-kept, HoldPart-add, OnlyPuts-reads, OnlyPuts-trans}
+use Rattle.line_world.specs.OneEnd.Peer.{turn_line}
+use Rattle.line_world.specs.OneEnd.Single.{KnowsFile}
+use Rattle.line_world.specs.OneEnd.Turn.{Stops, added, StopsInReading as TurnStopsInReading, EndsBy as TurnEndsBy, FaultCounts}
+use Rattle.command_base.specs.declared.stop.Stop.TheVariants.{Write}
+use Rattle.command_base.specs.Stops.{IsOwn}
+use Rattle.outside_calls.proofs.Putting.{HoldEach-add, HoldPart-add}
 use Rattle.command_base.proofs.Reading.{ReadTo-begins, ReadTo-kept}
-use Rattle.run_commands.specs.Peering.Words.{Names, inputs_of, outputs_of, turn_names}
-use Rattle.run_commands.specs.Peering.Runs.{Left, PeerEnd, IsDone, GivesUp, MakesTurn, RunsTo, left_of, left_after, slot_at, slots_before}
-use Rattle.run_commands.specs.Peering.Ends.{Takes, HoldLeft, held_of, RanTo, StopsBetween, StopsInTurn, StopsInReading, EndsBy, status_of}
-use Rattle.run_commands.specs.Peering.Turns.{Reached, fault_stop}
+use Rattle.run_commands.specs.Peering.Runs.{Left}
+use Rattle.run_commands.specs.Peering.Ends.{Takes, held_of, RanTo, StopsBetween, StopsInTurn, StopsInReading, EndsBy, status_of}
 use Rattle.run_commands.proofs.Peering.Slots.{slots-front, slot-behind, full-slot, short-slot, slots-whole, slots-short, slots-more}
 
 -- ---- what is known of the bits

@@ -1,32 +1,21 @@
 -- Before the first turn, and what a turn's answer says of a run.
-use Rattle.std.proofs.Common.{◌≡◌, ◌∙◌, inl, inr, ℕ, ◌<◌, ◌≤◌, ◌+◌, List, [], ◌∷◌, length, take, refl, sym, subst, arith}
+use Rattle.run_commands.proofs.Names.{◌≡◌, ◌∙◌, inl, inr, ℕ, ◌<◌, ◌≤◌, ◌+◌, List, [], ◌∷◌, length, take, refl, sym, subst, arith}
+use Rattle.run_commands.proofs.Names.{CreatesPart-earlier, stop-earlier, IsWithin, ReadFails, StopCounts, Stop, Own, Read, slot_octets}
+use Rattle.run_commands.proofs.Names.{Past, Going, PeerRun, after, over, SingleAfter, file_limit, Makes, Single, LoneHearingsDeliver}
+use Rattle.run_commands.proofs.Names.{LoneSpeakingTakesNothing, KeepsEach-reads, GoesOn-trans, KeepsName-trans, CountsStand-trans}
+use Rattle.run_commands.proofs.Names.{FolderState, octets_at, GoesOn, KeepsName, OnlyReads, CountsStand, KeepsAll, CreatesPart, Creates}
+use Rattle.run_commands.proofs.Names.{AreNoneOf, OnlyOutputs, FolderFault, IsDone, Reached, Names, turn_names, inputs_of, outputs_of}
+use Rattle.run_commands.proofs.Names.{FILE_LIMIT, Role}
 use Rattle.std.proofs.lemmas.List.{length-take}
-use Rattle.outside_calls.specs.Folder.{FolderState, octets_at, GoesOn, KeepsName, OnlyReads, CountsStand}
-use Rattle.outside_calls.proofs.Steps.{GoesOn-trans, KeepsName-trans, CountsStand-trans}
-use Rattle.outside_calls.specs.declared.folder.FolderFault.{FolderFault}
-use Rattle.shared_terms.specs.declared.role.Role.{Role}
 use Rattle.link_account.specs.Account.{fresh}
-use Rattle.link_run.specs.Alone.{LoneHearingsDeliver, LoneSpeakingTakesNothing}
 use Rattle.line_world.specs.Station.{file_at}
-use Rattle.line_world.specs.declared.one_end.single.Single.{Single}
-use Rattle.line_world.specs.OneEnd.Heard.{slot_octets}
-use Rattle.line_world.specs.OneEnd.Peer.{Past, Going, PeerRun, after, over, setup_of}
-use Rattle.line_world.specs.OneEnd.Single.{SingleAfter, file_limit}
-use Rattle.line_world.specs.OneEnd.Turn.{Makes, GoesOnBy}
-use Rattle.shared_terms.specs.declared.limits.TheConstants.{FILE_LIMIT}
-use Rattle.command_base.specs.declared.stop.Stop.{Stop}
-use Rattle.command_base.specs.declared.stop.Stop.TheVariants.{Own, Read}
-use Rattle.command_base.specs.Inputs.{IsWithin, IsNotWithin}
-use Rattle.command_base.specs.Stops.{ReadFails, StopCounts}
-use Rattle.outside_calls.specs.Outputs.{KeepsAll, CreatesPart, Creates, IsNoneOf, AreNoneOf, OnlyOutputs}
-use Rattle.outside_calls.proofs.Putting.{KeepsEach-reads}
-use Rattle.command_base.proofs.Creating.{CreatesPart-earlier}
+use Rattle.line_world.specs.OneEnd.Peer.{setup_of}
+use Rattle.line_world.specs.OneEnd.Turn.{GoesOnBy}
+use Rattle.command_base.specs.Inputs.{IsNotWithin}
+use Rattle.outside_calls.specs.Outputs.{IsNoneOf}
 use Rattle.command_base.proofs.Reading.{ReadTo-none, longer-earlier}
-use Rattle.command_base.proofs.Jobs.{stop-earlier}
-use Rattle.run_commands.specs.Peering.Words.{Names, turn_names, inputs_of, outputs_of}
-use Rattle.run_commands.specs.Peering.Runs.{IsDone}
 use Rattle.run_commands.specs.Peering.Ends.{RanTo, StopsCreating, EndsBy}
-use Rattle.run_commands.specs.Peering.Turns.{IsBegun, Reached}
+use Rattle.run_commands.specs.Peering.Turns.{IsBegun}
 use Rattle.run_commands.proofs.Peering.Reaching.{Around, goes-on, ends-short}
 
 -- the end's role is that of the words

@@ -1,36 +1,20 @@
 -- Where the inputs are right and the line carries their run to its end, the run is done, but for want of memory.
-use Rattle.std.proofs.Common.{◌≡◌, ◌⊎◌, inl, inr, ℕ, ◌≤◌, ◌<◌, List, [], ◌∷◌, length, sym, ◌∙◌, ap, subst, arith, Result}
+use Rattle.run_commands.proofs.Names.{◌≡◌, ◌⊎◌, inl, inr, ℕ, ◌≤◌, ◌<◌, List, [], ◌∷◌, length, sym, ◌∙◌, ap, subst, arith, Result, Comes}
+use Rattle.run_commands.proofs.Names.{is_done, is_own, is_memory, comes-to, last-only, done-unless-memory, IsWithin, Answers, done_line}
+use Rattle.run_commands.proofs.Names.{Status, TooLong, NoMemory, Stop, Own, IsCarried, LostLinksWereStarved, ScriptRunsTo, RunEnd, Left}
+use Rattle.run_commands.proofs.Names.{wire_of, link_of, held_of, ScriptSpelling, ScriptValue, HoldEach-kept, FolderState, octets_at}
+use Rattle.run_commands.proofs.Names.{OnlyOutputs, KeepsEach, RanTo, RanBy, EndsBy, run_job, stopped-by, stopped-how, answer_of, RefusesOwn}
+use Rattle.run_commands.proofs.Names.{RunNames, files_of, texts_of, LIMITS, Both, of, Role}
 use Rattle.frame_check.specs.Octets.{AreOctets}
-use Rattle.shared_terms.specs.declared.role.Role.{Role}
-use Rattle.shared_terms.specs.Both.{Both, of}
-use Rattle.outside_calls.specs.Folder.{FolderState, octets_at}
-use Rattle.noise_script.specs.Script.{ScriptValue}
-use Rattle.noise_script.specs.Grammar.{ScriptSpelling}
 use Rattle.noise_script.specs.Laws.{ScriptsAreOne, NoFaultInScripts, SpelledIsInLimits, BreaksAreOctets}
-use Rattle.line_run.specs.Ends.{RunEnd, Left, OneResult, GivesUp, LineEnds}
+use Rattle.line_run.specs.Ends.{OneResult, GivesUp, LineEnds}
 use Rattle.line_run.specs.Ends as runs
-use Rattle.line_run.specs.Scripted.{wire_of, link_of}
-use Rattle.line_ends.specs.Causes.{LostLinksWereStarved}
-use Rattle.line_ends.specs.Completes.{ScriptRunsTo, IsQuiet, EndsDone, AreOfOctets, NamesFew, IsUndisturbed, CompletesWithFewLosses}
+use Rattle.line_ends.specs.Completes.{IsQuiet, EndsDone, AreOfOctets, NamesFew, IsUndisturbed, CompletesWithFewLosses}
 use Rattle.line_ends.specs.Completes.{CompletesWithFewNamed, CompletesQuiet, CompletesUndisturbed}
-use Rattle.command_base.specs.declared.status.Status.{Status}
-use Rattle.command_base.specs.declared.status.Status.TheVariants.{BadScript, TooLong, NoMemory}
-use Rattle.command_base.specs.declared.stop.Stop.{Stop}
-use Rattle.command_base.specs.declared.stop.Stop.TheVariants.{Own}
-use Rattle.command_base.specs.Inputs.{IsWithin, IsLonger}
-use Rattle.command_base.specs.Job.{Answers}
-use Rattle.command_base.specs.Lines.{done_line}
-use Rattle.command_base.proofs.Jobs.{Comes, is_done, is_own, is_memory, comes-to, last-only, done-unless-memory}
-use Rattle.outside_calls.specs.Outputs.{OnlyOutputs, KeepsEach, HoldEach}
-use Rattle.outside_calls.proofs.Putting.{HoldEach-kept}
-use Rattle.run_inputs.specs.declared.limits.TheConstants.{LIMITS}
-use Rattle.run_inputs.specs.Words.{RunNames, files_of, texts_of}
-use Rattle.run_inputs.specs.Answers.{answer_of}
-use Rattle.line_world.specs.Turns.{held_of}
-use Rattle.run_inputs.specs.Inputs.{RefusesOwn}
-use Rattle.run_inputs.proofs.Answering.{stopped-by, stopped-how}
-use Rattle.run_commands.specs.Running.Ends.{RanTo, RanBy, EndsBy, Ends, run_job}
-use Rattle.line_ends.specs.Carried.{IsCarried}
+use Rattle.command_base.specs.declared.status.Status.TheVariants.{BadScript}
+use Rattle.command_base.specs.Inputs.{IsLonger}
+use Rattle.outside_calls.specs.Outputs.{HoldEach}
+use Rattle.run_commands.specs.Running.Ends.{Ends}
 use Rattle.run_commands.specs.Running.Completes.{LosesFew, AreRight, files_at, DoneWhere, Answered, AnsweredByItsEnd, Completes}
 
 script-fits : (count : ℕ) → count ≤ 65536 → LIMITS.script < count → ⊥

@@ -1,32 +1,17 @@
 -- From every answer to the headline, and to when a run is done.
-use Rattle.std.proofs.Common.{◌≡◌, ◌⊎◌, inl, inr, ℕ, true, List, [], ◌++◌, Some, refl, ◌∙◌, ap, subst}
-use Rattle.std.specs.Option.{option_map}
-use Rattle.outside_calls.specs.Folder.{FolderState, GoesOn}
-use Rattle.outside_calls.proofs.Steps.{told_later}
-use Rattle.shared_terms.specs.declared.role.Role.TheVariants.{Originator, Answerer}
-use Rattle.noise_script.specs.Script.{delay_of}
+use Rattle.run_commands.proofs.Names.{◌≡◌, ◌⊎◌, inl, inr, ℕ, true, List, [], ◌++◌, Some, refl, ◌∙◌, ap, subst, option_map, last-only}
+use Rattle.run_commands.proofs.Names.{done-of, shared-of, Answers, done_line, Status, Done, LineLost, NotDetected, LinkLost, ChanceMatch}
+use Rattle.run_commands.proofs.Names.{RunLaws, may-run, RunEnd, wire_of, link_of, delay_of, Holds-kept, told_later, FolderState, GoesOn}
+use Rattle.run_commands.proofs.Names.{Holds, KeepsAll, OnlyOutputs, RanTo, EndsBy, run_job, is_run_end, run-ends-own, stopped-so}
+use Rattle.run_commands.proofs.Names.{RefusesOwn, RunNames, files_of, LIMITS, Originator, Answerer}
 use Rattle.link_run.specs.Laws.{agreed_srej}
 use Rattle.link_run.specs.Taken.{taken_octets}
-use Rattle.line_run.specs.Ends.{RunEnd, turns_heard}
+use Rattle.line_run.specs.Ends.{turns_heard}
 use Rattle.line_run.specs.Ends as runs
-use Rattle.line_run.specs.Scripted.{wire_of, link_of}
 use Rattle.line_ends.proofs.ReadingOff.{run-read}
-use Rattle.line_ends.proofs.RunLaws.{RunLaws, may-run}
-use Rattle.command_base.specs.declared.status.Status.{Status}
-use Rattle.command_base.specs.declared.status.Status.TheVariants.{Done, LineLost, NotDetected, LinkLost, ChanceMatch}
 use Rattle.command_base.specs.declared.stop.Stop.TheVariants as stops
-use Rattle.command_base.specs.Job.{Answers}
-use Rattle.command_base.specs.Lines.{done_line}
-use Rattle.outside_calls.specs.Outputs.{Holds, KeepsAll, OnlyOutputs}
-use Rattle.outside_calls.proofs.Holding.{Holds-kept}
-use Rattle.command_base.proofs.Jobs.{last-only, done-of, shared-of}
-use Rattle.run_inputs.proofs.Answering.{is_run_end, run-ends-own, stopped-so}
 use Rattle.run_inputs.proofs.Files.{prefix-later}
-use Rattle.run_inputs.specs.declared.limits.TheConstants.{LIMITS}
 use Rattle.run_inputs.specs.Files.{HoldsWhole}
-use Rattle.run_inputs.specs.Words.{RunNames, files_of}
-use Rattle.run_inputs.specs.Inputs.{RefusesOwn}
-use Rattle.run_commands.specs.Running.Ends.{RanTo, EndsBy, run_job}
 use Rattle.run_commands.specs.Running.Ends as ends
 use Rattle.run_commands.specs.Running.Headline.{Ran, RanBy, Headline}
 use Rattle.run_commands.proofs.Running.Prefixes.{BothPrefix, both-of}

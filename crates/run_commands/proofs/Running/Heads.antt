@@ -1,20 +1,13 @@
 -- Outputs that are created, and recordings that get their headers.
-use Rattle.std.proofs.Common.{◌≡◌, inr, ℕ, List, [], ◌∷◌, ◌++◌, sym, subst}
-use Rattle.std.proofs.lemmas.List.{append-nil}
-use Rattle.outside_calls.specs.Folder.{FolderState, Appended, GoesOn, OnlyWrites, CountsStand}
-use Rattle.outside_calls.specs.declared.folder.FolderFault.{FolderFault}
+use Rattle.run_commands.proofs.Names.{◌≡◌, inr, ℕ, List, [], ◌∷◌, ◌++◌, sym, subst, append-nil, tapes_of, Wire, Holds-kept}
+use Rattle.run_commands.proofs.Names.{OnlyOutputs-trans, FolderState, Appended, GoesOn, CountsStand, Holds, Creates, KeepsEach, AreApart}
+use Rattle.run_commands.proofs.Names.{OnlyOutputs, FolderFault, header_of, RunNames, texts_of, mode_of, Role}
+use Rattle.outside_calls.specs.Folder.{OnlyWrites}
 use Rattle.outside_calls.specs.declared.folder.FolderFault.TheVariants as folder
-use Rattle.outside_calls.specs.Outputs.{Holds, Creates, KeepsEach, AreApart, OnlyOutputs}
-use Rattle.outside_calls.proofs.Holding.{Holds-kept, Holds-more}
-use Rattle.outside_calls.proofs.OnlyOutputs.{OnlyOutputs-trans}
+use Rattle.outside_calls.proofs.Holding.{Holds-more}
 use Rattle.command_base.specs.Stops.{WriteFails}
 use Rattle.command_base.proofs.Jobs.{write-earlier}
-use Rattle.shared_terms.specs.declared.role.Role.{Role}
-use Rattle.sample_line.specs.Mode.{mode_of}
-use Rattle.recordings.specs.Recording.{header_of}
-use Rattle.line_run.specs.Recorded.{tapes_of}
-use Rattle.line_run.specs.Sampled.{Wire}
-use Rattle.run_inputs.specs.Words.{RunNames, texts_of, outputs_of}
+use Rattle.run_inputs.specs.Words.{outputs_of}
 use Rattle.line_world.specs.Taping.{TapeStands, KeepsTape}
 use Rattle.line_world.specs.declared.tape.Tape.{Tape}
 use Rattle.command_base.proofs.Creating.{OnlyOutputs-none as touches-first}

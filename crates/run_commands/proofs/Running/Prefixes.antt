@@ -1,33 +1,21 @@
 -- However a run ends, each received file is as it was, or holds the beginning of the other end's file.
-use Rattle.std.proofs.Common.{◌≡◌, ◌⊎◌, inl, inr, ℕ, List, [], ◌++◌, Some, Result, Ok, Err, refl, sym, ◌∙◌, ap, subst}
-use Rattle.std.proofs.lemmas.List.{append-nil}
-use Rattle.std.proofs.lemmas.List.Folds.{concat-append}
-use Rattle.std.specs.List.{concat}
+use Rattle.run_commands.proofs.Names.{◌≡◌, ◌⊎◌, inl, inr, ℕ, List, [], ◌++◌, Some, Result, Ok, Err, refl, sym, ◌∙◌, ap, subst, append-nil}
+use Rattle.run_commands.proofs.Names.{concat-append, concat, Status, Stop, RunLaws, may-run, RunEnd, Left, wire_of, link_of, held_of}
+use Rattle.run_commands.proofs.Names.{deliveries, ScriptValue, IsInLimits, delay_of, FolderState, GoesOn, Holds, KeepsAll, CreatesPart}
+use Rattle.run_commands.proofs.Names.{HoldPart, RanTo, StopsInTurn, StopsHeading, RanBy, EndsBy, stopped-by, RunNames, texts_of, LIMITS}
+use Rattle.run_commands.proofs.Names.{Both, of, other, Role, Originator, Answerer}
 use Rattle.shared_terms.specs.Prefix.{IsPrefixOf}
-use Rattle.outside_calls.specs.Folder.{FolderState, GoesOn}
-use Rattle.shared_terms.specs.declared.role.Role.{Role}
-use Rattle.shared_terms.specs.declared.role.Role.TheVariants.{Originator, Answerer}
-use Rattle.shared_terms.specs.Role.{other}
-use Rattle.shared_terms.specs.Both.{Both, of}
-use Rattle.noise_script.specs.Script.{ScriptValue, IsInLimits, delay_of}
-use Rattle.link_run.specs.End.{deliveries}
 use Rattle.link_run.specs.Run.{Link}
 use Rattle.link_run.specs.Laws.{RunsOver, HoldPrefixes}
-use Rattle.line_run.specs.Ends.{RunEnd, Left}
-use Rattle.line_run.specs.Scripted.{wire_of, link_of}
 use Rattle.line_run.proofs.Leaving.{hearing-in}
-use Rattle.command_base.specs.declared.status.Status.{Status}
-use Rattle.command_base.specs.declared.stop.Stop.{Stop}
 use Rattle.command_base.specs.declared.stop.Stop.TheVariants as stops
-use Rattle.outside_calls.specs.Outputs.{Holds, HoldsPart, KeepsAll, CreatesPart, HoldPart}
-use Rattle.run_inputs.specs.declared.limits.TheConstants.{LIMITS}
-use Rattle.run_inputs.specs.Words.{RunNames, texts_of, outputs_of}
-use Rattle.line_world.specs.Turns.{AddsTurn, AddsChance, StopsAfter, held_of}
+use Rattle.outside_calls.specs.Outputs.{HoldsPart}
+use Rattle.run_inputs.specs.Words.{outputs_of}
+use Rattle.line_world.specs.Turns.{AddsTurn, AddsChance, StopsAfter}
 use Rattle.run_inputs.specs.Files.{KeptOrPrefix}
-use Rattle.run_inputs.proofs.Answering.{stopped-by}
 use Rattle.run_inputs.proofs.Files.{prefix-of, part-of, empty-of}
-use Rattle.line_ends.proofs.RunLaws.{RunLaws, may-run, runs-over}
-use Rattle.run_commands.specs.Running.Ends.{RanTo, StopsInTurn, StopsHeading, RanBy, EndsBy, Ends as EndsSo}
+use Rattle.line_ends.proofs.RunLaws.{runs-over}
+use Rattle.run_commands.specs.Running.Ends.{Ends as EndsSo}
 
 -- both received files
 pub record BothPrefix (old before : FolderState) (n : RunNames) : Type 0 where

@@ -1,16 +1,8 @@
 -- What is refused is refused before the outputs are created.
-use Rattle.std.proofs.Common.{arith, ℕ, Result, subst}
-use Rattle.outside_calls.specs.Folder.{FolderState}
-use Rattle.command_base.specs.declared.status.Status.{Status}
-use Rattle.command_base.specs.declared.stop.Stop.{Stop}
+use Rattle.run_commands.proofs.Names.{arith, ℕ, Result, subst, refusal-own, IsRefusal, end_status, Status, Stop, FolderState, KeepsAll}
+use Rattle.run_commands.proofs.Names.{EndsBy, RunNames, LIMITS}
 use Rattle.command_base.specs.declared.stop.Stop.TheVariants as stops
-use Rattle.command_base.specs.Status.{IsRefusal}
-use Rattle.command_base.specs.Stops.{end_status}
-use Rattle.outside_calls.specs.Outputs.{KeepsAll}
-use Rattle.command_base.proofs.Jobs.{refusal-own}
-use Rattle.run_inputs.specs.declared.limits.TheConstants.{LIMITS}
-use Rattle.run_inputs.specs.Words.{RunNames}
-use Rattle.run_commands.specs.Running.Ends.{EndsBy, Ends}
+use Rattle.run_commands.specs.Running.Ends.{Ends}
 
 own-refused : (old before : FolderState) (n : RunNames) (answer : Status) → IsRefusal answer → EndsBy LIMITS old before n (stops.Own answer)
     → KeepsAll old before

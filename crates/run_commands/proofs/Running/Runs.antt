@@ -1,30 +1,19 @@
 -- From the phases of a run to how it ends.
-use Rattle.std.proofs.Common.{inr, ℕ, List, [], ◌∷◌, refl, ◌∙◌, arith}
-use Rattle.outside_calls.specs.Folder.{FolderState, GoesOn, OnlyReads, CountsStand}
-use Rattle.outside_calls.proofs.Steps.{GoesOn-trans}
-use Rattle.shared_terms.specs.Both.{Both}
-use Rattle.noise_script.specs.Script.{ScriptValue}
-use Rattle.line_run.specs.Ends.{RunEnd}
-use Rattle.line_run.specs.Scripted.{wire_of}
+use Rattle.run_commands.proofs.Names.{inr, ℕ, List, [], ◌∷◌, refl, ◌∙◌, arith, CreatesPart-earlier, StopCounts, Stop, RunEnd, wire_of}
+use Rattle.run_commands.proofs.Names.{RunFault, FaultCountsOver, RunEnds, FaultEnds, KnowsFiles, ScriptValue, KeepsEach-reads, inputs-kept}
+use Rattle.run_commands.proofs.Names.{GoesOn-trans, FolderState, GoesOn, OnlyReads, CountsStand, AreNoneOf, OnlyOutputs, Creates}
+use Rattle.run_commands.proofs.Names.{CreatesPart, AreApart, KeepsEach, AreApartFrom, OnlyPuts, IsBegun, Takes, RanTo, StopsInTurn}
+use Rattle.run_commands.proofs.Names.{StopsHeading, EndsBy, HeadsPartly, RunNames, files_of, texts_of, LIMITS, Both}
 use Rattle.line_run.specs.Scripts.{LineRunsEndSoon}
-use Rattle.line_run.specs.declared.fault.RunFault.{RunFault}
 use Rattle.line_run.specs.declared.fault.RunFault.TheVariants as faults
-use Rattle.line_world.specs.World.{KnowsFiles}
-use Rattle.line_world.specs.Turn.{FaultCountsOver}
-use Rattle.command_base.specs.declared.stop.Stop.{Stop}
-use Rattle.outside_calls.specs.Outputs.{AreNoneOf, OnlyOutputs, Creates, CreatesPart, AreApart, KeepsEach, AreApartFrom, OnlyPuts}
-use Rattle.outside_calls.proofs.Putting.{KeepsEach-reads, KeepsEach-trans, SomeRose-earlier, none-fronts, inputs-kept}
-use Rattle.command_base.specs.Stops.{StopCounts}
-use Rattle.command_base.proofs.Creating.{CreatesPart-earlier}
+use Rattle.outside_calls.proofs.Putting.{KeepsEach-trans, SomeRose-earlier, none-fronts}
 use Rattle.run_inputs.specs.declared.limits.Limits.{Limits}
-use Rattle.run_inputs.specs.declared.limits.TheConstants.{LIMITS}
-use Rattle.run_inputs.specs.Words.{RunNames, files_of, texts_of, inputs_of, outputs_of}
+use Rattle.run_inputs.specs.Words.{inputs_of, outputs_of}
 use Rattle.run_inputs.specs.Inputs.{Refuses}
-use Rattle.line_world.specs.Turns.{RunEnds, RunStops, RunStopsReading, FaultEnds}
-use Rattle.run_commands.specs.Running.Ends.{IsBegun, Takes, RanTo, StopsInTurn, StopsInReading, StopsCreating, StopsHeading, EndsBy}
+use Rattle.line_world.specs.Turns.{RunStops, RunStopsReading}
+use Rattle.run_commands.specs.Running.Ends.{StopsInReading, StopsCreating}
 use Rattle.run_inputs.specs.Answers.{fault_stop}
 use Rattle.run_inputs.proofs.Files.{file-is}
-use Rattle.run_commands.specs.Running.Tapes.{HeadsPartly}
 
 -- the inputs were not taken
 pub ends-refused : (l : Limits) (old new : FolderState) (n : RunNames) (stop : Stop) → OnlyReads old new

@@ -1,32 +1,20 @@
 -- However a run ends, each recording is as it was, or holds the beginning of its header and of what its end sends.
-use Rattle.std.proofs.Common.{arith, inl, inr, ℕ, List, [], ◌∷◌, ◌++◌, Some, None, Result, Ok, Err, refl, subst, append_assoc}
-use Rattle.outside_calls.specs.Folder.{FolderState, GoesOn}
-use Rattle.outside_calls.specs.Outputs.{Holds, HoldsFront, KeepsAll, CreatesPart, OnlyOutputs}
-use Rattle.outside_calls.proofs.Steps.{KeepsName-trans}
-use Rattle.outside_calls.proofs.Holding.{Holds-kept, HoldsFront-part, HoldsFront-all, HoldsFront-kept}
-use Rattle.shared_terms.specs.declared.role.Role.{Role}
-use Rattle.shared_terms.specs.declared.role.Role.TheVariants.{Originator, Answerer}
-use Rattle.sample_line.specs.Mode.{mode_of}
-use Rattle.shared_terms.specs.Both.{Both}
-use Rattle.recordings.specs.Recording.{header_of}
-use Rattle.noise_script.specs.Script.{ScriptValue}
+use Rattle.run_commands.proofs.Names.{arith, inl, inr, ℕ, List, [], ◌∷◌, ◌++◌, Some, None, Result, Ok, Err, refl, subst, append_assoc}
+use Rattle.run_commands.proofs.Names.{Status, Stop, RunEnd, Tapes, Wire, wire_of, link_of, ScriptValue, Holds-kept, KeepsName-trans}
+use Rattle.run_commands.proofs.Names.{FolderState, GoesOn, Holds, KeepsAll, CreatesPart, OnlyOutputs, header_of, Takes, RanTo, StopsInTurn}
+use Rattle.run_commands.proofs.Names.{RanBy, EndsBy, HeadsPartly, stopped-by, RunNames, LIMITS, mode_of, Both, Role, Originator, Answerer}
+use Rattle.outside_calls.specs.Outputs.{HoldsFront}
+use Rattle.outside_calls.proofs.Holding.{HoldsFront-part, HoldsFront-all, HoldsFront-kept}
 use Rattle.link_run.specs.Run.{Accounts, Turn}
 use Rattle.link_run.specs.Outcomes.{Going, TurnIs}
-use Rattle.line_run.specs.Sampled.{Wire, LineRun}
-use Rattle.line_run.specs.Ends.{RunEnd}
-use Rattle.line_run.specs.Recorded.{Tapes}
-use Rattle.line_run.specs.Scripted.{wire_of, link_of}
-use Rattle.command_base.specs.declared.status.Status.{Status}
-use Rattle.command_base.specs.declared.stop.Stop.{Stop}
+use Rattle.line_run.specs.Sampled.{LineRun}
 use Rattle.command_base.specs.declared.stop.Stop.TheVariants as stops
-use Rattle.run_inputs.specs.declared.limits.TheConstants.{LIMITS}
-use Rattle.run_inputs.specs.Words.{RunNames, outputs_of}
+use Rattle.run_inputs.specs.Words.{outputs_of}
 use Rattle.line_world.specs.Tapes.{HoldsTape, HoldsTapePart, HoldTapes, HoldTapesPartly}
 use Rattle.line_world.specs.Turns.{TapesStop}
 use Rattle.run_commands.specs.Running.Files.{AreOf}
-use Rattle.run_inputs.proofs.Answering.{stopped-by}
-use Rattle.run_commands.specs.Running.Ends.{Takes, RanTo, StopsInTurn, RanBy, EndsBy, Ends as EndsSo}
-use Rattle.run_commands.specs.Running.Tapes.{HeadsPartly, TapeBegun, TapesBegun}
+use Rattle.run_commands.specs.Running.Ends.{Ends as EndsSo}
+use Rattle.run_commands.specs.Running.Tapes.{TapeBegun, TapesBegun}
 
 -- ---- the script and the files that were taken
 

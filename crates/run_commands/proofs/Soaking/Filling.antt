@@ -1,19 +1,12 @@
 -- What the folder of a soak holds, and that it never fails.
-use Rattle.std.proofs.Common.{◌≡◌, ◌≢◌, ◌∙◌, ℕ, nat_eq, false, List, [], length, get_or, Option, Some, unwrap_or, refl, sym}
-use Rattle.std.proofs.Common.{ap, arith}
-use Rattle.std.proofs.lemmas.Bool.Decides.{nat_tests}
+use Rattle.run_commands.proofs.Names.{◌≡◌, ◌≢◌, ◌∙◌, ℕ, nat_eq, false, List, [], length, Option, Some, refl, sym, ap, arith, nat_tests}
+use Rattle.run_commands.proofs.Names.{RunFault, FaultCounts, Files, AreApartFrom, SureState, sure_folder, HoldsFiles, soak_names, soak_file}
+use Rattle.run_commands.proofs.Names.{Originator, Answerer}
+use Rattle.std.proofs.Common.{get_or, unwrap_or}
 use Rattle.std.specs.FinMap as finite
 use Rattle.std.specs.Cmp.Lexicographic.{nat_list_cmp_total}
-use Rattle.outside_calls.specs.Folder.{Files}
-use Rattle.program_folders.specs.Sure.{SureState, sure_folder}
-use Rattle.shared_terms.specs.declared.role.Role.TheVariants.{Originator, Answerer}
-use Rattle.outside_calls.specs.Outputs.{AreApartFrom}
 use Rattle.line_run.specs.Names.{inputs_of, outputs_of}
-use Rattle.line_run.specs.declared.fault.RunFault.{RunFault}
 use Rattle.line_run.specs.declared.fault.RunFault.TheVariants as faults
-use Rattle.line_world.specs.Turn.{FaultCounts}
-use Rattle.run_commands.specs.Soaking.Soak.{soak_file}
-use Rattle.run_commands.specs.Soaking.Folder.{HoldsFiles, soak_names}
 
 -- lists with another number at a place are others
 unequal : (x y : ℕ) → nat_eq x y ≡ false → x ≢ y

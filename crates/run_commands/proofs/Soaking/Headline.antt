@@ -1,33 +1,21 @@
 -- From every answer to the headline, and to when a soak is done.
-use Rattle.std.proofs.Common.{arith, ◌≡◌, ◌∙◌, ◌⊎◌, inl, inr, ℕ, true, List, [], ◌++◌, Result, Ok, Err, refl, ap, subst}
-use Rattle.std.specs.Option.{option_map}
-use Rattle.outside_calls.specs.Folder.{FolderState}
-use Rattle.outside_calls.proofs.Steps.{CountsStand-refl}
-use Rattle.shared_terms.specs.declared.role.Role.{Role}
-use Rattle.shared_terms.specs.Role.{other}
-use Rattle.shared_terms.specs.Both.{of}
-use Rattle.line_run.specs.Ends.{RunEnd, Left, MayRun, RunsLeavePrefixes, DoneLeavesWhole, OneResult, GivesUp}
+use Rattle.run_commands.proofs.Names.{arith, ◌≡◌, ◌∙◌, ◌⊎◌, inl, inr, ℕ, true, List, [], ◌++◌, Result, Ok, Err, refl, ap, subst, option_map}
+use Rattle.run_commands.proofs.Names.{done-of, done-unless-memory, shared-of, Comes, is_done, is_own, is_memory, comes-to, Answers, IsSound}
+use Rattle.run_commands.proofs.Names.{StopCounts, Tells, Status, Done, LineLost, NotDetected, LinkLost, ChanceMatch, NoMemory, Stop}
+use Rattle.run_commands.proofs.Names.{IsCarried, LostLinksWereStarved, ScriptRunsTo, RunEnd, Left, CountsStand-refl, FolderState, Ends}
+use Rattle.run_commands.proofs.Names.{SoakEnds, soak_wire, soak_files, soak_file, is_run_end, run-ends-own, stopped-so, stopped-by}
+use Rattle.run_commands.proofs.Names.{stopped-how, answer_of, of, other, Role}
+use Rattle.line_run.specs.Ends.{MayRun, RunsLeavePrefixes, DoneLeavesWhole, OneResult, GivesUp}
 use Rattle.line_run.specs.Ends as runs
 use Rattle.line_run.specs.Scripted.{ScriptsMayPlay, ScriptsHaveDelays}
 use Rattle.line_ends.specs.Scripts.{LineRunsEndSoon}
-use Rattle.line_ends.specs.Causes.{LostLinksWereStarved, EndsHaveCauses}
-use Rattle.command_base.specs.declared.status.Status.{Status}
-use Rattle.command_base.specs.declared.status.Status.TheVariants.{Done, LineLost, NotDetected, LinkLost, ChanceMatch, NoMemory}
-use Rattle.command_base.specs.declared.stop.Stop.{Stop}
-use Rattle.command_base.specs.Stops.{StopCounts}
-use Rattle.command_base.specs.Job.{Answers, SaysStop}
+use Rattle.line_ends.specs.Causes.{EndsHaveCauses}
+use Rattle.command_base.specs.Job.{SaysStop}
 use Rattle.command_base.specs.Lines.{soak_line}
-use Rattle.command_base.specs.Tells.{Tells}
-use Rattle.command_base.specs.Sound.{IsSound}
-use Rattle.command_base.proofs.Jobs.{done-of, done-unless-memory, shared-of, Comes, is_done, is_own, is_memory, comes-to}
-use Rattle.run_inputs.specs.Answers.{answer_of}
-use Rattle.line_ends.specs.Completes.{ScriptRunsTo}
 use Rattle.outside_calls.proofs.OnlyOutputs.{OnlyOutputs-refl}
-use Rattle.line_ends.specs.Carried.{IsCarried}
-use Rattle.run_commands.specs.Soaking.Soak.{soak_file, soak_script}
+use Rattle.run_commands.specs.Soaking.Soak.{soak_script}
 use Rattle.run_commands.specs.declared.soak.counts.SoakCounts.{SoakCounts}
-use Rattle.run_inputs.proofs.Answering.{is_run_end, run-ends-own, stopped-so, stopped-by, stopped-how}
-use Rattle.run_commands.specs.Soaking.Ends.{Ends, SoakEnds, IsSoaked, soak_wire, soak_link, soak_files, soak_job}
+use Rattle.run_commands.specs.Soaking.Ends.{IsSoaked, soak_link, soak_job}
 use Rattle.run_commands.specs.Soaking.Ends as ends
 use Rattle.run_commands.specs.Soaking.Headline.{Soaks, RanBy, Headline}
 use Rattle.run_commands.specs.Soaking.Completes.{Completes}

@@ -1,13 +1,10 @@
 -- Lines one behind another.
-use Rattle.std.proofs.Common.{◌≡◌, ◌∙◌, ℕ, zero, suc, ◌+◌, ◌*◌, ◌^◌, ◌<◌, ◌≤◌, List, [], ◌∷◌, ◌++◌, length, refl, sym, ap, subst, arith}
-use Rattle.std.proofs.Common.{append_assoc, length-append}
-use Rattle.std.specs.Prelude.{codes, decimal}
+use Rattle.run_commands.proofs.Names.{◌≡◌, ◌∙◌, ℕ, zero, suc, ◌+◌, ◌*◌, ◌<◌, ◌≤◌, List, [], ◌∷◌, ◌++◌, length, refl, sym, ap, subst, arith}
+use Rattle.run_commands.proofs.Names.{append_assoc, length-append, codes, decimal, text_of, role_in_turn, turn_lost, delay_line, noise_head}
+use Rattle.run_commands.proofs.Names.{noise_line, lose_head, lose_line, soak_lines, Role, Originator, Answerer}
+use Rattle.std.proofs.Common.{◌^◌}
 use Rattle.std.proofs.lemmas.Fmt.{length-decimal-le}
-use Rattle.shared_terms.specs.declared.role.Role.{Role}
-use Rattle.shared_terms.specs.declared.role.Role.TheVariants.{Originator, Answerer}
-use Rattle.run_commands.specs.Soaking.Soak.{role_in_turn, turn_lost}
-use Rattle.noise_script.specs.Noisy.{text_of}
-use Rattle.run_commands.specs.Soaking.Text.{delay_line, noise_head, noise_line, lose_head, lose_line, soak_lines, soak_text}
+use Rattle.run_commands.specs.Soaking.Text.{soak_text}
 
 pub text-more : (lines : List (List ℕ)) (line : List ℕ) → text_of (lines ++ line ∷ []) ≡ text_of lines ++ (line ++ 10 ∷ [])
 text-more [] line = refl

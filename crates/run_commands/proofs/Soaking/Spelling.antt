@@ -1,25 +1,23 @@
 -- The text of a soak spells its script.
-use Rattle.std.proofs.Common.{◌≡◌, ◌≢◌, ◌∙◌, ℕ, zero, suc, ◌<◌, ◌≤◌, Bool, true, false, not, cond, nat_eq, nat_le, List, [], ◌∷◌}
-use Rattle.std.proofs.Common.{◌++◌, length, refl, sym, ap, subst, arith, append-nil}
-use Rattle.std.specs.Prelude.{codes, decimal}
+use Rattle.run_commands.proofs.Names.{◌≡◌, ◌≢◌, ◌∙◌, ℕ, zero, suc, ◌<◌, ◌≤◌, Bool, true, false, nat_eq, List, [], ◌∷◌, ◌++◌, length, refl}
+use Rattle.run_commands.proofs.Names.{sym, ap, subst, arith, nat_tests, codes, decimal, ScriptSpelling, role_in_turn, turn_lost, delay_line}
+use Rattle.run_commands.proofs.Names.{noise_head, noise_line, lose_head, lose_line, Role, Originator, Answerer}
+use Rattle.std.proofs.Common.{not, cond, nat_le}
+use Rattle.std.proofs.Common.{append-nil}
 use Rattle.std.specs.List.{list_all}
 use Rattle.std.proofs.lemmas.Bool.{and_parts}
-use Rattle.std.proofs.lemmas.Bool.Decides.{nat_tests}
 use Rattle.std.proofs.lemmas.List.Folds.{list_all-append}
 use Rattle.std.proofs.lemmas.Fmt.{decimal_nonempty, digits_value-decimal}
-use Rattle.shared_terms.specs.declared.role.Role.{Role}
-use Rattle.shared_terms.specs.declared.role.Role.TheVariants.{Originator, Answerer}
 use Rattle.shared_terms.specs.Role.{role_word}
 use Rattle.noise_script.specs.Lines.{words_of, without_return, is_in_word}
 use Rattle.noise_script.specs.Numbers.{is_digit}
 use Rattle.noise_script.specs.Forms.{IsNumber}
-use Rattle.noise_script.specs.Grammar.{ScriptSpelling}
 use Rattle.noise_script.specs.declared.entry.Loss.{Loss}
 use Rattle.noise_script.specs.Noisy.{SaysDelays, SaysNoise, SaysLoss, EachSays, NoisyLinesSpell}
 use Rattle.noise_script.proofs.Cuts.{is_no_blank, word-cut}
 use Rattle.noise_script.proofs.Decimals.{at-most, both, numerals, IsSmall, is-number, number-all}
-use Rattle.run_commands.specs.Soaking.Soak.{role_in_turn, turn_lost, soak_noise, soak_loss, soak_losses, soak_script}
-use Rattle.run_commands.specs.Soaking.Text.{delay_line, noise_head, noise_line, lose_head, lose_line, lose_lines, soak_text}
+use Rattle.run_commands.specs.Soaking.Soak.{soak_noise, soak_loss, soak_losses, soak_script}
+use Rattle.run_commands.specs.Soaking.Text.{lose_lines, soak_text}
 use Rattle.run_commands.proofs.Soaking.Lines.{turn-small, text-is}
 
 spells-number : (low high n : ℕ) → IsSmall n → low ≤ n → n ≤ high → IsNumber low high (decimal n) n

@@ -1,28 +1,19 @@
 -- From the turns of a soak to how it ends.
-use Rattle.std.proofs.Common.{◌≡◌, ◌∙◌, ℕ, List, ◌∷◌, length, take, None, Ok, Err, refl, ap, subst, arith}
-use Rattle.std.proofs.lemmas.List.{take_all}
-use Rattle.outside_calls.specs.Folder.{octets_at, KeepsName}
-use Rattle.outside_calls.proofs.Steps.{octets-kept}
-use Rattle.program_folders.specs.Sure.{SureState, sure_folder}
-use Rattle.shared_terms.specs.declared.role.Role.TheVariants.{Originator, Answerer}
-use Rattle.shared_terms.specs.Both.{Both}
-use Rattle.noise_script.specs.Script.{ScriptValue, IsInLimits}
+use Rattle.run_commands.proofs.Names.{◌≡◌, ◌∙◌, ℕ, List, ◌∷◌, length, take, None, Ok, Err, refl, ap, subst, arith, take_all, RunEnd}
+use Rattle.run_commands.proofs.Names.{Written, link_of, RunFault, FaultCounts, RunEnds, FaultEnds, KnowsFiles, ScriptValue, IsInLimits}
+use Rattle.run_commands.proofs.Names.{inputs-kept, octets-kept, octets_at, KeepsName, KeepsEach, OnlyOutputs, OnlyPuts, SureState}
+use Rattle.run_commands.proofs.Names.{sure_folder, Ends, SoakEnds, soak_wire, soak_files, HoldsFiles, soak_names, soak_file, Both}
+use Rattle.run_commands.proofs.Names.{Originator, Answerer}
 use Rattle.link_run.specs.Counts.{lost_slots, sent_again}
-use Rattle.line_run.specs.Ends.{RunEnd, RunsTo}
+use Rattle.line_run.specs.Ends.{RunsTo}
 use Rattle.line_run.specs.Ends as runs
-use Rattle.line_run.specs.Scripted.{link_of}
 use Rattle.line_world.specs.Limits.{file_limit}
-use Rattle.line_run.specs.Names.{Written, inputs_of, outputs_of}
-use Rattle.line_world.specs.World.{KnowsFiles}
-use Rattle.line_run.specs.declared.fault.RunFault.{RunFault}
+use Rattle.line_run.specs.Names.{inputs_of, outputs_of}
 use Rattle.line_run.specs.declared.fault.RunFault.TheVariants as faults
-use Rattle.line_world.specs.Turn.{FaultCounts}
-use Rattle.outside_calls.specs.Outputs.{KeepsEach, OnlyOutputs, OnlyPuts}
-use Rattle.outside_calls.proofs.Putting.{inputs-kept}
-use Rattle.line_world.specs.Turns.{RunEnds, RunCounts, FaultEnds}
-use Rattle.run_commands.specs.Soaking.Soak.{soak_file, soak_script}
-use Rattle.run_commands.specs.Soaking.Ends.{Ends, SoakEnds, soak_stop, soak_wire, soak_files}
-use Rattle.run_commands.specs.Soaking.Folder.{HoldsFiles, soak_names, soak_outputs}
+use Rattle.line_world.specs.Turns.{RunCounts}
+use Rattle.run_commands.specs.Soaking.Soak.{soak_script}
+use Rattle.run_commands.specs.Soaking.Ends.{soak_stop}
+use Rattle.run_commands.specs.Soaking.Folder.{soak_outputs}
 use Rattle.run_commands.proofs.Soaking.Filling.{IsTurnEnd, apart, turn-end}
 
 -- A soak's turns were made in its folder: it held the files, the outputs were made, and turns touched these alone.

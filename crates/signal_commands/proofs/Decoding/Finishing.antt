@@ -1,11 +1,7 @@
 -- What a playback gives in the end.
-use Rattle.std.proofs.Common.{ℕ, Bool, List, ◌++◌}
-use Rattle.symbol_map.specs.declared.sample.Sample.{Sample}
+use Rattle.signal_commands.proofs.Names.{ℕ, Bool, List, ◌++◌, Rate, LabelsJoined, ReadToEnd, trellis_at, DemodulatesAt, Bits, Sample}
 use Rattle.exact_decoder.specs.Surviving.Survivors.{IsFirstLeast}
-use Rattle.recordings.specs.declared.rate.Rate.{Rate}
-use Rattle.signal_commands.specs.declared.decode.octet_joiner.Bits.{Bits}
-use Rattle.signal_commands.specs.Decoding.Playing.{Finishes, LabelsJoined, ReadToEnd}
-use Rattle.signal_commands.specs.Decoding.Rates.{trellis_at, DemodulatesAt}
+use Rattle.signal_commands.specs.Decoding.Playing.{Finishes}
 use Rattle.signal_commands.proofs.Decoding.Playings.{whole-joined}
 
 -- the labels of the least sequence that were read so far are joined, and its last ones are read to the end

@@ -1,43 +1,25 @@
 -- From every answer to what the command promises.
-use Rattle.std.proofs.Common.{◌≡◌, ◌⊎◌, ◌∙◌, inl, inr, ℕ, ◌+◌, ◌%◌, List, [], ◌++◌, length, take, drop, Some, None, Result, Ok, Err, refl}
-use Rattle.std.proofs.Common.{sym, ap, subst, arith, append-nil, take-append-drop}
+use Rattle.signal_commands.proofs.Names.{◌≡◌, ◌⊎◌, ◌∙◌, inl, inr, ℕ, ◌+◌, ◌%◌, List, [], ◌++◌, length, take, drop, Some, None, Result, Ok}
+use Rattle.signal_commands.proofs.Names.{Err, refl, sym, ap, subst, arith, append-nil, option_map, never-longer, never-bad, content-same}
+use Rattle.signal_commands.proofs.Names.{IsDone, refusal-own, last-only, done-of, shared-of, done-unless-memory, Answers, ReadsRecording}
+use Rattle.signal_commands.proofs.Names.{IsRefusal, end_status, RECORDING_LIMIT, Status, Stop, Own, Read, Write, Say, released-is_least}
+use Rattle.signal_commands.proofs.Names.{IsReleased, LostIs, line_depth, HoldsFront-all, KeepsName-trans, FolderState, octets_at, GoesOn}
+use Rattle.signal_commands.proofs.Names.{KeepsName, KeepsAll, HoldsFront, OnlyOutputs, IsBadHeader, samples_in, Rate, tap_of, Mode}
+use Rattle.signal_commands.proofs.Names.{IsPrefixOf, Role, DecodesFront, SampleCut, RecordingLost, EndsOwn, Carries, trellis_at}
+use Rattle.signal_commands.proofs.Names.{DecodeNames, Sample}
+use Rattle.std.proofs.Common.{take-append-drop}
 use Rattle.std.specs.Bool.{IsTrue}
-use Rattle.std.specs.Option.{option_map}
-use Rattle.symbol_map.specs.declared.sample.Sample.{Sample}
-use Rattle.scramblers.specs.declared.mode.Mode.{Mode}
-use Rattle.scramblers.specs.Mode.{tap_of}
-use Rattle.shared_terms.specs.declared.role.Role.{Role}
-use Rattle.shared_terms.specs.Prefix.{IsPrefixOf}
-use Rattle.outside_calls.specs.Folder.{FolderState, octets_at, GoesOn, KeepsName}
-use Rattle.outside_calls.proofs.Steps.{KeepsName-trans, told_later}
-use Rattle.exact_decoder.specs.Surviving.Survivors.{IsReleased, IsLeast, LostIs}
-use Rattle.exact_decoder.proofs.Surviving.Least.{released-is_least}
-use Rattle.exact_decoder.specs.Surviving.V32.{line_depth}
-use Rattle.command_base.specs.declared.limits.TheConstants.{RECORDING_LIMIT}
-use Rattle.command_base.specs.declared.status.Status.{Status}
+use Rattle.outside_calls.proofs.Steps.{told_later}
+use Rattle.exact_decoder.specs.Surviving.Survivors.{IsLeast}
 use Rattle.command_base.specs.declared.status.Status.TheVariants.{BadRecording, TooLong, LineLost}
-use Rattle.command_base.specs.declared.stop.Stop.{Stop}
-use Rattle.command_base.specs.declared.stop.Stop.TheVariants.{Own, Read, Write, Say, NoMemory}
+use Rattle.command_base.specs.declared.stop.Stop.TheVariants.{NoMemory}
 use Rattle.command_base.specs.Inputs.{IsLonger}
-use Rattle.command_base.specs.Job.{Answers}
 use Rattle.command_base.specs.Lines.{octets_line}
-use Rattle.outside_calls.specs.Outputs.{KeepsAll, HoldsFront, OnlyOutputs}
-use Rattle.command_base.specs.Status.{IsRefusal}
-use Rattle.command_base.specs.Stops.{end_status}
-use Rattle.outside_calls.proofs.Holding.{HoldsFront-all}
 use Rattle.command_base.proofs.Answering.{IsPlain}
-use Rattle.command_base.proofs.Jobs.{IsDone, refusal-own, last-only, last-plain, done-of, shared-of, done-unless-memory}
-use Rattle.signal_commands.specs.Decoding.Words.{DecodeNames}
-use Rattle.recordings.specs.declared.rate.Rate.{Rate}
+use Rattle.command_base.proofs.Jobs.{last-plain}
 use Rattle.recordings.specs.declared.rate.Rate.TheVariants as rates
-use Rattle.recordings.specs.Headers.{IsBadHeader}
-use Rattle.recordings.specs.Samples.{samples_in}
-use Rattle.signal_commands.specs.Decoding.Octets.{Carries}
-use Rattle.signal_commands.specs.Decoding.Rates.{trellis_at}
-use Rattle.command_base.specs.Recordings.{ReadsRecording}
-use Rattle.command_base.proofs.Headers.{never-longer, never-bad, content-same}
-use Rattle.signal_commands.specs.Decoding.Ends.{DecodesAll, DecodesFront, HeaderRefused, SampleCut, RecordingLost, MayWrite, LeavesPart}
-use Rattle.signal_commands.specs.Decoding.Ends.{EndsOwn, Ends, decode_job}
+use Rattle.signal_commands.specs.Decoding.Ends.{DecodesAll, HeaderRefused, MayWrite, LeavesPart}
+use Rattle.signal_commands.specs.Decoding.Ends.{Ends, decode_job}
 use Rattle.signal_commands.specs.Decoding.Completes.{IsRecording, Completes}
 use Rattle.signal_commands.specs.Decoding.Headline.{BeginNearest, HoldsBeginning, HoldsWhole, Headline}
 use Rattle.signal_commands.proofs.Decoding.Rates.{code_at}

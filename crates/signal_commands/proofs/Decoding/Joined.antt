@@ -1,13 +1,9 @@
 -- Bits are joined to octets.
-use Rattle.std.proofs.Common.{◌≡◌, ◌∙◌, ℕ, zero, suc, ◌+◌, ◌-◌, ◌*◌, ◌/◌, ◌%◌, ◌^◌, ◌<◌, ◌≤◌, Bool, List, [], ◌∷◌, ◌++◌, refl, sym, ap}
-use Rattle.std.proofs.Common.{subst, arith, append-nil, append_assoc, nat_eq}
+use Rattle.signal_commands.proofs.Names.{◌≡◌, ◌∙◌, ℕ, zero, suc, ◌+◌, ◌-◌, ◌*◌, ◌/◌, ◌%◌, ◌^◌, ◌<◌, ◌≤◌, Bool, List, [], ◌∷◌, ◌++◌, refl}
+use Rattle.signal_commands.proofs.Names.{sym, ap, subst, arith, append-nil, append_assoc, nat_eq, flat_map-append, All-push, low_bits}
+use Rattle.signal_commands.proofs.Names.{octet_bits, bits_of, bits_in, OctetsJoined, Bits}
 use Rattle.std.proofs.Math.Nat.{pow-suc, pow-le-pow_right}
 use Rattle.std.proofs.lemmas.Nat.{pow-add}
-use Rattle.std.proofs.lemmas.Grind.{flat_map-append}
-use Rattle.std.proofs.lemmas.List.Elements.{All-push}
-use Rattle.frame_check.specs.Bits.{low_bits, octet_bits, bits_of}
-use Rattle.signal_commands.specs.declared.decode.octet_joiner.Bits.{Bits}
-use Rattle.signal_commands.specs.Decoding.Octets.{bits_in, OctetsJoined}
 
 twice : (k : ℕ) → 2 ^ suc k ≡ 2 * 2 ^ k
 twice k = omega (arith, pow-suc 2 k)

@@ -1,24 +1,14 @@
 -- Whatever samples follow, the octets that were given begin those that are given then.
-use Rattle.std.proofs.Common.{◌≡◌, ◌∙◌, ℕ, ◌*◌, ◌/◌, ◌<◌, ◌≤◌, Bool, List, ◌++◌, length, take, drop, refl, sym, ap, subst}
-use Rattle.std.proofs.Common.{arith, append_assoc}
-use Rattle.std.proofs.Math.Seq.{take-append_seam}
-use Rattle.std.proofs.lemmas.Grind.{flat_map-append}
-use Rattle.std.proofs.lemmas.List.{take-append-drop, length-take, length-drop}
+use Rattle.signal_commands.proofs.Names.{◌≡◌, ◌∙◌, ℕ, ◌*◌, ◌/◌, ◌<◌, ◌≤◌, Bool, List, ◌++◌, length, take, drop, refl, sym, ap, subst, arith}
+use Rattle.signal_commands.proofs.Names.{append_assoc, take-append_seam, flat_map-append, take-append-drop, length-take, stays-prefix}
+use Rattle.signal_commands.proofs.Names.{some-released, IsReleased, octet_bits, bits_of, descrambled, descrambles, Rate, Descrambles}
+use Rattle.signal_commands.proofs.Names.{IsPrefixOf, AreWholeOctets, Carries, trellis_at, line_at, Sample}
+use Rattle.std.proofs.lemmas.List.{length-drop}
 use Rattle.std.proofs.lemmas.List.Elements.{All-append}
-use Rattle.shared_terms.specs.Prefix.{IsPrefixOf}
-use Rattle.frame_check.specs.Bits.{octet_bits, bits_of, octets_of}
+use Rattle.frame_check.specs.Bits.{octets_of}
 use Rattle.frame_check.proofs.BitLists.{bits_of-octets_of, octets_of-are_octets}
-use Rattle.scramblers.specs.Scrambles.{Descrambles}
-use Rattle.symbol_map.specs.declared.sample.Sample.{Sample}
-use Rattle.exact_decoder.specs.Surviving.Survivors.{IsReleased}
-use Rattle.exact_decoder.proofs.Surviving.Least.{some-released}
-use Rattle.exact_decoder.proofs.Surviving.Fronts.{stays-prefix}
 use Rattle.scramblers.proofs.Readings.{Descrambles_once, Descrambles_from_Scrambles, Scrambles_from_Descrambles, Scrambles-take}
-use Rattle.recordings.specs.declared.rate.Rate.{Rate}
-use Rattle.signal_commands.specs.Decoding.Octets.{AreWholeOctets, Carries}
-use Rattle.signal_commands.specs.Decoding.Rates.{trellis_at, line_at}
 use Rattle.signal_commands.proofs.Decoding.Rates.{code_at, line-longer}
-use Rattle.line_coding.proofs.Readers.{descrambled, descrambles}
 
 -- all the whole octets of some bits
 whole-octets : (bits : List Bool) → AreWholeOctets bits (octets_of (length bits / 8) (take (8 * (length bits / 8)) bits))

@@ -1,36 +1,17 @@
 -- What the output holds where a recording is not played to its end.
-use Rattle.std.proofs.Common.{◌≡◌, ◌≢◌, ◌∙◌, inl, ℕ, ◌+◌, ◌%◌, List, [], ◌++◌, length, take, drop, sym, ap, subst, arith, append-nil}
-use Rattle.std.proofs.Common.{append_assoc, Option, Some, None, Result, Ok, Err}
-use Rattle.std.proofs.lemmas.List.{take-append-drop, take-append-le}
-use Rattle.outside_calls.specs.Folder.{FolderState}
-use Rattle.scramblers.specs.declared.mode.Mode.{Mode}
-use Rattle.scramblers.specs.Mode.{tap_of}
-use Rattle.symbol_map.specs.declared.sample.Sample.{Sample}
-use Rattle.exact_decoder.specs.Surviving.Survivors.{IsReleased, LostIs}
-use Rattle.exact_decoder.proofs.Surviving.Fronts.{lost-stays}
-use Rattle.exact_decoder.specs.Surviving.V32.{line_depth}
-use Rattle.exact_decoder.specs.Decoder.{heard}
+use Rattle.signal_commands.proofs.Names.{◌≡◌, ◌≢◌, ◌∙◌, inl, ℕ, ◌+◌, ◌%◌, List, [], ◌++◌, length, take, drop, sym, ap, subst, arith}
+use Rattle.signal_commands.proofs.Names.{append-nil, append_assoc, Option, Some, None, Result, Ok, Err, take-append-drop, take-append-le}
+use Rattle.signal_commands.proofs.Names.{GoesOnBy, ReadsRecording, hearer_of, lost-stays, heard, IsReleased, LostIs, line_depth}
+use Rattle.signal_commands.proofs.Names.{HoldsFront-longer, FolderState, Holds, HoldsFront, samples_in-front, samples_in, HEADER, Rate}
+use Rattle.signal_commands.proofs.Names.{tap_of, Mode, Role, IsFollowed, DecodesFront, RecordingLost, SampleCut, Carries, LosesWithin}
+use Rattle.signal_commands.proofs.Names.{decoding_of, Hears, trellis_at, DecodeNames, Playback, Sample}
 use Rattle.exact_decoder.specs.declared.decoder.Lost.{Lost}
-use Rattle.outside_calls.specs.Outputs.{Holds, HoldsFront}
-use Rattle.outside_calls.proofs.Holding.{HoldsFront-longer}
-use Rattle.signal_commands.specs.Decoding.Words.{DecodeNames}
-use Rattle.recordings.specs.Samples.{samples_in}
-use Rattle.signal_commands.specs.Decoding.Octets.{Carries}
-use Rattle.signal_commands.specs.declared.decode.playback.Playback.{Playback}
-use Rattle.signal_commands.specs.Decoding.Playing.{decoding_of, Hears}
-use Rattle.signal_commands.specs.Decoding.Rates.{trellis_at}
-use Rattle.signal_commands.specs.Decoding.Played.{LosesWithin, PlaysPiece}
-use Rattle.command_base.specs.Recordings.{ReadsRecording, hearer_of}
-use Rattle.command_base.proofs.Behind.{GoesOnBy}
-use Rattle.signal_commands.specs.Decoding.Ends.{IsFollowed, DecodesPart, DecodesFront, RecordingLost, SampleCut}
-use Rattle.shared_terms.specs.declared.role.Role.{Role}
-use Rattle.recordings.specs.declared.rate.Rate.{Rate}
+use Rattle.signal_commands.specs.Decoding.Played.{PlaysPiece}
+use Rattle.signal_commands.specs.Decoding.Ends.{DecodesPart}
 use Rattle.recordings.specs.declared.rate.Rate.TheVariants as rates
-use Rattle.recordings.specs.declared.header.TheConstants.{HEADER}
 use Rattle.signal_commands.proofs.Decoding.Longer.{longer}
 use Rattle.signal_commands.proofs.Decoding.Playings.{takes-octets}
 use Rattle.signal_commands.proofs.Decoding.Rates.{lost-at}
-use Rattle.recordings.proofs.Samples.{samples_in-front}
 use Rattle.signal_commands.proofs.PickingUp.Longer.{tap-low}
 
 -- some of the samples release labels that carry the octets

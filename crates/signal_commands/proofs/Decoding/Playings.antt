@@ -1,18 +1,8 @@
 -- A playback goes on.
-use Rattle.std.proofs.Common.{◌≡◌, ℕ, Bool, List, ◌++◌, length, arith}
-use Rattle.scramblers.specs.declared.mode.Mode.{Mode}
-use Rattle.scramblers.specs.Mode.{tap_of}
-use Rattle.symbol_map.specs.declared.sample.Sample.{Sample}
-use Rattle.exact_decoder.specs.Surviving.Survivors.{IsReleased, LostIs}
-use Rattle.exact_decoder.specs.Surviving.V32.{line_depth}
-use Rattle.exact_decoder.specs.Decoder.{Decoding, heard}
+use Rattle.signal_commands.proofs.Names.{◌≡◌, ℕ, Bool, List, ◌++◌, length, arith, Decoding, heard, IsReleased, LostIs, line_depth, Rate}
+use Rattle.signal_commands.proofs.Names.{tap_of, Mode, AreWholeOctets, Carries, bits_in, OctetsJoined, decoding_of, Hears, trellis_at, Bits}
+use Rattle.signal_commands.proofs.Names.{Playback, Sample}
 use Rattle.frame_check.proofs.BitLists.{length-low_bits}
-use Rattle.recordings.specs.declared.rate.Rate.{Rate}
-use Rattle.signal_commands.specs.declared.decode.octet_joiner.Bits.{Bits}
-use Rattle.signal_commands.specs.declared.decode.playback.Playback.{Playback}
-use Rattle.signal_commands.specs.Decoding.Octets.{AreWholeOctets, Carries, bits_in, OctetsJoined}
-use Rattle.signal_commands.specs.Decoding.Playing.{decoding_of, Hears}
-use Rattle.signal_commands.specs.Decoding.Rates.{trellis_at}
 use Rattle.signal_commands.proofs.Decoding.Rates.{takes-labels}
 
 -- what waits is less than an octet

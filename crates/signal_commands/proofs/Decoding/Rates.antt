@@ -1,31 +1,16 @@
 -- What holds at either rate.
-use Rattle.std.proofs.Common.{◌≡◌, ◌∙◌, ℕ, ◌+◌, Bool, List, ◌++◌, length, take, drop, Some, refl, sym, ap, arith}
-use Rattle.std.specs.List.{flat_map}
-use Rattle.std.proofs.Math.Seq.{take-append_seam}
-use Rattle.std.proofs.lemmas.Grind.{flat_map-append}
-use Rattle.std.proofs.lemmas.List.{take-append-drop, length-take}
-use Rattle.frame_check.specs.Bits.{low_bits}
-use Rattle.scramblers.specs.declared.mode.Mode.{Mode}
-use Rattle.scramblers.specs.Mode.{tap_of}
+use Rattle.signal_commands.proofs.Names.{◌≡◌, ◌∙◌, ℕ, ◌+◌, Bool, List, ◌++◌, length, take, drop, Some, refl, sym, ap, arith}
+use Rattle.signal_commands.proofs.Names.{take-append_seam, flat_map-append, take-append-drop, length-take, flat_map, Decoding, heard}
+use Rattle.signal_commands.proofs.Names.{IsReleased, LostIs, line_depth, low_bits, demodulated, Rate, tap_of, Mode, decoding_of, ReadsAt}
+use Rattle.signal_commands.proofs.Names.{trellis_at, line_at, DemodulatesAt, RateReader, Sample, quads_of-take, quads_of}
 use Rattle.trellis_tables.specs.Differential.Turned.{unturned}
 use Rattle.trellis_tables.proofs.Turning.Inverses.{unturned-take}
-use Rattle.symbol_map.specs.declared.sample.Sample.{Sample}
-use Rattle.trellis_tables.specs.LabelReader.{quads_of}
-use Rattle.trellis_tables.proofs.Readings.{quads_of-take}
 use Rattle.exact_decoder.specs.Surviving.Trellises.{Trellis, HasLaws}
-use Rattle.exact_decoder.specs.Surviving.Survivors.{IsReleased, LostIs}
 use Rattle.exact_decoder.proofs.Surviving.V32.{line-has-laws}
-use Rattle.exact_decoder.specs.Surviving.V32.{line_depth}
-use Rattle.exact_decoder.specs.Decoder.{Decoding, heard}
-use Rattle.line_coding.proofs.Standing.{demodulated}
 use Rattle.rate_4800.proofs.Standing.{demodulated as quarters-demodulated}
 use Rattle.rate_4800.proofs.Reading.{quarters_have_laws, all-released}
-use Rattle.recordings.specs.declared.rate.Rate.{Rate}
 use Rattle.recordings.specs.declared.rate.Rate.TheVariants as rates
-use Rattle.signal_commands.specs.declared.decode.rate_reader.RateReader.{RateReader}
 use Rattle.signal_commands.specs.declared.decode.rate_reader.RateReader.TheVariants as readers
-use Rattle.signal_commands.specs.Decoding.Playing.{decoding_of, ReadsAt}
-use Rattle.signal_commands.specs.Decoding.Rates.{trellis_at, line_at, DemodulatesAt}
 
 -- a code with its laws
 pub record IsCode (code : Trellis Sample) : Type 0 where

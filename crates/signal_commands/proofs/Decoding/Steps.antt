@@ -1,15 +1,10 @@
 -- One step of playing a recording.
-use Rattle.std.proofs.Common.{◌≡◌, ◌≢◌, ◌∙◌, inl, inr, true, List, refl, sym, subst, ℕ}
-use Rattle.outside_calls.specs.Folder.{FolderState, OnlyReads, OnlyWrites}
-use Rattle.outside_calls.proofs.Steps.{GoesOn-trans, KeepsName-trans}
-use Rattle.command_base.specs.declared.stop.Stop.{Stop}
-use Rattle.command_base.specs.declared.stop.Stop.TheVariants.{Own, Read, Say}
-use Rattle.outside_calls.specs.Outputs.{OnlyOutput}
-use Rattle.command_base.specs.Recordings.{IsNotOpened}
-use Rattle.command_base.specs.Apart.{are_apart}
-use Rattle.command_base.proofs.Differing.{none-of-inputs}
-use Rattle.signal_commands.specs.Decoding.Words.{DecodeNames, inputs_of, outputs_of}
-use Rattle.signal_commands.specs.Decoding.Ends.{EndsOwn, EndsBy}
+use Rattle.signal_commands.proofs.Names.{◌≡◌, ◌≢◌, ◌∙◌, inl, inr, true, List, refl, sym, subst, ℕ, none-of-inputs, are_apart, IsNotOpened}
+use Rattle.signal_commands.proofs.Names.{Stop, Own, Read, Say, KeepsName-trans, FolderState, OnlyReads, OnlyWrites, OnlyOutput, EndsOwn}
+use Rattle.signal_commands.proofs.Names.{DecodeNames}
+use Rattle.outside_calls.proofs.Steps.{GoesOn-trans}
+use Rattle.signal_commands.specs.Decoding.Words.{inputs_of, outputs_of}
+use Rattle.signal_commands.specs.Decoding.Ends.{EndsBy}
 
 pub apart-names : (n : DecodeNames) → are_apart (inputs_of n) (outputs_of n) ≡ true → n.rec ≢ n.file
 apart-names n e same = (none-of-inputs (inputs_of n) (outputs_of n) e).0.0 (sym same)

@@ -1,22 +1,12 @@
 -- From every answer to what the command promises.
-use Rattle.std.proofs.Common.{◌⊎◌, ◌∙◌, inl, inr, ℕ, List, [], ◌++◌, length, ◌≤◌, ◌<◌, Result, Ok, Err, ap, subst, arith}
-use Rattle.std.specs.Option.{option_map}
-use Rattle.outside_calls.specs.Folder.{FolderState, octets_at, GoesOn, KeepsName}
-use Rattle.outside_calls.proofs.Steps.{KeepsName-trans}
-use Rattle.signal_commands.specs.Encoding.Recorder.{IsRecordingOf}
-use Rattle.shared_terms.specs.declared.limits.TheConstants.{FILE_LIMIT}
-use Rattle.command_base.specs.declared.status.Status.{Status}
-use Rattle.command_base.specs.declared.stop.Stop.{Stop}
-use Rattle.command_base.specs.declared.stop.Stop.TheVariants.{Own, Read, Write}
-use Rattle.command_base.specs.Job.{Answers}
-use Rattle.command_base.specs.Status.{IsRefusal}
-use Rattle.command_base.specs.Stops.{end_status}
+use Rattle.signal_commands.proofs.Names.{◌⊎◌, ◌∙◌, inl, inr, ℕ, List, [], ◌++◌, length, ◌≤◌, ◌<◌, Result, Ok, Err, ap, subst, arith}
+use Rattle.signal_commands.proofs.Names.{option_map, IsDone, refusal-own, last-only, done-of, shared-of, done-unless-memory, Answers}
+use Rattle.signal_commands.proofs.Names.{IsRefusal, end_status, Status, Stop, Own, Read, Write, Holds-kept, HoldsFront-all, KeepsName-trans}
+use Rattle.signal_commands.proofs.Names.{FolderState, octets_at, GoesOn, KeepsName, KeepsAll, OnlyOutputs, FILE_LIMIT, WritesAll}
+use Rattle.signal_commands.proofs.Names.{LeavesPart, IsRecordingOf, EncodeNames}
 use Rattle.command_base.specs.Lines.{samples_line}
-use Rattle.outside_calls.specs.Outputs.{KeepsAll, OnlyOutputs}
-use Rattle.outside_calls.proofs.Holding.{Holds-kept, HoldsFront-all, HoldsFront-kept}
-use Rattle.command_base.proofs.Jobs.{IsDone, refusal-own, last-only, done-of, shared-of, done-unless-memory}
-use Rattle.signal_commands.specs.Encoding.Words.{EncodeNames}
-use Rattle.signal_commands.specs.Encoding.Ends.{WritesAll, LeavesPart, Ends, encode_job}
+use Rattle.outside_calls.proofs.Holding.{HoldsFront-kept}
+use Rattle.signal_commands.specs.Encoding.Ends.{Ends, encode_job}
 use Rattle.signal_commands.specs.Encoding.Completes.{Completes}
 use Rattle.signal_commands.specs.Encoding.Headline.{HoldsBeginning, HoldsWhole, Headline}
 use Rattle.signal_commands.proofs.Encoding.Making.{front-part}

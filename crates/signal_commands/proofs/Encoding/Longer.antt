@@ -1,32 +1,19 @@
 -- A recording goes on, whatever is sent next.
-use Rattle.std.proofs.Common.{◌≡◌, ◌∙◌, ℕ, ◌+◌, ◌*◌, ◌/◌, ◌%◌, ◌<◌, ◌≤◌, Bool, List, [], ◌∷◌, ◌++◌, length, map, sum, refl}
-use Rattle.std.proofs.Common.{sym, ap, subst, arith, append-nil, append_assoc, nat_eq}
-use Rattle.std.specs.List.{flat_map}
-use Rattle.std.proofs.lemmas.Grind.{flat_map-append}
-use Rattle.std.proofs.lemmas.List.{map-append}
-use Rattle.std.proofs.lemmas.List.Elements.{All-push}
-use Rattle.shared_terms.specs.Prefix.{IsPrefixOf}
-use Rattle.frame_check.specs.Bits.{low_bits, octet_bits, bits_of, number}
-use Rattle.scramblers.specs.declared.mode.Mode.{Mode}
-use Rattle.scramblers.specs.Mode.{tap_of}
-use Rattle.scramblers.specs.Scrambles.{Scrambles}
-use Rattle.scramblers.proofs.Streams.{Scrambles-more, four-behind}
-use Rattle.trellis_tables.proofs.Turning.Places.{turned-snoc}
-use Rattle.symbol_map.specs.declared.sample.Sample.{Sample}
+use Rattle.signal_commands.proofs.Names.{◌≡◌, ◌∙◌, ℕ, ◌+◌, ◌*◌, ◌/◌, ◌%◌, ◌<◌, ◌≤◌, Bool, List, [], ◌∷◌, ◌++◌, length, map, sum, refl, sym}
+use Rattle.signal_commands.proofs.Names.{ap, subst, arith, append-nil, append_assoc, nat_eq, flat_map-append, map-append, All-push}
+use Rattle.signal_commands.proofs.Names.{flat_map, low_bits, octet_bits, bits_of, number, Modulates, header_at, sample_octets, Rate}
+use Rattle.signal_commands.proofs.Names.{Trellis, Quarters, Scrambles-more, tap_of, Scrambles, Mode, IsPrefixOf, IsRecordingOf, point_of}
+use Rattle.signal_commands.proofs.Names.{Sample, turned-snoc, Leads, next_state}
+use Rattle.scramblers.proofs.Streams.{four-behind}
 use Rattle.symbol_map.specs.Labels.{label_of}
-use Rattle.symbol_map.specs.Points.{point_of}
-use Rattle.trellis_tables.specs.Sequences.{Leads}
-use Rattle.trellis_tables.specs.Table.{next_by_y, next_state}
+use Rattle.trellis_tables.specs.Table.{next_by_y}
 use Rattle.trellis_tables.specs.Quads.{turn_of, uncoded_of}
 use Rattle.trellis_tables.proofs.Tables.{branch_of, next_by_y-lt, y_of-lt}
 use Rattle.trellis_tables.proofs.Codings.{Encodes-more}
-use Rattle.line_coding.specs.Modulates.{Modulates}
 use Rattle.line_coding.proofs.Fours.{fours-more}
 use Rattle.rate_4800.specs.Modulates.{Modulates as QuarterModulates}
-use Rattle.recordings.specs.declared.rate.Rate.{Rate}
-use Rattle.recordings.specs.declared.rate.Rate.TheVariants.{Trellis, Quarters}
-use Rattle.recordings.specs.Recording.{header_at, sample_octets, recording_octets}
-use Rattle.signal_commands.specs.Encoding.Recorder.{ModulatesAt, IsRecordingOf}
+use Rattle.recordings.specs.Recording.{recording_octets}
+use Rattle.signal_commands.specs.Encoding.Recorder.{ModulatesAt}
 use Rattle.signal_commands.proofs.Encoding.Quarters.{sent_for, bit-lt, two-more, twos-behind}
 use Rattle.signal_commands.proofs.Decoding.Joined.{octet-behind as octet-bits-more}
 

@@ -1,32 +1,21 @@
 -- From single steps to how the making of a recording ends.
-use Rattle.std.proofs.Common.{◌≡◌, ◌≢◌, ◌∙◌, inl, inr, ℕ, ◌+◌, ◌*◌, Bool, true, false, IsTrue, List, [], ◌∷◌, ◌++◌, length, refl, sym, ap}
-use Rattle.std.proofs.Common.{subst, arith, rules, append-nil, append_assoc}
-use Rattle.shared_terms.specs.Prefix.{IsPrefixOf}
-use Rattle.outside_calls.specs.Folder.{FolderState, octets_at, OnlyReads, OnlyWrites, Appended, PartlyAppended}
-use Rattle.outside_calls.proofs.Steps.{KeepsName-trans}
-use Rattle.scramblers.specs.declared.mode.Mode.{Mode}
-use Rattle.frame_check.specs.Bits.{bits_of}
+use Rattle.signal_commands.proofs.Names.{◌≡◌, ◌≢◌, ◌∙◌, inl, inr, ℕ, ◌+◌, ◌*◌, Bool, true, IsTrue, List, [], ◌∷◌, ◌++◌, length, refl, sym}
+use Rattle.signal_commands.proofs.Names.{ap, subst, arith, rules, append-nil, append_assoc, none-of-inputs, ReadTo-none, ReadTo-kept}
+use Rattle.signal_commands.proofs.Names.{are_apart, IsWithin, IsNotWithin, ReadTo, StopCounts, Stop, bits_of, Holds-kept, Holds-more}
+use Rattle.signal_commands.proofs.Names.{HoldsFront-all, HoldsFront-more, HoldsFront-longer, OnlyOutput-reads, OnlyOutput-writes}
+use Rattle.signal_commands.proofs.Names.{OnlyOutput-trans, KeepsName-trans, FolderState, octets_at, OnlyReads, OnlyWrites, Appended}
+use Rattle.signal_commands.proofs.Names.{PartlyAppended, Holds, HoldsFront, OnlyOutput, header_at, Rate, Trellis, Quarters, Mode}
+use Rattle.signal_commands.proofs.Names.{IsPrefixOf, FILE_LIMIT, WritesAll, LeavesPart, Begun, RecordedTo, IsRecordingOf, RecorderStands}
+use Rattle.signal_commands.proofs.Names.{EncodeNames, Recorder}
+use Rattle.std.proofs.Common.{false}
 use Rattle.line_coding.proofs.Standing.{modulated}
 use Rattle.rate_4800.proofs.Standing.{modulated as quarters-modulated}
-use Rattle.recordings.specs.declared.rate.Rate.{Rate}
-use Rattle.recordings.specs.declared.rate.Rate.TheVariants.{Trellis, Quarters}
 use Rattle.signal_commands.specs.declared.encode.recorder.Recorder.TheVariants as recorders
-use Rattle.signal_commands.specs.declared.encode.recorder.Recorder.{Recorder}
-use Rattle.recordings.specs.Recording.{header_at, samples_each}
-use Rattle.signal_commands.specs.Encoding.Recorder.{IsRecordingOf, RecorderStands}
-use Rattle.shared_terms.specs.declared.limits.TheConstants.{FILE_LIMIT}
-use Rattle.command_base.specs.declared.stop.Stop.{Stop}
-use Rattle.command_base.specs.Inputs.{IsWithin, IsNotWithin, ReadTo}
-use Rattle.outside_calls.specs.Outputs.{Holds, HoldsFront, KeptOrEmpty, OnlyOutput}
-use Rattle.outside_calls.proofs.Holding.{Holds-kept, Holds-more, HoldsFront-all, HoldsFront-more, HoldsFront-longer}
-use Rattle.outside_calls.proofs.OnlyOutputs.{OnlyOutput-reads, OnlyOutput-writes, OnlyOutput-trans}
-use Rattle.command_base.proofs.Reading.{ReadTo-none, ReadTo-kept, ReadTo-begins}
-use Rattle.command_base.specs.Stops.{StopCounts}
-use Rattle.command_base.specs.Apart.{are_apart}
-use Rattle.command_base.proofs.Differing.{none-of-inputs}
-use Rattle.signal_commands.specs.Encoding.Words.{EncodeNames, inputs_of, outputs_of}
-use Rattle.signal_commands.specs.Encoding.Ends.{WritesAll, WritesPart, WritesFront, LeavesPart, EndsBy}
-use Rattle.signal_commands.specs.Encoding.Recorded.{Begun, RecordedTo}
+use Rattle.recordings.specs.Recording.{samples_each}
+use Rattle.outside_calls.specs.Outputs.{KeptOrEmpty}
+use Rattle.command_base.proofs.Reading.{ReadTo-begins}
+use Rattle.signal_commands.specs.Encoding.Words.{inputs_of, outputs_of}
+use Rattle.signal_commands.specs.Encoding.Ends.{WritesPart, WritesFront, EndsBy}
 use Rattle.signal_commands.proofs.Encoding.Longer.{goes_on}
 
 file-apart : (n : EncodeNames) → are_apart (inputs_of n) (outputs_of n) ≡ true → n.file ≢ n.rec

@@ -1,16 +1,10 @@
 -- What is sent at the second rate goes on by two bits.
-use Rattle.std.proofs.Common.{◌≡◌, ◌∙◌, ℕ, ◌+◌, ◌*◌, ◌%◌, ◌<◌, ◌≤◌, Bool, List, [], ◌∷◌, ◌++◌, length, map, sum, refl, sym, ap}
-use Rattle.std.proofs.Common.{subst, arith, append_assoc}
-use Rattle.std.proofs.lemmas.List.{map-append}
-use Rattle.std.proofs.lemmas.List.Elements.{All-push}
-use Rattle.frame_check.specs.Bits.{low_bits, number}
+use Rattle.signal_commands.proofs.Names.{◌≡◌, ◌∙◌, ℕ, ◌+◌, ◌*◌, ◌%◌, ◌<◌, ◌≤◌, Bool, List, [], ◌∷◌, ◌++◌, length, map, sum, refl, sym, ap}
+use Rattle.signal_commands.proofs.Names.{subst, arith, append_assoc, map-append, All-push, low_bits, number, Scrambles-more, Scrambles}
+use Rattle.signal_commands.proofs.Names.{Sample, turned-snoc}
 use Rattle.frame_check.specs.Xor.{xor}
 use Rattle.scramblers.specs.Stream.{earlier}
-use Rattle.scramblers.specs.Scrambles.{Scrambles}
-use Rattle.scramblers.proofs.Streams.{Scrambles-more}
 use Rattle.trellis_tables.specs.Differential.Turned.{turned}
-use Rattle.trellis_tables.proofs.Turning.Places.{turned-snoc}
-use Rattle.symbol_map.specs.declared.sample.Sample.{Sample}
 use Rattle.rate_4800.specs.Code.{point_of}
 use Rattle.rate_4800.specs.Modulates.{Modulates}
 use Rattle.rate_4800.proofs.Twos.{twos-more}

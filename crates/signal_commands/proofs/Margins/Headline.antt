@@ -1,28 +1,14 @@
 -- From every answer to what the command promises.
-use Rattle.std.proofs.Common.{◌≡◌, ◌∙◌, ℕ, ◌+◌, ◌*◌, ◌≤◌, ◌<◌, nat_lt, IsTrue, List, [], ◌++◌, length, take, Result, ap}
-use Rattle.std.proofs.Common.{subst, arith}
-use Rattle.std.specs.Option.{option_map}
-use Rattle.outside_calls.specs.Folder.{FolderState, octets_at}
-use Rattle.scramblers.specs.declared.mode.Mode.{Mode}
-use Rattle.noise_bound.specs.Margins.{Measured}
+use Rattle.signal_commands.proofs.Names.{◌≡◌, ◌∙◌, ℕ, ◌+◌, ◌*◌, ◌≤◌, ◌<◌, IsTrue, List, [], ◌++◌, length, take, Result, ap, subst, arith}
+use Rattle.signal_commands.proofs.Names.{option_map, never-longer, never-bad, IsDone, done-of, shared-of, done-unless-memory, Answers}
+use Rattle.signal_commands.proofs.Names.{margin_line, IsRefusal, end_status, Status, Stop, Measured, FolderState, octets_at, KeepsAll}
+use Rattle.signal_commands.proofs.Names.{OnlyOutputs, IsBadHeader, header_of, samples_in, Mode, FILE_LIMIT, Measures, file_is_long}
+use Rattle.signal_commands.proofs.Names.{is_misfit, MarginNames}
+use Rattle.std.proofs.Common.{nat_lt}
 use Rattle.noise_bound.proofs.Margins.{sure-is-decoded}
-use Rattle.shared_terms.specs.declared.limits.TheConstants.{FILE_LIMIT}
-use Rattle.command_base.specs.declared.status.Status.{Status}
-use Rattle.command_base.specs.declared.stop.Stop.{Stop}
-use Rattle.command_base.specs.Job.{Answers}
-use Rattle.command_base.specs.Lines.{margin_line}
-use Rattle.outside_calls.specs.Outputs.{KeepsAll, OnlyOutputs}
-use Rattle.command_base.specs.Status.{IsRefusal}
-use Rattle.command_base.specs.Stops.{end_status}
-use Rattle.command_base.proofs.Jobs.{IsDone, done-of, shared-of, done-unless-memory}
 use Rattle.recordings.specs.declared.rate.Rate.TheVariants as rates
-use Rattle.recordings.specs.Headers.{IsBadHeader}
-use Rattle.recordings.specs.Recording.{header_of}
-use Rattle.recordings.specs.Samples.{samples_in}
-use Rattle.command_base.proofs.Headers.{never-longer, never-bad}
-use Rattle.signal_commands.specs.Margins.Words.{MarginNames}
-use Rattle.signal_commands.specs.Margins.Ends.{Measures, EndsOwn, margin_job}
-use Rattle.signal_commands.specs.Margins.Ends.EndsOwn.{rec_is_long, file_is_long, is_other, is_misfit}
+use Rattle.signal_commands.specs.Margins.Ends.{EndsOwn, margin_job}
+use Rattle.signal_commands.specs.Margins.Ends.EndsOwn.{rec_is_long, is_other}
 use Rattle.signal_commands.specs.Margins.Completes.{AreMeasurable, Completes}
 use Rattle.signal_commands.specs.Margins.Headline.{MeasuresAll, Headline}
 

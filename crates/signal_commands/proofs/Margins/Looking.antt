@@ -1,19 +1,12 @@
 -- Why an input is not taken for its length.
-use Rattle.std.proofs.Common.{arith, inl, inr, ℕ, List, [], ◌∷◌}
-use Rattle.outside_calls.specs.Folder.{FolderState, OnlyReads, CountsStand}
+use Rattle.signal_commands.proofs.Names.{arith, inl, inr, ℕ, List, [], ◌∷◌, stop-earlier, IsWithin, IsNotWithin, StopCounts}
+use Rattle.signal_commands.proofs.Names.{RECORDING_LIMIT, Stop, Own, Read, FolderState, OnlyReads, CountsStand, FILE_LIMIT, file_is_long}
+use Rattle.signal_commands.proofs.Names.{MarginNames, inputs_of}
 use Rattle.outside_calls.specs.declared.folder.FolderFault.{FolderFault}
 use Rattle.outside_calls.specs.declared.folder.FolderFault.TheVariants as folder
-use Rattle.command_base.specs.declared.limits.TheConstants.{RECORDING_LIMIT}
-use Rattle.shared_terms.specs.declared.limits.TheConstants.{FILE_LIMIT}
-use Rattle.command_base.specs.declared.stop.Stop.{Stop}
-use Rattle.command_base.specs.declared.stop.Stop.TheVariants.{Own, Read}
-use Rattle.command_base.specs.Inputs.{IsWithin, IsNotWithin}
-use Rattle.command_base.specs.Stops.{ReadFails, StopCounts}
-use Rattle.command_base.proofs.Jobs.{stop-earlier}
+use Rattle.command_base.specs.Stops.{ReadFails}
 use Rattle.command_base.proofs.Reading.{longer-earlier}
-use Rattle.signal_commands.specs.Margins.Words.{MarginNames, inputs_of}
 use Rattle.signal_commands.specs.Margins.Ends.{EndsBy}
-use Rattle.signal_commands.specs.Margins.Ends.EndsOwn.{file_is_long}
 use Rattle.signal_commands.specs.Margins.Ends.FailsToRead.{file_unread}
 
 pub rec-refused : (old new : FolderState) (n : MarginNames) (stop : Stop) → IsNotWithin old new n.rec RECORDING_LIMIT 1 stop

@@ -1,28 +1,15 @@
 -- From single steps to how the measuring of a recording ends.
-use Rattle.std.proofs.Common.{◌≡◌, ◌≢◌, ◌∙◌, inl, inr, ℕ, ◌+◌, ◌*◌, ◌≤◌, ◌<◌, min, IsTrue, List, [], ◌∷◌, ◌++◌, length, take, refl, sym, ap}
-use Rattle.std.proofs.Common.{subst, arith, append-nil, append_assoc}
+use Rattle.signal_commands.proofs.Names.{◌≡◌, ◌≢◌, ◌∙◌, inl, inr, ℕ, ◌+◌, ◌*◌, ◌≤◌, ◌<◌, min, IsTrue, List, [], ◌∷◌, ◌++◌, length, take}
+use Rattle.signal_commands.proofs.Names.{refl, sym, ap, subst, arith, append-nil, append_assoc, length-take, take_all, reads-all}
+use Rattle.signal_commands.proofs.Names.{ReadTo-none, ReadTo-kept, ReadTo, ReadBehind, RECORDING_LIMIT, Measured, MarginStands}
+use Rattle.signal_commands.proofs.Names.{OnlyReads-trans, FolderState, octets_at, OnlyReads, samples_in-more, samples_in-append, header_of}
+use Rattle.signal_commands.proofs.Names.{sample_at, samples_in, HEADER, Mode, FILE_LIMIT, Measures, Opened, MeasuredTo, MarginNames, Sample}
 use Rattle.std.proofs.lemmas.Bool.{cases_lt}
-use Rattle.std.proofs.lemmas.List.{length-take, take_all}
-use Rattle.outside_calls.specs.Folder.{FolderState, octets_at, OnlyReads}
-use Rattle.outside_calls.proofs.Steps.{OnlyReads-trans}
-use Rattle.scramblers.specs.declared.mode.Mode.{Mode}
-use Rattle.symbol_map.specs.declared.sample.Sample.{Sample}
-use Rattle.noise_bound.specs.Margins.{Measured, MarginStands}
 use Rattle.noise_bound.proofs.Margins.{measured}
 use Rattle.recordings.specs.declared.rate.Rate.TheVariants as rates
-use Rattle.recordings.specs.declared.header.TheConstants.{HEADER}
-use Rattle.recordings.specs.Recording.{header_of}
-use Rattle.recordings.specs.Samples.{sample_at, samples_in}
-use Rattle.recordings.proofs.Samples.{samples_in-more, samples_in-append}
-use Rattle.command_base.specs.Recordings.{ReadBehind, IsAtEnd}
-use Rattle.command_base.proofs.Behind.{behind-more, reads-all}
-use Rattle.command_base.specs.declared.limits.TheConstants.{RECORDING_LIMIT}
-use Rattle.shared_terms.specs.declared.limits.TheConstants.{FILE_LIMIT}
-use Rattle.command_base.specs.Inputs.{ReadTo}
-use Rattle.command_base.proofs.Reading.{ReadTo-none, ReadTo-kept}
-use Rattle.signal_commands.specs.Margins.Words.{MarginNames}
-use Rattle.signal_commands.specs.Margins.Ends.{Measures, AreOpen, HasOtherLength}
-use Rattle.signal_commands.specs.Margins.Measuring.{Opened, MeasuredTo}
+use Rattle.command_base.specs.Recordings.{IsAtEnd}
+use Rattle.command_base.proofs.Behind.{behind-more}
+use Rattle.signal_commands.specs.Margins.Ends.{AreOpen, HasOtherLength}
 
 -- ---- samples
 

@@ -1,14 +1,7 @@
 -- Samples give one list of pieces.
-use Rattle.std.proofs.Common.{◌≡◌, ◌∙◌, ℕ, Bool, List, drop, refl, sym, ap, subst}
-use Rattle.scramblers.specs.Mode.{tap_of}
-use Rattle.bit_stuffing.specs.Found.{pieces_of}
-use Rattle.exact_decoder.specs.Surviving.V32.{any_trellis}
+use Rattle.signal_commands.proofs.Names.{◌≡◌, ◌∙◌, ℕ, Bool, List, drop, refl, sym, ap, subst, pieces_of, some-released, any-has-laws}
+use Rattle.signal_commands.proofs.Names.{any_trellis, picked_up_once, descrambled, descrambles, IsPickedUp, line_behind, tap_of}
 use Rattle.exact_decoder.proofs.Surviving.Fronts.{released-once}
-use Rattle.exact_decoder.proofs.Surviving.Least.{some-released}
-use Rattle.exact_decoder.proofs.Surviving.V32.{any-has-laws}
-use Rattle.line_coding.specs.PickedUp.{IsPickedUp, line_behind}
-use Rattle.line_coding.proofs.Middle.{picked_up_once}
-use Rattle.line_coding.proofs.Readers.{descrambled, descrambles}
 use Rattle.signal_commands.specs.PickingUp.Laws.{SomePiecesAreGiven, PiecesAreGivenOnce}
 
 pub some-pieces-are-given : SomePiecesAreGiven

@@ -1,25 +1,14 @@
 -- From every answer to what the command promises.
-use Rattle.std.proofs.Common.{◌≡◌, ◌∙◌, ℕ, ◌+◌, ◌%◌, IsTrue, List, [], ◌++◌, length, take, Some, Result, sym, subst, arith}
-use Rattle.outside_calls.specs.Folder.{FolderState, octets_at, Said}
-use Rattle.exact_decoder.specs.Surviving.Survivors.{LostIs}
-use Rattle.exact_decoder.proofs.Surviving.Least.{released-is_least}
-use Rattle.exact_decoder.proofs.Surviving.V32.{any-has-laws}
-use Rattle.exact_decoder.specs.Surviving.V32.{any_trellis, line_depth}
-use Rattle.command_base.specs.declared.status.Status.{Status}
-use Rattle.command_base.specs.declared.stop.Stop.{Stop}
-use Rattle.command_base.specs.Job.{Answers}
+use Rattle.signal_commands.proofs.Names.{◌≡◌, ◌∙◌, ℕ, ◌+◌, ◌%◌, IsTrue, List, [], ◌++◌, length, take, Some, Result, sym, subst, arith}
+use Rattle.signal_commands.proofs.Names.{never-longer, never-bad, content-same, IsDone, done-of, shared-of, done-unless-memory, Answers}
+use Rattle.signal_commands.proofs.Names.{IsRefusal, end_status, Status, Stop, released-is_least, any-has-laws, LostIs, any_trellis}
+use Rattle.signal_commands.proofs.Names.{line_depth, FolderState, octets_at, KeepsAll, OnlyOutputs, IsBadHeader, samples_in, is_long}
+use Rattle.signal_commands.proofs.Names.{is_other, is_cut, is_lost}
+use Rattle.outside_calls.specs.Folder.{Said}
 use Rattle.command_base.specs.Lines.{pieces_line}
-use Rattle.outside_calls.specs.Outputs.{KeepsAll, OnlyOutputs}
-use Rattle.command_base.specs.Status.{IsRefusal}
-use Rattle.command_base.specs.Stops.{end_status}
-use Rattle.command_base.proofs.Jobs.{IsDone, done-of, shared-of, done-unless-memory}
 use Rattle.command_base.proofs.Saying.{Said-Said}
 use Rattle.recordings.specs.declared.rate.Rate.TheVariants as rates
-use Rattle.recordings.specs.Headers.{IsBadHeader}
-use Rattle.recordings.specs.Samples.{samples_in}
-use Rattle.command_base.proofs.Headers.{never-longer, never-bad, content-same}
 use Rattle.signal_commands.specs.PickingUp.Ends.{IsFollowed, EndsOwn, pickup_job}
-use Rattle.signal_commands.specs.PickingUp.Ends.EndsOwn.{is_long, is_other, is_cut, is_lost}
 use Rattle.signal_commands.specs.PickingUp.Completes.{IsRecording, Completes}
 use Rattle.signal_commands.specs.PickingUp.Headline.{ListsAll, Headline}
 

@@ -1,21 +1,8 @@
 -- Whatever samples follow, the pieces that the first ones give begin those that all give.
-use Rattle.std.proofs.Common.{◌≡◌, ◌∙◌, ℕ, zero, suc, ◌≤◌, Bool, List, [], ◌∷◌, ◌++◌, length, take, drop, refl, sym, ap, subst, arith}
-use Rattle.std.specs.List.{flat_map}
-use Rattle.std.proofs.Math.Seq.{take-append_seam}
-use Rattle.std.proofs.lemmas.Grind.{flat_map-append}
-use Rattle.std.proofs.lemmas.List.{take-append-drop}
-use Rattle.frame_check.specs.Bits.{low_bits}
-use Rattle.scramblers.specs.declared.mode.Mode.{Mode}
-use Rattle.scramblers.specs.Mode.{tap_of}
-use Rattle.scramblers.specs.Scrambles.{Descrambles}
-use Rattle.trellis_tables.specs.LabelReader.{quads_of}
-use Rattle.trellis_tables.proofs.Readings.{quads_of-take}
-use Rattle.exact_decoder.proofs.Surviving.Fronts.{stays-prefix}
-use Rattle.exact_decoder.specs.Surviving.V32.{any_trellis}
-use Rattle.bit_stuffing.specs.Found.{Found, pieces_of}
-use Rattle.bit_stuffing.proofs.Sent.{pieces-stay}
-use Rattle.line_coding.specs.PickedUp.{line_behind, IsPickedUp}
-use Rattle.line_coding.proofs.Middle.{picked_up_once}
+use Rattle.signal_commands.proofs.Names.{◌≡◌, ◌∙◌, ℕ, zero, suc, ◌≤◌, Bool, List, [], ◌∷◌, ◌++◌, length, take, drop, refl, sym, ap, subst}
+use Rattle.signal_commands.proofs.Names.{arith, take-append_seam, flat_map-append, take-append-drop, flat_map, pieces-stay, Found}
+use Rattle.signal_commands.proofs.Names.{pieces_of, stays-prefix, any_trellis, low_bits, picked_up_once, line_behind, IsPickedUp, tap_of}
+use Rattle.signal_commands.proofs.Names.{Descrambles, Mode, quads_of-take, quads_of}
 use Rattle.signal_commands.specs.PickingUp.Laws.{LaterPiecesStandBehind}
 use Rattle.signal_commands.proofs.Decoding.Longer.{reads-on}
 

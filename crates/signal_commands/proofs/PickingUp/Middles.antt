@@ -1,29 +1,19 @@
 -- What a recording gives that begins in the middle of what was sent.
-use Rattle.std.proofs.Common.{◌≡◌, ◌∙◌, ℕ, zero, suc, ◌+◌, ◌*◌, ◌<◌, ◌≤◌, Bool, List, length, map, take, drop, refl, sym, ap}
-use Rattle.std.proofs.Common.{None, ◌-◌, [], ◌∷◌, subst, arith, length-drop, lt-ltb}
+use Rattle.signal_commands.proofs.Names.{◌≡◌, ◌∙◌, ℕ, zero, suc, ◌+◌, ◌*◌, ◌<◌, ◌≤◌, Bool, List, length, map, take, drop, refl, sym, ap}
+use Rattle.signal_commands.proofs.Names.{None, ◌-◌, [], ◌∷◌, subst, arith, take-append-drop, take_all, length-take, flat_map, Found}
+use Rattle.signal_commands.proofs.Names.{IsReleased, LostIs, any_trellis, line_depth, low_bits, Modulates, IsPickedUp, tap_of, Descrambles}
+use Rattle.signal_commands.proofs.Names.{Mode, IsPrefixOf, point_of, Sample, Leads, next_state}
+use Rattle.std.proofs.Common.{length-drop, lt-ltb}
 use Rattle.std.proofs.Math.Seq.{take-nil}
-use Rattle.std.specs.List.{flat_map}
-use Rattle.std.proofs.lemmas.List.{take-append-drop, take_all, take_at, drop-take, drop-map, take-map, length-map, length-take}
-use Rattle.frame_check.specs.Bits.{low_bits}
-use Rattle.shared_terms.specs.Prefix.{IsPrefixOf}
-use Rattle.scramblers.specs.declared.mode.Mode.{Mode}
-use Rattle.scramblers.specs.Mode.{tap_of}
-use Rattle.scramblers.specs.Scrambles.{Descrambles}
-use Rattle.symbol_map.specs.declared.sample.Sample.{Sample}
-use Rattle.symbol_map.specs.Points.{point_of}
+use Rattle.std.proofs.lemmas.List.{take_at, drop-take, drop-map, take-map, length-map}
 use Rattle.symbol_map.specs.Distance.{distance_of}
 use Rattle.symbol_map.proofs.Distances.{no_distance_from_equal}
 use Rattle.symbol_map.specs.Laws.{turned_label}
-use Rattle.trellis_tables.specs.Table.{next_state}
 use Rattle.trellis_tables.specs.Laws.{far_from}
-use Rattle.trellis_tables.specs.Sequences.{Leads, cost}
+use Rattle.trellis_tables.specs.Sequences.{cost}
 use Rattle.trellis_tables.proofs.Sequences.{Leads-split}
-use Rattle.exact_decoder.specs.Surviving.Survivors.{IsReleased, LostIs}
-use Rattle.exact_decoder.specs.Surviving.V32.{any_trellis, at_any, line_depth}
-use Rattle.bit_stuffing.specs.Found.{Found}
-use Rattle.line_coding.specs.Modulates.{Modulates}
+use Rattle.exact_decoder.specs.Surviving.V32.{at_any}
 use Rattle.line_coding.specs.Demodulates.{Demodulates}
-use Rattle.line_coding.specs.PickedUp.{IsPickedUp}
 use Rattle.line_coding.proofs.Readings.{comes-back, four-each, first-stay}
 use Rattle.line_coding.proofs.Quads.{quads-turned}
 use Rattle.line_coding.proofs.Middle.{middle_is_sent}

@@ -1,24 +1,11 @@
 -- From what was played to how the picking up of a recording ends.
-use Rattle.std.proofs.Common.{◌≡◌, ◌≢◌, inl, inr, ℕ, ◌+◌, ◌%◌, List, [], ◌++◌, length, sym, subst, Option, None}
-use Rattle.scramblers.specs.declared.mode.Mode.{Mode}
-use Rattle.symbol_map.specs.declared.sample.Sample.{Sample}
-use Rattle.outside_calls.specs.Folder.{FolderState, OnlyReads}
-use Rattle.exact_decoder.specs.Surviving.Survivors.{LostIs}
-use Rattle.exact_decoder.specs.Surviving.V32.{any_trellis, line_depth}
-use Rattle.exact_decoder.specs.Decoder.{heard}
-use Rattle.command_base.specs.declared.stop.Stop.{Stop}
-use Rattle.command_base.specs.declared.stop.Stop.TheVariants.{Own, Read, Write, Say}
+use Rattle.signal_commands.proofs.Names.{◌≡◌, ◌≢◌, inl, inr, ℕ, ◌+◌, ◌%◌, List, [], ◌++◌, length, sym, subst, Option, None, GoesOnBy}
+use Rattle.signal_commands.proofs.Names.{ReadsRecording, IsNotOpened, Stop, Own, Read, Write, Say, heard, LostIs, any_trellis, line_depth}
+use Rattle.signal_commands.proofs.Names.{FolderState, OnlyReads, samples_in-front, samples_in, HEADER, Mode, PicksUpAll, is_long, is_other}
+use Rattle.signal_commands.proofs.Names.{is_lost, AreFollowed, SaysPieces, Playing, Plays, StopsPlay, Sample}
 use Rattle.recordings.specs.declared.rate.Rate.TheVariants as rates
-use Rattle.recordings.specs.declared.header.TheConstants.{HEADER}
-use Rattle.recordings.specs.Samples.{samples_in}
-use Rattle.recordings.proofs.Samples.{samples_in-front}
 use Rattle.command_base.proofs.Hearing.{said-nothing, said-after}
-use Rattle.command_base.specs.Recordings.{ReadsRecording, IsNotOpened}
-use Rattle.command_base.proofs.Behind.{GoesOnBy}
-use Rattle.signal_commands.specs.PickingUp.Gives.{AreFollowed, SaysPieces}
-use Rattle.signal_commands.specs.PickingUp.Playing.{Playing, Plays, StopsPlay}
-use Rattle.signal_commands.specs.PickingUp.Ends.{PicksUpAll, SampleCut, PicksUpFront, EndsBy}
-use Rattle.signal_commands.specs.PickingUp.Ends.EndsOwn.{is_long, is_other, is_lost}
+use Rattle.signal_commands.specs.PickingUp.Ends.{SampleCut, PicksUpFront, EndsBy}
 use Rattle.signal_commands.proofs.PickingUp.Playings.{followed-by, followed-longer, plays-lost, says-pieces, SaysCounted, says-counted}
 use Rattle.signal_commands.proofs.PickingUp.Playings.{stops-longer}
 

@@ -1,29 +1,17 @@
 -- A player goes on, and what was said of what it played.
-use Rattle.std.proofs.Common.{◌≡◌, ◌∙◌, ℕ, ◌+◌, ◌≤◌, Bool, List, [], ◌++◌, length, length-append, take, drop, Result, Ok, Err, refl, sym}
-use Rattle.std.proofs.Common.{ap, subst, arith, append-nil, append_assoc, Option, Some, None}
-use Rattle.std.proofs.lemmas.List.{take-append-drop, take-append-le, length-take}
-use Rattle.scramblers.specs.declared.mode.Mode.{Mode}
-use Rattle.scramblers.specs.Mode.{tap_of}
-use Rattle.symbol_map.specs.declared.sample.Sample.{Sample}
-use Rattle.shared_terms.specs.declared.role.Role.{Role}
-use Rattle.outside_calls.specs.Folder.{FolderState, OnlyReads}
-use Rattle.exact_decoder.specs.Surviving.Survivors.{IsReleased, LostIs}
-use Rattle.exact_decoder.proofs.Surviving.Fronts.{lost-stays, over-before}
-use Rattle.exact_decoder.specs.Surviving.V32.{any_trellis, line_depth}
-use Rattle.exact_decoder.specs.Decoder.{heard}
-use Rattle.exact_decoder.specs.Batches.{heard_of}
-use Rattle.bit_stuffing.specs.Found.{pieces_of}
-use Rattle.bit_stuffing.proofs.Sent.{pieces-stay}
-use Rattle.command_base.specs.declared.stop.Stop.{Stop}
-use Rattle.command_base.specs.declared.stop.Stop.TheVariants.{Own, Say}
-use Rattle.line_coding.specs.MiddleReading.{Middle, MiddleRead}
+use Rattle.signal_commands.proofs.Names.{◌≡◌, ◌∙◌, ℕ, ◌+◌, ◌≤◌, Bool, List, [], ◌++◌, length, length-append, take, drop, Result, Ok, Err}
+use Rattle.signal_commands.proofs.Names.{refl, sym, ap, subst, arith, append-nil, append_assoc, Option, Some, None, take-append-drop}
+use Rattle.signal_commands.proofs.Names.{take-append-le, length-take, pieces-stay, pieces_of, Heard, PartlyHeard, hearer_of, Stop, Own, Say}
+use Rattle.signal_commands.proofs.Names.{lost-stays, heard_of, heard, IsReleased, LostIs, any_trellis, line_depth, Middle, MiddleRead}
+use Rattle.signal_commands.proofs.Names.{FolderState, OnlyReads, tap_of, Mode, Role, AreFollowed, SaysPieces, Playing, playing_of, Plays}
+use Rattle.signal_commands.proofs.Names.{IsReady, StopsPlay, Sample}
+use Rattle.exact_decoder.proofs.Surviving.Fronts.{over-before}
 use Rattle.line_coding.proofs.Readers.{readers_pick_up}
 use Rattle.command_base.specs.Readings.{AreLines}
-use Rattle.command_base.specs.Heard.{Listening, Heard, PartlyHeard}
+use Rattle.command_base.specs.Heard.{Listening}
 use Rattle.command_base.proofs.Hearing.{heard-after}
-use Rattle.command_base.specs.Recordings.{sender_of, hearer_of}
-use Rattle.signal_commands.specs.PickingUp.Gives.{AreFollowed, SaysPieces}
-use Rattle.signal_commands.specs.PickingUp.Playing.{Playing, playing_of, Plays, IsReady, SaysSome, LosesLine, StopsPlay}
+use Rattle.command_base.specs.Recordings.{sender_of}
+use Rattle.signal_commands.specs.PickingUp.Playing.{SaysSome, LosesLine}
 use Rattle.signal_commands.proofs.PickingUp.Longer.{bits-longer, tap-low}
 
 -- bits more are taken and heard

@@ -1,11 +1,9 @@
 -- Turning and unturning undo each other.
-use Rattle.std.proofs.Common.{◌≡◌, ℕ, zero, suc, ◌+◌, ◌-◌, ◌%◌, ◌<◌, ◌≤◌, List, length, get_or, map, take, sum, arith, refl, sym, ◌∙◌, ap}
-use Rattle.std.proofs.Common.{length-take, add-one}
-use Rattle.std.proofs.lemmas.Grind.{common_steps}
-use Rattle.std.proofs.lemmas.Bool.Decides.{nat_tests}
-use Rattle.std.proofs.lemmas.List.{ext_get_or, take-take, get_or-take, length-map}
-use Rattle.trellis_tables.specs.Differential.Turned.{turned, before, unturned}
-use Rattle.trellis_tables.specs.Differential.Laws.{AreTurns}
+use Rattle.trellis_tables.proofs.Names.{◌≡◌, ℕ, zero, suc, ◌+◌, ◌-◌, ◌%◌, ◌<◌, ◌≤◌, List, length, get_or, map, take, sum, arith, refl, sym}
+use Rattle.trellis_tables.proofs.Names.{◌∙◌, ap, length-take, nat_tests, common_steps, ext_get_or, get_or-take, length-map, AreTurns}
+use Rattle.trellis_tables.proofs.Names.{turned, before, unturned}
+use Rattle.std.proofs.Common.{add-one}
+use Rattle.std.proofs.lemmas.List.{take-take}
 use Rattle.trellis_tables.proofs.Turning.Places.{length-turned, length-unturned, get_or-turned, get_or-unturned, sum-take_more}
 
 before-suc : (y : List ℕ) (n : ℕ) → before y (n + 1) ≡ get_or y n 0

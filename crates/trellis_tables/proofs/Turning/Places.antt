@@ -1,13 +1,10 @@
 -- What stands at each place of what was turned, and what one more number changes.
-use Rattle.std.proofs.Common.{◌≡◌, ℕ, ◌+◌, ◌-◌, ◌%◌, ◌<◌, ◌≤◌, ◌⊎◌, inl, inr, List, [], ◌∷◌, ◌++◌, length, get_or, take, sum, arith, refl}
-use Rattle.std.proofs.Common.{sym, ◌∙◌, ap}
-use Rattle.std.proofs.lemmas.Grind.{common_steps}
-use Rattle.std.proofs.lemmas.Bool.{cases_lt}
-use Rattle.std.proofs.lemmas.Bool.Decides.{nat_tests}
-use Rattle.std.proofs.lemmas.List.{ext_get_or, take-append-le, take_all, length_push}
+use Rattle.trellis_tables.proofs.Names.{◌≡◌, ℕ, ◌+◌, ◌-◌, ◌%◌, ◌<◌, ◌≤◌, ◌⊎◌, inl, inr, List, [], ◌∷◌, ◌++◌, length, get_or, take, sum}
+use Rattle.trellis_tables.proofs.Names.{arith, refl, sym, ◌∙◌, ap, cases_lt, nat_tests, common_steps, ext_get_or, length_push}
+use Rattle.trellis_tables.proofs.Names.{length-map-range_with_len, get_or-map-range_with_len, turned, before, unturned_at, unturned}
+use Rattle.std.proofs.lemmas.List.{take-append-le, take_all}
 use Rattle.std.proofs.lemmas.List.Sums.{sum_by_more, sum_by-append}
-use Rattle.std.proofs.lemmas.List.FromFn.{length-map-range_with_len, get_or-map-range_with_len}
-use Rattle.trellis_tables.specs.Differential.Turned.{turned_at, turned, before, unturned_at, unturned}
+use Rattle.trellis_tables.specs.Differential.Turned.{turned_at}
 
 pub length-turned : (q : List ℕ) → length (turned q) ≡ length q
 length-turned q = length-map-range_with_len (turned_at q) 0 (length q)

@@ -1,5 +1,4 @@
-use Rattle.std.proofs.Common.{◌≡◌, ◌∙◌, ◌&&◌, Bool, true, false, map, sym, ap}
-use Rattle.command_base.specs.Apart.{are_apart}
+use Rattle.command_base.proofs.Names.{◌≡◌, ◌∙◌, ◌&&◌, Bool, true, false, map, sym, ap, are_apart}
 use Rattle.command_base.proofs.apart.+are_apart.Goals as goal
 use Rattle.command_base.proofs.apart.+are_apart.Goals.{then-is_none_of, else-is_none_of}
 

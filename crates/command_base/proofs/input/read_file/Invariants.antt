@@ -1,6 +1,4 @@
-use Rattle.std.proofs.Common.{◌≡◌, ◌≤◌, ◌-◌, vec_len, take, IsTrue}
-use Rattle.outside_calls.specs.Folder.{octets_at}
-use Rattle.outside_calls.specs.Folder.{OnlyReads, CountsStand}
+use Rattle.command_base.proofs.Names.{◌≡◌, ◌≤◌, ◌-◌, vec_len, take, IsTrue, octets_at, OnlyReads, CountsStand}
 use Rattle.command_base.proofs.input.read_file.Given as goal
 
 abbrev pub invariant-loop-folder : goal.invariant-loop-folder

@@ -1,6 +1,4 @@
-use Rattle.std.proofs.Common.{◌≡◌, ◌∙◌, ◌≤◌, ◌+◌, ◌++◌, [], sym, ap, subst, take, drop, vec_len, arith}
-use Rattle.std.proofs.lemmas.List.{length-take-le}
-use Rattle.outside_calls.specs.Folder.{octets_at}
+use Rattle.command_base.proofs.Names.{◌≡◌, ◌∙◌, ◌≤◌, ◌+◌, ◌++◌, [], sym, ap, subst, take, drop, vec_len, arith, length-take-le, octets_at}
 use Rattle.command_base.specs.declared.input.TheConstants.{READ}
 use Rattle.command_base.proofs.Reading.{none-left}
 use Rattle.command_base.proofs.input.read_more.Goals as goal

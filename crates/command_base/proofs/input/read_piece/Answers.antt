@@ -1,6 +1,4 @@
-use Rattle.std.proofs.Common.{◌≡◌, ◌≤◌, length, take, sym, subst}
-use Rattle.outside_calls.specs.Folder.{FolderState}
-use Rattle.std.proofs.lemmas.List.{length-take-le}
+use Rattle.command_base.proofs.Names.{◌≡◌, ◌≤◌, length, take, sym, subst, length-take-le, FolderState}
 use Rattle.command_base.proofs.Reading.{ReadTo-more, ReadTo-end}
 use Rattle.command_base.proofs.input.read_piece.Goals as goal
 

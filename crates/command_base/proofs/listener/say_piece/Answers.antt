@@ -1,7 +1,5 @@
-use Rattle.std.proofs.Common.{List, ℕ, sym, subst}
-use Rattle.outside_calls.specs.Folder.{FolderState, Said, PartlySaid}
+use Rattle.command_base.proofs.Names.{List, ℕ, sym, subst, IsLine, FolderState, Said, PartlySaid}
 use Rattle.command_base.proofs.Saying.{on-err-map, on-ok-map}
-use Rattle.command_base.specs.Readings.{IsLine}
 use Rattle.command_base.proofs.listener.say_piece.Goals as goal
 
 pub returns-clause-ok : goal.returns-clause-ok

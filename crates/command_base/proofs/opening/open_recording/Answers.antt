@@ -1,10 +1,7 @@
-use Rattle.std.proofs.Common.{inr, ℕ, List, [], ◌∷◌, ◌∙◌, refl, sym, take, subst}
-use Rattle.outside_calls.specs.Folder.{FolderState}
-use Rattle.outside_calls.proofs.Steps.{OnlyReads-trans, CountsStand-trans}
+use Rattle.command_base.proofs.Names.{inr, ℕ, List, [], ◌∷◌, ◌∙◌, refl, sym, take, subst, ReadTo, OnlyReads-trans, CountsStand-trans}
+use Rattle.command_base.proofs.Names.{FolderState, IsBadHeader}
 use Rattle.command_base.specs.declared.limits.TheConstants.{RECORDING_LIMIT}
-use Rattle.command_base.specs.Inputs.{ReadTo}
 use Rattle.command_base.proofs.Reading.{ReadTo-none}
-use Rattle.recordings.specs.Headers.{IsBadHeader}
 use Rattle.command_base.proofs.HeaderRead.{header-octets, not-within, within-counts}
 use Rattle.command_base.proofs.Jobs.{read-earlier}
 use Rattle.command_base.proofs.opening.open_recording.Goals as goal

@@ -1,12 +1,9 @@
-use Rattle.std.proofs.Common.{◌≡◌, ◌∙◌, [], ◌∷◌, map, ℕ, List, Bor, refl, ap, subst, sym}
+use Rattle.command_base.proofs.Names.{◌≡◌, ◌∙◌, [], ◌∷◌, map, ℕ, List, refl, ap, subst, sym, WriteFails, Holds-kept, OnlyOutputs-refl}
+use Rattle.command_base.proofs.Names.{CountsStand-refl, CountsStand-trans, FolderState, CountsStand, AreApart, CreatesPart, OnlyOutputs}
+use Rattle.command_base.proofs.Names.{FolderFault}
+use Rattle.std.proofs.Common.{Bor}
 use Rattle.std.proofs.lemmas.List.{nil_from_length}
-use Rattle.outside_calls.specs.Folder.{FolderState, CountsStand}
-use Rattle.outside_calls.proofs.Steps.{CountsStand-refl, CountsStand-trans}
-use Rattle.outside_calls.proofs.Holding.{Holds-kept}
-use Rattle.outside_calls.proofs.OnlyOutputs.{OnlyOutputs-refl}
-use Rattle.outside_calls.specs.declared.folder.FolderFault.{FolderFault}
-use Rattle.outside_calls.specs.Outputs.{AreApart, Creates, CreatesPart, OnlyOutputs}
-use Rattle.command_base.specs.Stops.{WriteFails}
+use Rattle.outside_calls.specs.Outputs.{Creates}
 use Rattle.command_base.proofs.Creating.{CreatesPart-first, CreatesPart-none, OnlyOutputs-first, OnlyOutputs-none, WriteFails-first}
 use Rattle.command_base.proofs.Creating.{WriteFails-later}
 use Rattle.command_base.proofs.Saying.{on-ok-map, on-err-map, if-err-map}

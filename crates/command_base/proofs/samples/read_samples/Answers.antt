@@ -1,7 +1,5 @@
-use Rattle.std.proofs.Common.{◌≡◌, ◌∙◌, ◌<◌, ℕ, List, ◌++◌, IsTrue, length, take, subst, arith}
+use Rattle.command_base.proofs.Names.{◌≡◌, ◌∙◌, ◌<◌, ℕ, List, ◌++◌, IsTrue, length, take, subst, arith, octets_at, header_at}
 use Rattle.std.proofs.lemmas.List.{length-take}
-use Rattle.outside_calls.specs.Folder.{octets_at}
-use Rattle.recordings.specs.Recording.{header_at}
 use Rattle.command_base.proofs.Behind.{behind-more, at-end}
 use Rattle.command_base.proofs.samples.read_samples.Goals as goal
 

@@ -1,6 +1,4 @@
-use Rattle.std.proofs.Common.{◌++◌, codes}
-use Rattle.outside_calls.specs.Folder.{FolderState, Said, PartlySaid}
-use Rattle.outside_calls.proofs.Steps.{GoesOn-trans, FaultsStand-trans, CountsStand-trans}
+use Rattle.command_base.proofs.Names.{◌++◌, codes, GoesOn-trans, FaultsStand-trans, CountsStand-trans, FolderState, Said, PartlySaid}
 use Rattle.command_base.proofs.Saying.{Said-Said, Said-PartlySaid, PartlySaid-longer, on-err, on-err-map, on-ok-map, OnlySays-trans}
 use Rattle.command_base.proofs.Saying.{HasCause-earlier}
 use Rattle.command_base.proofs.telling.say_too_long.Goals as goal

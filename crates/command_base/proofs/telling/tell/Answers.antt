@@ -1,5 +1,4 @@
-use Rattle.std.proofs.Common.{sym, subst}
-use Rattle.command_base.specs.Tells.{Tells}
+use Rattle.command_base.proofs.Names.{sym, subst, Tells}
 use Rattle.command_base.proofs.Saying.{tells-fault}
 use Rattle.command_base.proofs.telling.tell.Goals as goal
 

@@ -1,11 +1,4 @@
-use Rattle.std.proofs.Common.{◌≡◌, ℕ, List, refl, sym, subst}
-use Rattle.outside_calls.specs.Folder.{FolderState}
-use Rattle.outside_calls.specs.declared.folder.FolderFault.{FolderFault}
-use Rattle.command_base.specs.declared.status.Status.{Status}
-use Rattle.command_base.specs.declared.stop.Stop.{Stop}
-use Rattle.command_base.specs.declared.stop.Stop.TheVariants.{Say}
-use Rattle.command_base.specs.Stops.{stop_status}
-use Rattle.command_base.specs.Job.{SaysStop}
+use Rattle.command_base.proofs.Names.{◌≡◌, ℕ, List, refl, sym, subst, SaysStop, stop_status, Status, Stop, Say, FolderState, FolderFault}
 use Rattle.command_base.proofs.telling.tell_stop.Goals as goal
 
 says-no-more : (words : List (List ℕ)) (state : FolderState) (stop : Stop) (fault : FolderFault) (status : Status)

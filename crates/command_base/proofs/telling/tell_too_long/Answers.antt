@@ -1,6 +1,5 @@
-use Rattle.std.proofs.Common.{sym, subst}
+use Rattle.command_base.proofs.Names.{sym, subst, Tells}
 use Rattle.command_base.specs.Lines.{too_long_line}
-use Rattle.command_base.specs.Tells.{Tells}
 use Rattle.command_base.proofs.Saying.{tells-fault}
 use Rattle.command_base.proofs.telling.tell_too_long.Goals as goal
 

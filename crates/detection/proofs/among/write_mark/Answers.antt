@@ -1,5 +1,4 @@
-use Rattle.std.proofs.Common.{◌∙◌, refl}
-use Rattle.bit_stuffing.specs.BitSlot.{line_bits}
+use Rattle.detection.proofs.Names.{◌∙◌, refl, line_bits}
 use Rattle.detection.proofs.Wholes.{whole-slot}
 use Rattle.detection.proofs.among.write_mark.Goals as goal
 

@@ -1,6 +1,5 @@
-use Rattle.std.proofs.Common.{sym, ap}
+use Rattle.detection.proofs.Names.{sym, ap, second}
 use Rattle.std.specs.Prelude.{reverse}
-use Rattle.detection.specs.Patterns.{second}
 use Rattle.detection.proofs.characters.second.Goals as goal
 
 pub returns-in-Odp-clause-bits : goal.returns-in-Odp-clause-bits

@@ -1,6 +1,4 @@
-use Rattle.std.proofs.Common.{[], ◌∷◌}
-use Rattle.std.proofs.lemmas.List.{map-append}
-use Rattle.detection.specs.Slots.{slot_of}
+use Rattle.detection.proofs.Names.{[], ◌∷◌, map-append, slot_of}
 use Rattle.detection.proofs.Sent.{slot-added}
 use Rattle.detection.proofs.laws.signals_grow.Goals as goal
 

@@ -1,6 +1,4 @@
-use Rattle.std.proofs.Common.{◌≡◌, ◌-◌, ◌/◌, ◌%◌, ◌^◌, inl, inr, arith, sym, ◌∙◌, ap}
-use Rattle.std.specs.Int.{trailing_ones}
-use Rattle.std.specs.Int.Width.{w128}
+use Rattle.detection.proofs.Names.{◌≡◌, ◌-◌, ◌/◌, ◌%◌, ◌^◌, inl, inr, arith, sym, ◌∙◌, ap, trailing_ones, w128}
 use Rattle.std.proofs.lemmas.Nat.{and_mask}
 use Rattle.detection.proofs.Registers.{gap-read, character-read, read-leaves}
 use Rattle.detection.proofs.reader.before_character.Goals as goal

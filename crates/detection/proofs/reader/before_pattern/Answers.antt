@@ -1,6 +1,5 @@
-use Rattle.std.proofs.Common.{Bool, List, Some, None, arith, sym, subst}
+use Rattle.detection.proofs.Names.{Bool, List, Some, None, arith, sym, subst, LeftBehind, LeftBehindOnce}
 use Rattle.detection.specs.Patterns.{longest_gap}
-use Rattle.detection.specs.Reader.{LeftBehind, LeftBehindOnce}
 use Rattle.detection.proofs.Readings.{none-once, some-once}
 use Rattle.detection.proofs.reader.before_pattern.Goals as goal
 

@@ -1,6 +1,4 @@
-use Rattle.std.proofs.Common.{◌*◌, ◌%◌, ◌^◌, ◌++◌, bit_or, sym, subst}
-use Rattle.frame_check.specs.Bits.{low_bits}
-use Rattle.detection.specs.Reader.{ReaderStands}
+use Rattle.detection.proofs.Names.{◌*◌, ◌%◌, ◌^◌, ◌++◌, bit_or, sym, subst, ReaderStands, low_bits}
 use Rattle.detection.proofs.Quiet.{four-turned}
 use Rattle.detection.proofs.reader.behind_four.Goals as goal
 

@@ -1,6 +1,4 @@
-use Rattle.std.proofs.Common.{◌++◌, ◌%◌, subst}
-use Rattle.frame_check.specs.Bits.{low_bits}
-use Rattle.detection.specs.Reader.{ReaderStands}
+use Rattle.detection.proofs.Names.{◌++◌, ◌%◌, subst, ReaderStands, low_bits}
 use Rattle.bit_stuffing.proofs.Halves.{octet-fours}
 use Rattle.detection.proofs.reader.behind_octet.Goals as goal
 

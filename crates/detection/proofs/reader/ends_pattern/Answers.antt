@@ -1,5 +1,4 @@
-use Rattle.std.proofs.Common.{lit≤}
-use Rattle.std.proofs.lemmas.Bool.{false≢true}
+use Rattle.detection.proofs.Names.{lit≤, false≢true}
 use Rattle.detection.proofs.Readings.{none-twice, some-twice}
 use Rattle.detection.proofs.reader.ends_pattern.Goals as goal
 

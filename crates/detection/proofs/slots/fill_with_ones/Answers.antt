@@ -1,6 +1,4 @@
-use Rattle.std.proofs.Common.{◌≡◌, ◌+◌, ◌-◌, ◌*◌, [], ◌∷◌, ◌++◌, length, arith, append_assoc, length-append, ◌∙◌, ap}
-use Rattle.bit_stuffing.specs.BitSlot.{line_bits}
-use Rattle.detection.specs.Patterns.{ones}
+use Rattle.detection.proofs.Names.{◌≡◌, ◌+◌, ◌-◌, ◌*◌, [], ◌∷◌, ◌++◌, length, arith, append_assoc, length-append, ◌∙◌, ap, line_bits, ones}
 use Rattle.detection.proofs.Written.{line_bits-append, ones-append}
 use Rattle.detection.proofs.slots.fill_with_ones.Goals as goal
 

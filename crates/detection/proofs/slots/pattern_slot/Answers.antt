@@ -1,7 +1,4 @@
-use Rattle.std.proofs.Common.{◌≡◌, ◌-◌, ◌*◌, ◌++◌, length, arith, sym, ◌∙◌, ap, subst}
-use Rattle.bit_stuffing.specs.Slots.{IsPlain}
-use Rattle.detection.specs.Patterns.{ones}
-use Rattle.detection.specs.Slots.{pattern, patterns}
+use Rattle.detection.proofs.Names.{◌≡◌, ◌-◌, ◌*◌, ◌++◌, length, arith, sym, ◌∙◌, ap, subst, IsPlain, ones, pattern, patterns}
 use Rattle.detection.proofs.Written.{patterns-snoc, pattern-plain}
 use Rattle.detection.proofs.slots.pattern_slot.Goals as goal
 

@@ -1,6 +1,4 @@
-use Rattle.std.proofs.Common.{◌≡◌, ◌*◌, length}
-use Rattle.bit_stuffing.specs.BitSlot.{line_bits}
-use Rattle.detection.specs.Slots.{patterns}
+use Rattle.detection.proofs.Names.{◌≡◌, ◌*◌, length, line_bits, patterns}
 use Rattle.detection.proofs.slots.pattern_slot.Given as goal
 
 abbrev pub invariant-loop : goal.invariant-loop

@@ -1,5 +1,4 @@
-use Rattle.std.proofs.Common.{sym, ap}
-use Rattle.detection.specs.Slots.{pattern}
+use Rattle.detection.proofs.Names.{sym, ap, pattern}
 use Rattle.detection.proofs.slots.quads.Goals as goal
 
 pub returns-in-Odp-clause-bits : goal.returns-in-Odp-clause-bits

@@ -1,6 +1,4 @@
-use Rattle.std.proofs.Common.{◌≡◌, ◌+◌, ◌++◌, ◌∙◌, ap, arith, append_assoc}
-use Rattle.frame_check.specs.Bits.{low_bits}
-use Rattle.gateway.specs.Given.{heard}
+use Rattle.gateway.proofs.Names.{◌≡◌, ◌+◌, ◌++◌, ◌∙◌, ap, arith, append_assoc, low_bits, heard}
 use Rattle.gateway.proofs.Measuring.{two-fours}
 use Rattle.gateway.proofs.bit_groups.octet_at.Goals as goal
 

@@ -1,6 +1,4 @@
-use Rattle.std.proofs.Common.{◌≡◌, ◌*◌, ◌≤◌, ◌++◌, Bool, ℕ, List, length, take}
-use Rattle.scramblers.specs.declared.mode.Mode.{Mode}
-use Rattle.gateway.specs.Given.{given, AreBits}
+use Rattle.gateway.proofs.Names.{◌≡◌, ◌*◌, ◌≤◌, ◌++◌, Bool, ℕ, List, length, take, given, AreBits, Mode}
 use Rattle.gateway.proofs.decoder.put_labels.Given as goal
 
 abbrev pub invariant-loop-label : goal.invariant-loop-label

@@ -1,10 +1,4 @@
-use Rattle.std.proofs.Common.{◌≡◌, ◌≤◌, ◌++◌, Bool, List, length}
-use Rattle.scramblers.specs.declared.mode.Mode.{Mode}
-use Rattle.symbol_map.specs.declared.sample.Sample.{Sample}
-use Rattle.gateway.specs.declared.any_reader.LineKind.{LineKind}
-use Rattle.gateway.specs.Decoding.{decoding_of}
-use Rattle.gateway.specs.Given.{given, AreBits}
-use Rattle.gateway.specs.Reads.{ReadsAs}
+use Rattle.gateway.proofs.Names.{◌≡◌, ◌≤◌, ◌++◌, Bool, List, length, decoding_of, given, AreBits, ReadsAs, LineKind, Mode, Sample}
 use Rattle.gateway.proofs.decoder.take_bits.Given as goal
 
 abbrev pub invariant-loop-bits : goal.invariant-loop-bits

@@ -1,7 +1,4 @@
-use Rattle.std.proofs.Common.{ℕ, suc, ◌+◌, ◌≡◌, ap, sym, subst, ◌∙◌, arith}
-use Rattle.std.specs.Prelude.{is_some}
-use Rattle.bit_stuffing.specs.Deframer.{DeframerStands}
-use Rattle.gateway.specs.Given.{given}
+use Rattle.gateway.proofs.Names.{ℕ, suc, ◌+◌, ◌≡◌, ap, sym, subst, ◌∙◌, arith, is_some, DeframerStands, given}
 use Rattle.gateway.proofs.FirstEnd.{first-ends, none-ends}
 use Rattle.gateway.proofs.framer.first_end.Goals as goal
 

@@ -1,7 +1,4 @@
-use Rattle.std.proofs.Common.{◌≡◌, []}
-use Rattle.bit_stuffing.specs.Deframer.{DeframerStands}
-use Rattle.bit_stuffing.specs.Found.{pieces_of}
-use Rattle.gateway.specs.Given.{given}
+use Rattle.gateway.proofs.Names.{◌≡◌, [], DeframerStands, pieces_of, given}
 use Rattle.gateway.proofs.framer.first_end.Given as goal
 
 abbrev pub invariant-loop-place : goal.invariant-loop-place

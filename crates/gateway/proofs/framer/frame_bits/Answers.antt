@@ -1,5 +1,4 @@
-use Rattle.std.proofs.Common.{◌≡◌, ◌+◌, ◌-◌, ◌*◌, ◌≤◌, Some, length, refl, arith}
-use Rattle.bit_stuffing.specs.Slots.{opening}
+use Rattle.gateway.proofs.Names.{◌≡◌, ◌+◌, ◌-◌, ◌*◌, ◌≤◌, Some, length, refl, arith, opening}
 use Rattle.gateway.proofs.FirstEnd.{opens, slot-alone}
 use Rattle.gateway.proofs.Putting.{bits-fewer}
 use Rattle.gateway.proofs.framer.frame_bits.Goals as goal

@@ -1,6 +1,4 @@
-use Rattle.std.proofs.Common.{ℕ, ◌<◌, ◌++◌, ◌+◌, ◌*◌, ◌≡◌, length, ◌∙◌, ap, subst, arith}
-use Rattle.frame_check.specs.Bits.{low_bits}
-use Rattle.gateway.specs.Given.{given, AreBits}
+use Rattle.gateway.proofs.Names.{ℕ, ◌<◌, ◌++◌, ◌+◌, ◌*◌, ◌≡◌, length, ◌∙◌, ap, subst, arith, low_bits, given, AreBits}
 use Rattle.gateway.proofs.Slotted.{quad-more}
 use Rattle.gateway.proofs.framer.put_slot.Goals as goal
 

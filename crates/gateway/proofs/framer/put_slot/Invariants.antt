@@ -1,6 +1,4 @@
-use Rattle.std.proofs.Common.{◌≡◌, ◌*◌, length, take}
-use Rattle.bit_stuffing.specs.BitSlot.{line_bits}
-use Rattle.gateway.specs.Given.{given, AreBits}
+use Rattle.gateway.proofs.Names.{◌≡◌, ◌*◌, length, take, line_bits, given, AreBits}
 use Rattle.gateway.proofs.framer.put_slot.Given as goal
 
 abbrev pub invariant-loop-place : goal.invariant-loop-place

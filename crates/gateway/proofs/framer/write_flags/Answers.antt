@@ -1,7 +1,5 @@
-use Rattle.std.proofs.Common.{◌*◌, ◌-◌, ◌≤◌, length}
+use Rattle.gateway.proofs.Names.{◌*◌, ◌-◌, ◌≤◌, length, opening, slot_bits, Flags}
 use Rattle.std.specs.Option.{option_copied}
-use Rattle.bit_stuffing.specs.Slots.{opening, slot_bits}
-use Rattle.bit_stuffing.specs.Slots.Slot.{Flags}
 use Rattle.detection.proofs.Wholes.{whole-slot}
 use Rattle.gateway.proofs.Slotted.{fits-room, flags-slot}
 use Rattle.gateway.proofs.framer.write_flags.Goals as goal

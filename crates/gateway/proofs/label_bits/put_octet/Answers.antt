@@ -1,7 +1,5 @@
-use Rattle.std.proofs.Common.{◌∙◌, ◌/◌, Bool, List, ◌++◌, ap}
-use Rattle.frame_check.specs.Bits.{low_bits}
+use Rattle.gateway.proofs.Names.{◌∙◌, ◌/◌, Bool, List, ◌++◌, ap, low_bits, given}
 use Rattle.bit_stuffing.proofs.Halves.{octet-fours}
-use Rattle.gateway.specs.Given.{given}
 use Rattle.gateway.proofs.label_bits.put_octet.Goals as goal
 
 pub returns-clause-given : goal.returns-clause-given

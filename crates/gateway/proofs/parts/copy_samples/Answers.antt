@@ -1,9 +1,7 @@
-use Rattle.std.proofs.Common.{◌≡◌, ◌∙◌, ◌∷◌, ◌+◌, ◌*◌, ◌-◌, ◌<◌, ◌++◌, [], ℕ, ℤ, pos, suc, List, length, take, sym, ap, arith}
-use Rattle.std.proofs.Common.{append_assoc, length-set, get_or}
+use Rattle.gateway.proofs.Names.{◌≡◌, ◌∙◌, ◌∷◌, ◌+◌, ◌*◌, ◌-◌, ◌<◌, ◌++◌, [], ℕ, ℤ, pos, suc, List, length, take, sym, ap, arith}
+use Rattle.gateway.proofs.Names.{append_assoc, length-set, get_or, samples_in, Sample}
 use Rattle.std.proofs.Math.Nat.{min-le_right}
 use Rattle.std.proofs.lemmas.List.{take_more_set}
-use Rattle.symbol_map.specs.declared.sample.Sample.{Sample}
-use Rattle.gateway.specs.Given.{samples_in}
 use Rattle.gateway.proofs.parts.copy_samples.Goals as goal
 
 -- one sample more

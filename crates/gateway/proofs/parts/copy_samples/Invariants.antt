@@ -1,5 +1,4 @@
-use Rattle.std.proofs.Common.{◌≡◌, ◌+◌, ◌++◌, length, take}
-use Rattle.gateway.specs.Given.{samples_in}
+use Rattle.gateway.proofs.Names.{◌≡◌, ◌+◌, ◌++◌, length, take, samples_in}
 use Rattle.gateway.proofs.parts.copy_samples.Given as goal
 
 abbrev pub invariant-loop-place : goal.invariant-loop-place

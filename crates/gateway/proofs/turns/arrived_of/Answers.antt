@@ -1,9 +1,7 @@
-use Rattle.std.proofs.Common.{◌≡◌, ◌∙◌, Result, Ok, Err, sym, subst}
+use Rattle.gateway.proofs.Names.{◌≡◌, ◌∙◌, Result, Ok, Err, sym, subst, Arrives, Carried}
 use Rattle.lapm_frames.specs.declared.frame.Frame.{Frame}
 use Rattle.lapm_frames.specs.declared.fault.CheckedFault.{CheckedFault}
 use Rattle.lapm_frames.specs.declared.arrived.Arrived.TheVariants as arrivals
-use Rattle.gateway.specs.declared.turns.Carried.{Carried}
-use Rattle.gateway.specs.Turns.{Arrives}
 use Rattle.gateway.proofs.turns.arrived_of.Goals as goal
 
 err-not-ok : (fault : CheckedFault) (frame : Frame) → ◌≡◌ {A = Result Frame CheckedFault} (Err fault) (Ok frame) → ⊥

@@ -1,5 +1,4 @@
-use Rattle.scramblers.proofs.Readings.{Descrambles_once}
-use Rattle.line_coding.specs.Demodulates.{line_of}
+use Rattle.line_coding.proofs.Names.{line_of, Descrambles_once}
 use Rattle.line_coding.proofs.Readings.{four-each}
 use Rattle.line_coding.proofs.laws.one_reading.Goals as goal
 

@@ -1,5 +1,4 @@
-use Rattle.std.proofs.Common.{◌-◌, ◌*◌, ◌∙◌, arith}
-use Rattle.detection.specs.Patterns.{ones}
+use Rattle.line_tap.proofs.Names.{◌-◌, ◌*◌, ◌∙◌, arith, ones}
 use Rattle.line_tap.proofs.SameQuads.{begin-ones}
 use Rattle.line_tap.proofs.candidate.carries_mark.Goals as goal
 

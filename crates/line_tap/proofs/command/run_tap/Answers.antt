@@ -1,10 +1,6 @@
-use Rattle.std.proofs.Common.{inl, ℕ, Ok, Err, ◌∙◌}
-use Rattle.outside_calls.specs.Outputs.{AreApartFrom}
-use Rattle.outside_calls.proofs.OnlyOutputs.{OnlyOutputs-trans}
-use Rattle.outside_calls.proofs.Steps.{CountsStand-trans}
+use Rattle.line_tap.proofs.Names.{inl, ℕ, Ok, Err, ◌∙◌, stop-earlier, end-earlier, TapNames, named, inputs_of, outputs_of, recordings_of}
+use Rattle.line_tap.proofs.Names.{OnlyOutputs-trans, CountsStand-trans, AreApartFrom}
 use Rattle.outside_calls.proofs.Putting.{OnlyOutputs-puts}
-use Rattle.command_base.proofs.Jobs.{stop-earlier, end-earlier}
-use Rattle.line_tap.specs.Names.{TapNames, named, inputs_of, outputs_of, recordings_of}
 use Rattle.line_tap.specs.declared.limits.TheConstants.{LIMITS}
 use Rattle.line_tap.proofs.Taps.{headers-later, ends-creating, ends-turns}
 use Rattle.line_tap.proofs.command.run_tap.Goals as goal

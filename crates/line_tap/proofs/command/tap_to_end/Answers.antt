@@ -1,13 +1,7 @@
-use Rattle.std.proofs.Common.{[], sym, subst, ◌∙◌}
-use Rattle.outside_calls.proofs.OnlyOutputs.{OnlyOutputs-reads, OnlyOutputs-trans}
-use Rattle.command_base.proofs.Jobs.{end-earlier}
-use Rattle.line_tap.specs.Names.{TapNames, named, inputs_of, outputs_of}
+use Rattle.line_tap.proofs.Names.{[], sym, subst, ◌∙◌, end-earlier, TapNames, named, inputs_of, outputs_of, IsBegun, TapAfter, tapping}
+use Rattle.line_tap.proofs.Names.{no_octets, ScriptValue, OnlyOutputs-trans}
+use Rattle.outside_calls.proofs.OnlyOutputs.{OnlyOutputs-reads}
 use Rattle.line_tap.specs.declared.limits.TheConstants.{LIMITS}
-use Rattle.noise_script.specs.Script.{ScriptValue}
-use Rattle.line_tap.specs.Tapping.{tapping}
-use Rattle.line_tap.specs.Tap.{TapAfter}
-use Rattle.line_tap.specs.Turns.{no_octets}
-use Rattle.line_tap.specs.Outcomes.{IsBegun}
 use Rattle.line_tap.proofs.Taps.{ends-refused, end-widened}
 use Rattle.line_tap.proofs.command.tap_to_end.Goals as goal
 

@@ -1,11 +1,5 @@
-use Rattle.std.proofs.Common.{◌∙◌, ◌*◌, ◌-◌, ◌≤◌, ◌++◌, ◌∷◌, [], ℕ, List, length, Some, sym, ap, subst}
-use Rattle.bit_stuffing.specs.declared.slot_writer.TheConstants.{TAIL}
-use Rattle.bit_stuffing.specs.Slots.{opening, slot_bits}
-use Rattle.bit_stuffing.specs.SlotWriter.{WriterStands}
-use Rattle.detection.specs.Slots.{slot_of}
-use Rattle.detection.specs.Slots.Signal.{FlagSlot}
-use Rattle.lapm_frames.specs.declared.sent.Sent.{Sent}
-use Rattle.sample_line.specs.Signals.{signal_of, IsCodable}
+use Rattle.line_tap.proofs.Names.{◌∙◌, ◌*◌, ◌-◌, ◌≤◌, ◌++◌, ◌∷◌, [], ℕ, List, length, Some, sym, ap, subst, WriterStands, opening}
+use Rattle.line_tap.proofs.Names.{slot_bits, TAIL, slot_of, FlagSlot, Sent, signal_of, IsCodable}
 use Rattle.line_tap.proofs.fitting.write_again.Goals as goal
 
 pub slot-requires-clause-room : goal.slot-requires-clause-room

@@ -1,9 +1,5 @@
-use Rattle.std.proofs.Common.{◌≡◌, ℕ, ◌+◌, List, [], length, take, ap, subst, arith}
-use Rattle.outside_calls.specs.Folder.{FolderState}
-use Rattle.recordings.specs.Recording.{header_of}
-use Rattle.command_base.specs.Inputs.{ReadTo}
+use Rattle.line_tap.proofs.Names.{◌≡◌, ℕ, ◌+◌, List, [], length, take, ap, subst, arith, ReadTo, IsNotHeader, FolderState, header_of}
 use Rattle.line_tap.specs.declared.limits.TheConstants.{TAP_LIMIT}
-use Rattle.line_tap.specs.Headers.{IsNotHeader}
 use Rattle.line_tap.proofs.HeaderRead.{header-octets}
 use Rattle.line_tap.proofs.header.open_header.Goals as goal
 

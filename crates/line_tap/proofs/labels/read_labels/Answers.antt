@@ -1,7 +1,5 @@
-use Rattle.std.proofs.Common.{◌∙◌, ◌+◌, ◌*◌, ◌≤◌, ◌++◌, ◌∷◌, [], ℕ, List, take, length, sym, ap, subst, arith, length-append}
-use Rattle.std.proofs.lemmas.List.{take_all}
-use Rattle.recordings.specs.Samples.{samples_in, sample_at}
-use Rattle.line_tap.specs.Labels.{ReadsLabels}
+use Rattle.line_tap.proofs.Names.{◌∙◌, ◌+◌, ◌*◌, ◌≤◌, ◌++◌, ◌∷◌, [], ℕ, List, take, length, sym, ap, subst, arith, length-append, take_all}
+use Rattle.line_tap.proofs.Names.{ReadsLabels, samples_in, sample_at}
 use Rattle.line_tap.proofs.PointLabels.{reads-more, count-samples, one-more, no-sequence}
 use Rattle.line_tap.proofs.labels.read_labels.Goals as goal
 

@@ -1,6 +1,4 @@
-use Rattle.std.proofs.Common.{◌≡◌, ◌<◌, take, length}
-use Rattle.recordings.specs.Samples.{samples_in}
-use Rattle.line_tap.specs.Labels.{ReadsLabels}
+use Rattle.line_tap.proofs.Names.{◌≡◌, ◌<◌, take, length, ReadsLabels, samples_in}
 use Rattle.line_tap.proofs.labels.read_labels.Given as goal
 
 abbrev pub invariant-loop-place : goal.invariant-loop-place

@@ -1,7 +1,6 @@
-use Rattle.std.proofs.Common.{◌≡◌, ◌∙◌, Some, None, IfNone, sym, ap, subst}
-use Rattle.trellis_tables.specs.Table.{next_state}
+use Rattle.line_tap.proofs.Names.{◌≡◌, ◌∙◌, Some, None, sym, ap, subst, NoStep, next_state}
+use Rattle.std.proofs.Common.{IfNone}
 use Rattle.trellis_tables.specs.V32Laws.{v32_within}
-use Rattle.line_tap.specs.Labels.{NoStep}
 use Rattle.line_tap.proofs.labels.step_by.Goals as goal
 
 pub returns-in_err-label-clause-none : goal.returns-in_err-label-clause-none

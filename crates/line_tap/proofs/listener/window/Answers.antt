@@ -1,5 +1,4 @@
-use Rattle.std.proofs.Common.{sym, ap}
-use Rattle.shared_terms.specs.Role.{other}
+use Rattle.line_tap.proofs.Names.{sym, ap, other}
 use Rattle.link_account.specs.Account.{window_for}
 use Rattle.line_tap.proofs.listener.window.Goals as goal
 

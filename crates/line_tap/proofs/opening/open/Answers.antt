@@ -1,11 +1,7 @@
-use Rattle.std.proofs.Common.{inl, inr, [], ◌∷◌}
-use Rattle.scramblers.specs.declared.mode.Mode.TheVariants.{Call}
-use Rattle.outside_calls.specs.Folder.{FolderState, OnlyReads}
-use Rattle.outside_calls.proofs.Steps.{OnlyReads-trans, CountsStand-trans}
-use Rattle.command_base.proofs.Jobs.{stop-earlier}
-use Rattle.command_base.proofs.Reading.{ReadTo-none, ReadTo-kept}
+use Rattle.line_tap.proofs.Names.{inl, inr, [], ◌∷◌, stop-earlier, ReadTo-kept, TapNames, named, inputs_of, OnlyReads-trans}
+use Rattle.line_tap.proofs.Names.{CountsStand-trans, FolderState, OnlyReads, Call}
+use Rattle.command_base.proofs.Reading.{ReadTo-none}
 use Rattle.line_tap.specs.declared.limits.TheConstants.{TAP_LIMIT, LIMITS}
-use Rattle.line_tap.specs.Names.{TapNames, named, inputs_of}
 use Rattle.line_tap.proofs.HeaderRead.{inputs-refused, both-read, header-read, orig-refused, answ-refused, stop-widened}
 use Rattle.line_tap.proofs.opening.open.Goals as goal
 

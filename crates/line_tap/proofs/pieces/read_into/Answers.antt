@@ -1,7 +1,5 @@
-use Rattle.std.proofs.Common.{◌≡◌, ◌+◌, ◌≤◌, ◌<◌, ◌++◌, ℕ, List, length, take, drop, sym, ◌∙◌, subst, arith}
-use Rattle.std.proofs.lemmas.List.{take-append-le, take_all}
-use Rattle.outside_calls.specs.Folder.{octets_at}
-use Rattle.command_base.specs.Inputs.{ReadTo}
+use Rattle.line_tap.proofs.Names.{◌≡◌, ◌+◌, ◌≤◌, ◌<◌, ◌++◌, ℕ, List, length, take, drop, sym, ◌∙◌, subst, arith, take-append-le, take_all}
+use Rattle.line_tap.proofs.Names.{ReadTo, octets_at}
 use Rattle.line_tap.specs.declared.limits.TheConstants.{TAP_LIMIT}
 use Rattle.line_tap.proofs.pieces.read_into.Goals as goal
 

@@ -1,9 +1,4 @@
-use Rattle.std.proofs.Common.{[], ◌∷◌, refl}
-use Rattle.outside_calls.proofs.Steps.{OnlyReads-trans, CountsStand-trans}
-use Rattle.command_base.specs.declared.stop.Stop.TheVariants.{Read}
-use Rattle.command_base.proofs.Jobs.{stop-earlier}
-use Rattle.command_base.proofs.Reading.{ReadTo-kept}
-use Rattle.line_tap.specs.Names.{named, recordings_of}
+use Rattle.line_tap.proofs.Names.{[], ◌∷◌, refl, stop-earlier, ReadTo-kept, Read, named, recordings_of, OnlyReads-trans, CountsStand-trans}
 use Rattle.line_tap.specs.declared.limits.TheConstants.{TAP_LIMIT}
 use Rattle.line_tap.proofs.Causes.{read-among}
 use Rattle.line_tap.proofs.pieces.read_pieces.Goals as goal

@@ -1,6 +1,4 @@
-use Rattle.std.proofs.Common.{◌≡◌, ◌∙◌, ◌+◌, ◌*◌, ◌/◌, ◌%◌, ◌^◌, ◌<◌, ℕ, nat_eq, length, slice_index, sym, ap, arith}
-use Rattle.bit_stuffing.specs.BitSlot.{line_bits}
-use Rattle.bit_stuffing.specs.Flags.{bit_of}
+use Rattle.line_tap.proofs.Names.{◌≡◌, ◌∙◌, ◌+◌, ◌*◌, ◌/◌, ◌%◌, ◌^◌, ◌<◌, ℕ, nat_eq, length, slice_index, sym, ap, arith, line_bits, bit_of}
 use Rattle.frame_check.proofs.BitLists.{get_or-low_bits}
 use Rattle.std.specs.Prelude.{false}
 use Rattle.line_tap.proofs.FoundSent.{bit-in}

@@ -1,12 +1,5 @@
-use Rattle.std.proofs.Common.{◌≡◌, ◌∙◌, ◌+◌, ◌-◌, ◌*◌, ◌<◌, ◌≤◌, ℕ, Bool, List, [], length, drop, sym, ap, subst, arith}
-use Rattle.std.proofs.lemmas.List.{take_all}
-use Rattle.bit_stuffing.specs.BitSlot.{line_bits}
-use Rattle.bit_stuffing.specs.Deframer.{DeframerStands}
-use Rattle.bit_stuffing.specs.Found.{pieces_of}
-use Rattle.bit_stuffing.specs.Sent.{wholes}
-use Rattle.bit_stuffing.proofs.Found.{pieces-none}
-use Rattle.bit_stuffing.proofs.Written.{length-line_bits}
-use Rattle.line_tap.specs.Seeking.{part}
+use Rattle.line_tap.proofs.Names.{◌≡◌, ◌∙◌, ◌+◌, ◌-◌, ◌*◌, ◌<◌, ◌≤◌, ℕ, Bool, List, [], length, drop, sym, ap, subst, arith, take_all}
+use Rattle.line_tap.proofs.Names.{pieces-none, length-line_bits, line_bits, DeframerStands, pieces_of, wholes, part}
 use Rattle.line_tap.proofs.Seeking.{part-none, none-more}
 use Rattle.line_tap.proofs.seeker.end_of_piece.Goals as goal
 

@@ -1,9 +1,4 @@
-use Rattle.std.proofs.Common.{◌≡◌, ◌≤◌, ◌-◌, ◌*◌, [], length}
-use Rattle.bit_stuffing.specs.BitSlot.{line_bits}
-use Rattle.bit_stuffing.specs.Deframer.{DeframerStands}
-use Rattle.bit_stuffing.specs.Found.{pieces_of}
-use Rattle.bit_stuffing.specs.Sent.{wholes}
-use Rattle.line_tap.specs.Seeking.{part}
+use Rattle.line_tap.proofs.Names.{◌≡◌, ◌≤◌, ◌-◌, ◌*◌, [], length, line_bits, DeframerStands, pieces_of, wholes, part}
 use Rattle.line_tap.proofs.seeker.end_of_piece.Given as goal
 
 abbrev pub invariant-loop-place : goal.invariant-loop-place

@@ -1,9 +1,6 @@
-use Rattle.std.proofs.Common.{◌∙◌, ◌<◌, ap, sym, subst, arith}
+use Rattle.line_tap.proofs.Names.{◌∙◌, ◌<◌, ap, sym, subst, arith, IfSome, result_ok, checked, CanBeSent}
 use Rattle.std.proofs.lemmas.List.Elements.{All-from_get_or}
-use Rattle.std.specs.Result.{result_ok}
-use Rattle.line_tap.specs.Seeking.{CanBeSent}
-use Rattle.lapm_frames.specs.Checked.{checked}
-use Rattle.std.specs.Prelude.{◌≡◌, IfSome}
+use Rattle.std.specs.Prelude.{◌≡◌}
 use Rattle.line_tap.proofs.SentFrames.{ok-sendable, ok-spelled}
 use Rattle.line_tap.proofs.seeker.frame_of.Goals as goal
 

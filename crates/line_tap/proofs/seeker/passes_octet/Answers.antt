@@ -1,6 +1,4 @@
-use Rattle.std.proofs.Common.{◌∙◌, Bool, List, ap, sym, subst, arith}
-use Rattle.bit_stuffing.specs.Deframer.{DeframerStands}
-use Rattle.bit_stuffing.specs.Found.{pieces_of}
+use Rattle.line_tap.proofs.Names.{◌∙◌, Bool, List, ap, sym, subst, arith, DeframerStands, pieces_of}
 use Rattle.line_tap.proofs.Seeking.{octet-more}
 use Rattle.line_tap.proofs.seeker.passes_octet.Goals as goal
 

@@ -1,10 +1,5 @@
-use Rattle.std.proofs.Common.{◌∙◌, refl, subst}
-use Rattle.outside_calls.proofs.Steps.{CountsStand-refl, CountsStand-trans}
-use Rattle.outside_calls.proofs.Putting.{OnlyPuts-refl, OnlyPuts-trans}
-use Rattle.noise_script.specs.Script.{ScriptValue, IsInLimits}
-use Rattle.line_tap.specs.Tapping.{tapping}
-use Rattle.command_base.proofs.Jobs.{stop-earlier}
-use Rattle.line_tap.specs.Names.{TapNames, named, outputs_of, recordings_of}
+use Rattle.line_tap.proofs.Names.{◌∙◌, refl, subst, stop-earlier, TapNames, named, outputs_of, recordings_of, tapping, ScriptValue}
+use Rattle.line_tap.proofs.Names.{IsInLimits, OnlyPuts-refl, OnlyPuts-trans, CountsStand-refl, CountsStand-trans}
 use Rattle.line_tap.proofs.Reached.{reached-none, less-left, reached-going, reached-done, reached-stop}
 use Rattle.line_tap.proofs.turns.tap_turns.Goals as goal
 

@@ -1,10 +1,5 @@
-use Rattle.std.proofs.Common.{◌≡◌, ◌-◌}
-use Rattle.outside_calls.specs.Folder.{FolderState, CountsStand}
-use Rattle.outside_calls.specs.Outputs.{OnlyPuts}
+use Rattle.line_tap.proofs.Names.{◌≡◌, ◌-◌, named, outputs_of, IsReady, AreReadTo, no_octets, FolderState, CountsStand, OnlyPuts}
 use Rattle.line_tap.specs.declared.limits.TheConstants.{TAP_LIMIT}
-use Rattle.line_tap.specs.Names.{named, outputs_of}
-use Rattle.line_tap.specs.Tap.{IsReady, AreReadTo}
-use Rattle.line_tap.specs.Turns.{no_octets}
 use Rattle.line_tap.proofs.Reached.{Reached}
 use Rattle.line_tap.proofs.turns.tap_turns.Given as goal
 

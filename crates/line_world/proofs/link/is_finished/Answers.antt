@@ -1,6 +1,4 @@
-use Rattle.std.proofs.Common.{not, ◌&&◌, ◌||◌, length, ap, ◌∙◌, Option}
-use Rattle.link_account.specs.Account.{is_done, break_waits}
-use Rattle.link_run.specs.End.{BreakLine, is_ready}
+use Rattle.line_world.proofs.Names.{not, ◌&&◌, ◌||◌, length, ap, ◌∙◌, Option, is_done, break_waits, BreakLine, is_ready}
 use Rattle.line_world.proofs.Linking.{next-is}
 use Rattle.line_world.proofs.link.is_finished.Goals as goal
 

@@ -1,6 +1,4 @@
-use Rattle.std.proofs.Common.{◌+◌, subst}
-use Rattle.link_account.specs.Account.{Account, after_busy}
-use Rattle.line_world.specs.Station.{Stands}
+use Rattle.line_world.proofs.Names.{◌+◌, subst, Stands, Account, after_busy}
 use Rattle.line_world.proofs.Linking.{asks-so, asks-none, counted-later}
 use Rattle.line_world.proofs.link.serve.Goals as goal
 

@@ -1,9 +1,6 @@
-use Rattle.std.proofs.Common.{◌≡◌, ◌⊎◌, inl, inr, ◌-◌, ◌*◌, ◌≤◌, ℕ, IsTrue, ◌++◌, length, take, drop, arith, ap, ◌∙◌, Result, Ok, Err, IfOk}
-use Rattle.std.proofs.lemmas.List.{length-take-le}
-use Rattle.outside_calls.specs.Folder.{ReadsFront, octets_at}
-use Rattle.outside_calls.specs.declared.folder.FolderFault.{FolderFault}
-use Rattle.link_run.specs.End.{piece_at}
-use Rattle.line_world.specs.Station.{file_at}
+use Rattle.line_world.proofs.Names.{◌≡◌, ◌⊎◌, inl, inr, ◌-◌, ◌*◌, ◌≤◌, ℕ, IsTrue, ◌++◌, length, take, drop, arith, ap, ◌∙◌, Result, Ok, Err}
+use Rattle.line_world.proofs.Names.{IfOk, length-take-le, file_at, piece_at, octets_at, FolderFault}
+use Rattle.outside_calls.specs.Folder.{ReadsFront}
 use Rattle.line_world.proofs.Offering.{read-segment}
 use Rattle.line_world.proofs.segment.read_segment.Goals.{then-left-from, else-left-from}
 use Rattle.line_world.proofs.segment.read_segment.Goals as goal

@@ -1,9 +1,5 @@
-use Rattle.std.proofs.Common.{inl, ◌∷◌, ◌∙◌, sym, []}
-use Rattle.shared_terms.specs.declared.role.Role.TheVariants.{Originator, Answerer}
-use Rattle.line_run.specs.Scripted.{wire_of}
-use Rattle.line_world.specs.World.{script_of}
+use Rattle.line_world.proofs.Names.{inl, ◌∷◌, ◌∙◌, sym, [], wire_of, script_of, OnlyPuts-one, OnlyPuts-trans, Originator, Answerer}
 use Rattle.line_world.proofs.Taping.{keeps-holds, keeps-later, both-take}
-use Rattle.outside_calls.proofs.Putting.{OnlyPuts-one, OnlyPuts-trans}
 use Rattle.line_world.proofs.Folders.{counts-front}
 use Rattle.line_world.proofs.tape.record_both.Goals as goal
 

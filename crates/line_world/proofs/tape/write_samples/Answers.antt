@@ -1,9 +1,6 @@
-use Rattle.std.proofs.Common.{◌≡◌, ◌++◌, ◌+◌, ◌∙◌, ℕ, Bool, List, length, take, sym, ap, subst, arith, length-append, append-nil}
-use Rattle.bit_stuffing.specs.BitSlot.{line_bits}
-use Rattle.frame_check.specs.Bits.{low_bits}
-use Rattle.line_world.specs.Taping.{RecordsBits}
+use Rattle.line_world.proofs.Names.{◌≡◌, ◌++◌, ◌+◌, ◌∙◌, ℕ, Bool, List, length, take, sym, ap, subst, arith, length-append, append-nil}
+use Rattle.line_world.proofs.Names.{take_all, line_bits, low_bits, RecordsBits}
 use Rattle.line_world.proofs.Taping.{records-more, quads-more}
-use Rattle.std.proofs.lemmas.List.{take_all}
 use Rattle.line_world.proofs.tape.write_samples.Goals as goal
 
 pub loop-place-preserved : goal.loop-place-preserved

@@ -1,7 +1,4 @@
-use Rattle.std.proofs.Common.{◌≡◌, ◌*◌, ◌++◌, ℕ, Bool, List, length, take}
-use Rattle.scramblers.specs.declared.mode.Mode.{Mode}
-use Rattle.bit_stuffing.specs.BitSlot.{line_bits}
-use Rattle.line_world.specs.Taping.{RecordsBits}
+use Rattle.line_world.proofs.Names.{◌≡◌, ◌*◌, ◌++◌, ℕ, Bool, List, length, take, line_bits, RecordsBits, Mode}
 use Rattle.line_world.proofs.tape.write_samples.Given as goal
 
 abbrev pub invariant-loop-place : goal.invariant-loop-place

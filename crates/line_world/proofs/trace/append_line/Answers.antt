@@ -1,5 +1,4 @@
-use Rattle.std.proofs.Common.{OnOk, OnErr, ◌∙◌, subst}
-use Rattle.outside_calls.specs.Folder.{Appended, PartlyAppended}
+use Rattle.line_world.proofs.Names.{OnOk, OnErr, ◌∙◌, subst, Appended, PartlyAppended}
 use Rattle.line_world.proofs.trace.append_line.Goals as goal
 
 pub returns-clause-ok : goal.returns-clause-ok

@@ -1,9 +1,5 @@
-use Rattle.std.proofs.Common.{◌≡◌, ℕ, List, [], ◌++◌, OnOk, OnErr, ap, ◌∙◌, subst}
-use Rattle.std.specs.Option.{option_map}
-use Rattle.outside_calls.specs.Folder.{Appended, PartlyAppended}
-use Rattle.shared_terms.specs.declared.role.Role.TheVariants.{Originator, Answerer}
-use Rattle.shared_terms.specs.Both.{of}
-use Rattle.line_texts.specs.LineText.{line_of}
+use Rattle.line_world.proofs.Names.{◌≡◌, ℕ, List, [], ◌++◌, OnOk, OnErr, ap, ◌∙◌, subst, option_map, line_of, Appended, PartlyAppended, of}
+use Rattle.line_world.proofs.Names.{Originator, Answerer}
 use Rattle.line_world.proofs.trace.append_turn.Given.{Over}
 use Rattle.line_world.proofs.trace.append_turn.Goals.{After-append}
 use Rattle.line_world.proofs.trace.append_turn.Goals as goal

@@ -1,16 +1,6 @@
-use Rattle.std.proofs.Common.{◌∙◌, [], ◌∷◌, ◌++◌, sym, refl, subst, rules}
-use Rattle.outside_calls.proofs.Steps.{CountsStand-trans}
-use Rattle.outside_calls.proofs.Putting.{OnlyPuts-trans}
-use Rattle.outside_calls.specs.Folder.{FolderState}
-use Rattle.outside_calls.specs.Outputs.{AreApart, KeepsEach, OnlyPuts}
-use Rattle.noise_script.specs.Script.{ScriptValue}
-use Rattle.line_run.specs.Scripted.{wire_of}
-use Rattle.line_run.specs.Names.{Written, inputs_of, outputs_of, written}
-use Rattle.line_run.specs.Recorded.{Tapes, tapes_of}
-use Rattle.line_world.specs.Tapes.{HoldTapes, HoldTapesPartly}
-use Rattle.line_world.specs.Taping.{KeepTapes, tape_names}
-use Rattle.line_world.specs.Turn.{FaultCountsOver}
-use Rattle.line_world.specs.World.{script_of}
+use Rattle.line_world.proofs.Names.{◌∙◌, [], ◌∷◌, ◌++◌, sym, refl, subst, rules, Written, inputs_of, outputs_of, written, Tapes, tapes_of}
+use Rattle.line_world.proofs.Names.{wire_of, HoldTapes, HoldTapesPartly, KeepTapes, tape_names, FaultCountsOver, script_of, ScriptValue}
+use Rattle.line_world.proofs.Names.{OnlyPuts-trans, CountsStand-trans, FolderState, AreApart, KeepsEach, OnlyPuts}
 use Rattle.line_world.proofs.Reached.{reached-start, reached-going, reached-put, reached-taping, reached-done, reached-counts}
 use Rattle.line_world.proofs.Reached.{reached-fault, nearer, next-turn, tapes-kept, apart-outputs}
 use Rattle.line_world.proofs.Several.{puts-front, puts-behind, apart-behind}

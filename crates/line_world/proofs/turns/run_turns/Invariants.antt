@@ -1,8 +1,4 @@
-use Rattle.std.proofs.Common.{◌≡◌, ◌-◌, ◌^◌}
-use Rattle.line_run.specs.Scripted.{wire_of}
-use Rattle.line_run.specs.Names.{written}
-use Rattle.line_world.specs.World.{IsReady, script_of, turn_of}
-use Rattle.line_world.specs.Taping.{KeepTapes, tape_names}
+use Rattle.line_world.proofs.Names.{◌≡◌, ◌-◌, ◌^◌, written, wire_of, KeepTapes, tape_names, IsReady, script_of, turn_of}
 use Rattle.line_world.proofs.Reached.{Reached}
 use Rattle.line_world.proofs.turns.run_turns.Given as goal
 

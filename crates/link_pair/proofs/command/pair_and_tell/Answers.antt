@@ -1,6 +1,5 @@
-use Rattle.std.proofs.Common.{◌∙◌, Err}
+use Rattle.link_pair.proofs.Names.{◌∙◌, Err, Names, named}
 use Rattle.command_base.proofs.Jobs.{answers-done, answers-stopped}
-use Rattle.link_pair.specs.Words.{Names, named}
 use Rattle.link_pair.proofs.Refusing.{refused-by}
 use Rattle.link_pair.proofs.command.pair_and_tell.Goals as goal
 

@@ -1,9 +1,7 @@
-use Rattle.std.proofs.Common.{sym, subst, ◌∙◌}
-use Rattle.outside_calls.proofs.OnlyOutputs.{OnlyOutputs-reads, OnlyOutputs-trans}
+use Rattle.link_pair.proofs.Names.{sym, subst, ◌∙◌, IsBegun, Names, named, inputs_of, OnlyOutputs-trans, LIMITS}
+use Rattle.outside_calls.proofs.OnlyOutputs.{OnlyOutputs-reads}
 use Rattle.command_base.proofs.Jobs.{end-earlier}
-use Rattle.run_inputs.specs.declared.limits.TheConstants.{LIMITS}
-use Rattle.link_pair.specs.Words.{Names, named, inputs_of, outputs_of}
-use Rattle.link_pair.specs.Ends.{IsBegun}
+use Rattle.link_pair.specs.Words.{outputs_of}
 use Rattle.link_pair.proofs.Running.{ends-refused}
 use Rattle.link_pair.proofs.command.pair_to_end.Goals as goal
 

@@ -1,16 +1,8 @@
-use Rattle.std.proofs.Common.{inl, sym, subst, rules}
-use Rattle.outside_calls.proofs.Steps.{CountsStand-trans}
-use Rattle.outside_calls.proofs.OnlyOutputs.{OnlyOutputs-trans}
+use Rattle.link_pair.proofs.Names.{inl, sym, subst, rules, StopCounts, EndCounts, Ends, EndsBy, run_end, script_of, end_of, Names, named}
+use Rattle.link_pair.proofs.Names.{inputs_of, ScriptValue, OnlyOutputs-trans, CountsStand-trans, LIMITS}
 use Rattle.outside_calls.proofs.Putting.{OnlyOutputs-puts}
-use Rattle.noise_script.specs.Script.{ScriptValue}
-use Rattle.command_base.specs.Stops.{StopCounts, EndCounts}
 use Rattle.command_base.proofs.Jobs.{stop-earlier}
-use Rattle.run_inputs.specs.declared.limits.TheConstants.{LIMITS}
-use Rattle.link_pair.specs.Pairs.Ends.{end_of}
-use Rattle.link_pair.specs.Half.{run_end}
-use Rattle.link_pair.specs.Pair.{script_of}
-use Rattle.link_pair.specs.Words.{Names, named, inputs_of, outputs_of}
-use Rattle.link_pair.specs.Ends.{Ends, EndsBy}
+use Rattle.link_pair.specs.Words.{outputs_of}
 use Rattle.link_pair.proofs.Running.{apart-names, ends-creating, ran-to, ends-in-round, round-counts, ends-of, result-counts}
 use Rattle.link_pair.proofs.command.run_pair.Goals as goal
 

@@ -1,11 +1,6 @@
-use Rattle.std.proofs.Common.{refl, ◌∙◌, subst, Ok, rules}
-use Rattle.outside_calls.specs.Folder.{FolderState}
-use Rattle.outside_calls.proofs.Steps.{CountsStand-refl, CountsStand-trans}
-use Rattle.outside_calls.proofs.Putting.{OnlyPuts-refl, OnlyPuts-trans}
-use Rattle.noise_script.specs.Script.{ScriptValue}
-use Rattle.line_run.specs.Names.{Written, written}
-use Rattle.link_pair.specs.Pairs.Ends.{First, Second}
-use Rattle.link_pair.specs.Pair.{Comes, FaultEnds, HaveEnded, all_inputs, all_outputs, round_of, script_of}
+use Rattle.link_pair.proofs.Names.{refl, ◌∙◌, subst, Ok, rules, Written, written, Comes, FaultEnds, HaveEnded, all_inputs, all_outputs}
+use Rattle.link_pair.proofs.Names.{round_of, script_of, First, Second, ScriptValue, OnlyPuts-refl, OnlyPuts-trans, CountsStand-refl}
+use Rattle.link_pair.proofs.Names.{CountsStand-trans, FolderState}
 use Rattle.link_pair.proofs.Pairing.{few-rounds}
 use Rattle.link_pair.proofs.Beginning.{begins, nearer, fault-ends, counts-later}
 use Rattle.link_pair.proofs.rounds.pair_rounds.Goals as goal

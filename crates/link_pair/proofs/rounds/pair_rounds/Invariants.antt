@@ -1,9 +1,4 @@
-use Rattle.std.proofs.Common.{◌≡◌, ◌-◌, ◌^◌}
-use Rattle.outside_calls.specs.Folder.{CountsStand}
-use Rattle.outside_calls.specs.Outputs.{OnlyPuts}
-use Rattle.line_run.specs.Names.{written}
-use Rattle.link_pair.specs.Pairs.Ends.{First}
-use Rattle.link_pair.specs.Pair.{Awaits, all_outputs, round_of, script_of}
+use Rattle.link_pair.proofs.Names.{◌≡◌, ◌-◌, ◌^◌, written, Awaits, all_outputs, round_of, script_of, First, CountsStand, OnlyPuts}
 use Rattle.link_pair.proofs.rounds.pair_rounds.Given as goal
 
 abbrev pub invariant-loop-endings : goal.invariant-loop-endings

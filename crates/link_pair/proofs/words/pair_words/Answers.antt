@@ -1,6 +1,5 @@
-use Rattle.std.proofs.Common.{rules, ◌≡◌, Some, None, map, string_bytes, sym, subst, arith}
-use Rattle.std.proofs.lemmas.Bool.Decides.{nat_tests}
-use Rattle.link_pair.specs.Words.{named, names_of}
+use Rattle.link_pair.proofs.Names.{rules, ◌≡◌, Some, None, map, sym, subst, arith, nat_tests, named, names_of}
+use Rattle.std.proofs.Common.{string_bytes}
 use Rattle.link_pair.proofs.Reading.{none-few, none-many, listed}
 use Rattle.link_pair.proofs.words.pair_words.Goals.{in_default-via-then-words-lt11, in_default-via-else-words-lt11+else-words-lt12}
 use Rattle.link_pair.proofs.words.pair_words.Goals as goal

@@ -1,6 +1,4 @@
-use Rattle.std.proofs.Common.{sym, subst}
-use Rattle.exact_decoder.specs.Laws.{IsOnlyLeast}
-use Rattle.noise_bound.specs.Noiseless.{v32_from}
+use Rattle.noise_bound.proofs.Names.{sym, subst, IsOnlyLeast, v32_from}
 use Rattle.noise_bound.proofs.Followed.{only-least}
 use Rattle.noise_bound.proofs.noiseless.only_the_sent_labels_are_least.Goals as goal
 

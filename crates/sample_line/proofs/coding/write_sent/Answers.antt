@@ -1,4 +1,4 @@
-use Rattle.sample_line.proofs.Names.{◌∙◌, ◌*◌, ◌-◌, ◌≤◌, ℕ, List, [], ◌∷◌, ◌++◌, length, Some, sym, ap, subst, WriterStands, slot_bits}
+use Rattle.sample_line.proofs.Names.{◌≡◌, ◌∙◌, ◌*◌, ◌-◌, ◌≤◌, ℕ, List, [], ◌∷◌, ◌++◌, length, Some, sym, ap, subst, WriterStands, slot_bits}
 use Rattle.sample_line.proofs.Names.{slot_of, Sent, signal_of, IsCodable}
 use Rattle.bit_stuffing.specs.declared.slot_writer.TheConstants.{TAIL}
 use Rattle.bit_stuffing.specs.Slots.{opening}

@@ -1,5 +1,4 @@
-use Rattle.std.proofs.Common.{◌≡◌, ◌+◌, ◌*◌, ◌++◌, length, take}
-use Rattle.recordings.specs.Samples.{samples_in}
+use Rattle.signal_commands.proofs.Names.{◌≡◌, ◌+◌, ◌*◌, ◌++◌, length, take, samples_in}
 use Rattle.signal_commands.proofs.batch.copy_samples.Given as goal
 
 abbrev pub invariant-loop-place : goal.invariant-loop-place

@@ -1,16 +1,8 @@
-use Rattle.std.proofs.Common.{[], sym, ap, subst, rules}
-use Rattle.outside_calls.specs.Folder.{FolderState}
+use Rattle.trace_audit.proofs.Names.{[], sym, ap, subst, rules, EndCounts, AsksInOctets, Written, outputs_of, written, link_of, WorldAfter}
+use Rattle.trace_audit.proofs.Names.{start, ScriptValue, OnlyReads-refl, FolderState, RunIs, audit_inputs, AuditNames, named}
 use Rattle.outside_calls.specs.Outputs.{AreApartFrom}
-use Rattle.outside_calls.proofs.Steps.{OnlyReads-refl, FaultsStand-refl}
-use Rattle.noise_script.specs.Script.{ScriptValue}
-use Rattle.link_run.specs.Run.{start}
-use Rattle.line_run.specs.Scripted.{link_of}
-use Rattle.line_run.specs.Names.{Written, inputs_of, outputs_of, written}
-use Rattle.line_world.specs.World.{WorldAfter}
-use Rattle.line_ends.specs.Plain.{AsksInOctets}
-use Rattle.command_base.specs.Stops.{EndCounts}
-use Rattle.trace_audit.specs.Words.{AuditNames, named}
-use Rattle.trace_audit.specs.Turns.{RunIs, audit_inputs}
+use Rattle.outside_calls.proofs.Steps.{FaultsStand-refl}
+use Rattle.line_run.specs.Names.{inputs_of}
 use Rattle.trace_audit.proofs.Opening.{ends-so, end-turns, no-memory}
 use Rattle.trace_audit.proofs.command.audit_script.Goals as goal
 

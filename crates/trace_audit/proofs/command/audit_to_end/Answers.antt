@@ -1,7 +1,5 @@
-use Rattle.std.proofs.Common.{[]}
-use Rattle.outside_calls.proofs.Steps.{OnlyReads-trans}
+use Rattle.trace_audit.proofs.Names.{[], OnlyReads-trans, named, inputs_of}
 use Rattle.command_base.proofs.Jobs.{end-earlier}
-use Rattle.trace_audit.specs.Words.{named, inputs_of}
 use Rattle.trace_audit.proofs.command.audit_to_end.Goals as goal
 
 pub audit_script-requires : goal.audit_script-requires

@@ -1,7 +1,4 @@
-use Rattle.std.proofs.Common.{[], rules}
-use Rattle.outside_calls.proofs.Steps.{OnlyReads-trans, CountsStand-trans}
-use Rattle.command_base.proofs.Jobs.{stop-earlier}
-use Rattle.trace_audit.specs.Words.{AuditNames, named, inputs_of}
+use Rattle.trace_audit.proofs.Names.{[], rules, stop-earlier, OnlyReads-trans, CountsStand-trans, AuditNames, named, inputs_of}
 use Rattle.trace_audit.proofs.Opening.{refused-first, refused-trace, counts-first, counts-trace}
 use Rattle.trace_audit.proofs.command.open_all.Goals as goal
 use Rattle.command_base.proofs.Reading.{within-earlier}

@@ -1,9 +1,5 @@
-use Rattle.std.proofs.Common.{◌≢◌, ℕ, List, [], ◌∷◌, sym, ◌∙◌}
-use Rattle.std.specs.Prelude.{IsTrue}
-use Rattle.outside_calls.specs.Folder.{FolderState}
-use Rattle.trace_audit.specs.Compared.{audited}
-use Rattle.outside_calls.proofs.Steps.{OnlyReads-refl, OnlyReads-trans, CountsStand-refl, CountsStand-trans}
-use Rattle.command_base.proofs.Jobs.{stop-earlier}
+use Rattle.trace_audit.proofs.Names.{◌≢◌, ℕ, List, [], ◌∷◌, sym, ◌∙◌, IsTrue, stop-earlier, OnlyReads-refl, OnlyReads-trans}
+use Rattle.trace_audit.proofs.Names.{CountsStand-refl, CountsStand-trans, FolderState, audited}
 use Rattle.trace_audit.proofs.Windows.{empty, full}
 use Rattle.trace_audit.proofs.Splitting.{midway-start, next, next-line, next-few, shorter, midway-on, all-compared, all-counted}
 use Rattle.trace_audit.proofs.Splitting.{compared-later}

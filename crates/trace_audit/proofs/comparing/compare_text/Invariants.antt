@@ -1,7 +1,4 @@
-use Rattle.std.proofs.Common.{length}
-use Rattle.std.specs.Prelude.{IsTrue}
-use Rattle.outside_calls.specs.Folder.{OnlyReads, CountsStand}
-use Rattle.trace_audit.specs.Compared.{audited}
+use Rattle.trace_audit.proofs.Names.{length, IsTrue, OnlyReads, CountsStand, audited}
 use Rattle.trace_audit.proofs.Splitting.{Midway}
 use Rattle.trace_audit.proofs.comparing.compare_text.Given as goal
 

@@ -1,6 +1,4 @@
-use Rattle.std.proofs.Common.{sym, ◌∙◌, arith}
-use Rattle.outside_calls.specs.Folder.{octets_at}
-use Rattle.trace_audit.specs.Compared.{trace_limit}
+use Rattle.trace_audit.proofs.Names.{sym, ◌∙◌, arith, octets_at, trace_limit}
 use Rattle.trace_audit.proofs.ReadOn.{window-read, window-none}
 use Rattle.trace_audit.proofs.comparing.read_on.Goals as goal
 

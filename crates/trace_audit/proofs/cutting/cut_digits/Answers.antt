@@ -1,5 +1,4 @@
-use Rattle.std.proofs.Common.{◌∙◌, sym}
-use Rattle.noise_script.specs.Numbers.{is_digit}
+use Rattle.trace_audit.proofs.Names.{◌∙◌, sym, is_digit}
 use Rattle.trace_audit.proofs.Fronts.{cut-front, cut-rest, whole-front, whole-rest}
 use Rattle.trace_audit.proofs.cutting.cut_digits.Goals as goal
 

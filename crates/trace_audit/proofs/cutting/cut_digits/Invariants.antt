@@ -1,6 +1,4 @@
-use Rattle.std.proofs.Common.{◌≡◌, true, take}
-use Rattle.std.specs.List.{list_all}
-use Rattle.noise_script.specs.Numbers.{is_digit}
+use Rattle.trace_audit.proofs.Names.{◌≡◌, true, take, list_all, is_digit}
 use Rattle.trace_audit.proofs.cutting.cut_digits.Given as goal
 
 abbrev pub invariant-loop-at : goal.invariant-loop-at

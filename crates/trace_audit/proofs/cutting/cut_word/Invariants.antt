@@ -1,6 +1,4 @@
-use Rattle.std.proofs.Common.{◌≡◌, true, take}
-use Rattle.std.specs.List.{list_all}
-use Rattle.trace_audit.specs.Cutting.{is_no_space}
+use Rattle.trace_audit.proofs.Names.{◌≡◌, true, take, list_all, is_no_space}
 use Rattle.trace_audit.proofs.cutting.cut_word.Given as goal
 
 abbrev pub invariant-loop-at : goal.invariant-loop-at

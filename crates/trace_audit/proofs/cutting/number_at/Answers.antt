@@ -1,6 +1,4 @@
-use Rattle.std.proofs.Common.{◌∙◌, ap}
-use Rattle.std.specs.Option.{option_map}
-use Rattle.noise_script.specs.Numbers.{plain_number}
+use Rattle.trace_audit.proofs.Names.{◌∙◌, ap, option_map, plain_number}
 use Rattle.trace_audit.proofs.Numbers.{read-none, read-below, read-past}
 use Rattle.trace_audit.proofs.cutting.number_at.Goals as goal
 

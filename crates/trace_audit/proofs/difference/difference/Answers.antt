@@ -1,7 +1,5 @@
-use Rattle.std.proofs.Common.{◌∙◌, sym, ap, subst, List, ℕ, ◌++◌, drop, length}
-use Rattle.std.proofs.lemmas.Bool.Decides.{Decides-eqb}
+use Rattle.trace_audit.proofs.Names.{◌∙◌, sym, ap, subst, List, ℕ, ◌++◌, drop, length, Decides-eqb, OwnDiffers}
 use Rattle.std.proofs.lemmas.Slice.Eq.{starts_is}
-use Rattle.trace_audit.specs.Differences.{OwnDiffers}
 use Rattle.trace_audit.proofs.Windows.{stops-fed, goes-on, stops-within, departs, equal, unequal, empty, full, false-no}
 use Rattle.trace_audit.proofs.difference.difference.Goals as goal
 use Rattle.trace_audit.proofs.difference.difference.Goals.{else-is_empty-2-via-then-is_empty-2+else-starts_with}

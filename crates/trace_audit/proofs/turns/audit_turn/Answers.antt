@@ -1,9 +1,5 @@
-use Rattle.std.proofs.Common.{List, ℕ, [], sym, ◌∙◌, subst, rules}
-use Rattle.outside_calls.proofs.Steps.{OnlyReads-trans, CountsStand-trans}
-use Rattle.line_run.specs.Names.{Written, written}
-use Rattle.trace_audit.specs.Differences.{IsCut}
-use Rattle.command_base.proofs.Jobs.{stop-earlier}
-use Rattle.trace_audit.specs.Turns.{audit_inputs}
+use Rattle.trace_audit.proofs.Names.{List, ℕ, [], sym, ◌∙◌, subst, rules, stop-earlier, Written, written, OnlyReads-trans}
+use Rattle.trace_audit.proofs.Names.{CountsStand-trans, IsCut, audit_inputs}
 use Rattle.trace_audit.proofs.Running.{turn-few, turn-compared, trace-counts, files-counts, same-ok, no-ok}
 use Rattle.trace_audit.proofs.turns.audit_turn.Goals as goal
 

@@ -1,11 +1,6 @@
-use Rattle.std.proofs.Common.{Bool, Ok, [], refl, sym, ◌∙◌, ap, subst, rules}
-use Rattle.outside_calls.proofs.Steps.{OnlyReads-refl, OnlyReads-trans, CountsStand-refl, CountsStand-trans}
-use Rattle.line_run.specs.Names.{written}
-use Rattle.line_world.specs.World.{turn_of}
+use Rattle.trace_audit.proofs.Names.{Bool, Ok, [], refl, sym, ◌∙◌, ap, subst, rules, stop-earlier, AsksInOctets, written, turn_of}
+use Rattle.trace_audit.proofs.Names.{OnlyReads-refl, OnlyReads-trans, CountsStand-refl, CountsStand-trans, AreCompared, audit_inputs}
 use Rattle.line_world.proofs.Reached.{nearer}
-use Rattle.line_ends.specs.Plain.{AsksInOctets}
-use Rattle.command_base.proofs.Jobs.{stop-earlier}
-use Rattle.trace_audit.specs.Turns.{AreCompared, audit_inputs}
 use Rattle.trace_audit.proofs.Running.{compared-none}
 use Rattle.trace_audit.proofs.turns.audit_turns.Goals as goal
 

@@ -1,8 +1,5 @@
-use Rattle.std.proofs.Common.{◌≡◌, ◌-◌, ◌^◌, true}
-use Rattle.outside_calls.specs.Folder.{OnlyReads, CountsStand}
-use Rattle.line_run.specs.Names.{written}
-use Rattle.line_world.specs.World.{IsReady, script_of, turn_of}
-use Rattle.trace_audit.specs.Turns.{AreCompared}
+use Rattle.trace_audit.proofs.Names.{◌≡◌, ◌-◌, ◌^◌, true, written, script_of, turn_of, OnlyReads, CountsStand, AreCompared}
+use Rattle.line_world.specs.World.{IsReady}
 use Rattle.trace_audit.proofs.turns.audit_turns.Given as goal
 
 abbrev pub invariant-loop-comparison : goal.invariant-loop-comparison

@@ -1,13 +1,5 @@
-use Rattle.std.proofs.Common.{Result, ℕ, [], sym, subst}
-use Rattle.outside_calls.specs.Folder.{FolderState}
-use Rattle.outside_calls.proofs.Steps.{OnlyReads-trans, CountsStand-trans}
-use Rattle.noise_script.specs.Script.{ScriptValue}
-use Rattle.line_run.specs.Names.{Written, written}
-use Rattle.line_world.specs.World.{script_of}
-use Rattle.command_base.specs.declared.stop.Stop.{Stop}
-use Rattle.command_base.specs.Stops.{EndCounts}
-use Rattle.command_base.proofs.Jobs.{stop-earlier}
-use Rattle.trace_audit.specs.Turns.{RunIs, audit_inputs}
+use Rattle.trace_audit.proofs.Names.{Result, ℕ, [], sym, subst, stop-earlier, EndCounts, Stop, Written, written, script_of, ScriptValue}
+use Rattle.trace_audit.proofs.Names.{OnlyReads-trans, CountsStand-trans, FolderState, RunIs, audit_inputs}
 use Rattle.trace_audit.proofs.Running.{end-few, ends-so, stops-so, found-counts, trace-counts}
 use Rattle.trace_audit.proofs.turns.audit_world.Goals as goal
 

@@ -1,6 +1,4 @@
-use Rattle.std.proofs.Common.{sym, ◌∙◌, ap, Ok, Err, Bool}
-use Rattle.line_run.specs.Names.{written}
-use Rattle.line_world.specs.World.{turn_of}
+use Rattle.trace_audit.proofs.Names.{sym, ◌∙◌, ap, Ok, Err, Bool, written, turn_of}
 use Rattle.line_world.specs.Turn.{turns_made}
 use Rattle.trace_audit.proofs.Turning.{LineLaws, made, stops-reading, end-counts, going-step}
 use Rattle.trace_audit.proofs.watching.make_turn.Goals as goal

@@ -1,5 +1,4 @@
-use Rattle.std.proofs.Common.{◌≡◌, ◌<◌, ◌^◌, take}
-use Rattle.xid_params.specs.Parts.{number_of}
+use Rattle.xid_params.proofs.Names.{◌≡◌, ◌<◌, ◌^◌, take, number_of}
 use Rattle.xid_params.proofs.parameter.number.Given as goal
 
 abbrev pub invariant-loop-octet : goal.invariant-loop-octet

@@ -1,5 +1,4 @@
-use Rattle.std.proofs.Common.{◌≡◌, true, false, nat_eq, arith}
-use Rattle.std.proofs.lemmas.Bool.Decides.{nat_tests}
+use Rattle.xid_params.proofs.Names.{◌≡◌, true, false, nat_eq, arith, nat_tests}
 use Rattle.xid_params.proofs.Groups.{offers-other, offers-first}
 use Rattle.xid_params.proofs.reader.behind_group.Goals as goal
 

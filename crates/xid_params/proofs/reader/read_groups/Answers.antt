@@ -1,5 +1,4 @@
-use Rattle.std.proofs.Common.{arith, refl}
-use Rattle.std.proofs.lemmas.Result.{err_from_is_err_and}
+use Rattle.xid_params.proofs.Names.{arith, refl, err_from_is_err_and}
 use Rattle.xid_params.proofs.Groups.{second-exit, cut-group-exit, inner-exit, groups-more, group-room}
 use Rattle.xid_params.proofs.reader.read_groups.Goals as goal
 

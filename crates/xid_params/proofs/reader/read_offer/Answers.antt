@@ -1,7 +1,4 @@
-use Rattle.std.proofs.Common.{◌≡◌, ◌∷◌, arith, sym, ◌∙◌, ap, subst}
-use Rattle.std.specs.Prelude.{IfOk, IfErr}
-use Rattle.xid_params.specs.Offers.{OfferSpelling}
-use Rattle.xid_params.specs.Faults.{FirstFault}
+use Rattle.xid_params.proofs.Names.{◌≡◌, ◌∷◌, arith, sym, ◌∙◌, ap, subst, IfOk, IfErr, FirstFault, OfferSpelling}
 use Rattle.xid_params.proofs.Exact.{all-offers, all-faults, same-found, all-allowed}
 use Rattle.xid_params.proofs.reader.read_offer.Goals as goal
 use Rattle.xid_params.proofs.reader.read_offer.Goals.{After-read_groups}

@@ -1,6 +1,4 @@
-use Rattle.std.proofs.Common.{arith, refl}
-use Rattle.std.proofs.lemmas.Bool.{false≢true}
-use Rattle.std.proofs.lemmas.Result.{err_from_is_err_and}
+use Rattle.xid_params.proofs.Names.{arith, refl, false≢true, err_from_is_err_and}
 use Rattle.xid_params.proofs.Parameters.{repeated-exit, cut-exit, identified-exit, passed-more, whole-room}
 use Rattle.xid_params.proofs.reader.read_parameters.Goals as goal
 

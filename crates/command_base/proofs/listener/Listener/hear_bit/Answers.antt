@@ -1,7 +1,6 @@
-use Rattle.std.proofs.Common.{◌∙◌, ◌+◌, Bool, List, [], ◌∷◌, ◌++◌, Ok, refl, sym, subst}
-use Rattle.outside_calls.specs.Folder.{FolderState}
+use Rattle.command_base.proofs.Names.{◌∙◌, ◌+◌, Bool, List, [], ◌∷◌, ◌++◌, Ok, refl, sym, subst, Listening, Hears, FolderState}
 use Rattle.command_base.proofs.Saying.{on-err-map, on-ok-map}
-use Rattle.command_base.specs.Heard.{Listening, Hears, SaysPiece, PartlySaysPiece}
+use Rattle.command_base.specs.Heard.{SaysPiece, PartlySaysPiece}
 use Rattle.command_base.proofs.Hearing.{FoundThere, found-there, pieces-same, hears-quiet, heard-some, left-some}
 use Rattle.command_base.proofs.listener.Listener.hear_bit.Goals as goal
 

@@ -1,10 +1,5 @@
-use Rattle.std.proofs.Common.{◌∙◌, ◌+◌, ◌≤◌, ◌/◌, ◌^◌, Bool, List, [], ◌∷◌, ◌++◌, Ok, Err, length, take, drop, nat_eq}
-use Rattle.std.proofs.Common.{bit_and, ap, subst, arith}
-use Rattle.std.proofs.lemmas.List.{take_all, take-append-drop}
-use Rattle.outside_calls.specs.Folder.{FolderState}
-use Rattle.frame_check.specs.Bits.{low_bits}
-use Rattle.frame_check.proofs.BitLists.{length-low_bits}
-use Rattle.command_base.specs.Heard.{Hears}
+use Rattle.command_base.proofs.Names.{◌∙◌, ◌+◌, ◌≤◌, ◌/◌, ◌^◌, Bool, List, [], ◌∷◌, ◌++◌, Ok, Err, length, take, drop, nat_eq, bit_and, ap}
+use Rattle.command_base.proofs.Names.{subst, arith, take_all, take-append-drop, Hears, length-low_bits, low_bits, FolderState}
 use Rattle.command_base.proofs.Hearing.{bit-more, hears-none, hears-on, hears-part}
 use Rattle.command_base.proofs.listener.Listener.hear_each.Goals as goal
 

@@ -1,6 +1,4 @@
-use Rattle.std.proofs.Common.{◌≤◌, ◌+◌, Ok, take}
-use Rattle.frame_check.specs.Bits.{low_bits}
-use Rattle.command_base.specs.Heard.{Hears}
+use Rattle.command_base.proofs.Names.{◌≤◌, ◌+◌, Ok, take, Hears, low_bits}
 use Rattle.command_base.proofs.listener.Listener.hear_each.Given as goal
 
 abbrev pub invariant-loop-place : goal.invariant-loop-place

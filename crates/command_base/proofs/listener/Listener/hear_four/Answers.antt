@@ -1,7 +1,4 @@
-use Rattle.std.proofs.Common.{Ok, refl, subst}
-use Rattle.outside_calls.specs.Folder.{FolderState}
-use Rattle.frame_check.specs.Bits.{low_bits}
-use Rattle.command_base.specs.Heard.{Listening, Hears}
+use Rattle.command_base.proofs.Names.{Ok, refl, subst, Listening, Hears, low_bits, FolderState}
 use Rattle.command_base.proofs.Hearing.{hears-quiet}
 use Rattle.command_base.proofs.listener.Listener.hear_four.Goals as goal
 

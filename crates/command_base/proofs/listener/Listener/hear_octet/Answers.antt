@@ -1,8 +1,6 @@
-use Rattle.std.proofs.Common.{◌≡◌, ◌∙◌, ◌%◌, ◌/◌, Bool, List, Ok, Err, refl, ap, subst}
-use Rattle.outside_calls.specs.Folder.{FolderState}
-use Rattle.frame_check.specs.Bits.{low_bits, octet_bits}
+use Rattle.command_base.proofs.Names.{◌≡◌, ◌∙◌, ◌%◌, ◌/◌, Bool, List, Ok, Err, refl, ap, subst, Listening, Hears, low_bits, octet_bits}
+use Rattle.command_base.proofs.Names.{FolderState}
 use Rattle.bit_stuffing.specs.Deframer.{Kept}
-use Rattle.command_base.specs.Heard.{Listening, Hears}
 use Rattle.command_base.proofs.Hearing.{octet-fours, hears-quiet, hears-on, hears-part}
 use Rattle.command_base.proofs.listener.Listener.hear_octet.Goals as goal
 

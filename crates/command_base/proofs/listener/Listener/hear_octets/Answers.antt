@@ -1,8 +1,5 @@
-use Rattle.std.proofs.Common.{Ok, Err, ◌∙◌, ℕ, ◌+◌, ◌*◌, ◌-◌, ◌^◌, ◌<◌, ◌≤◌, Bool, List, ◌++◌, length, take, drop, get_or, ap, subst, arith}
-use Rattle.std.proofs.lemmas.List.{take_all}
-use Rattle.outside_calls.specs.Folder.{FolderState}
-use Rattle.frame_check.specs.Bits.{octet_bits, bits_of}
-use Rattle.command_base.specs.Heard.{Hears}
+use Rattle.command_base.proofs.Names.{Ok, Err, ◌∙◌, ℕ, ◌+◌, ◌*◌, ◌-◌, ◌^◌, ◌<◌, ◌≤◌, Bool, List, ◌++◌, length, take, drop, get_or, ap}
+use Rattle.command_base.proofs.Names.{subst, arith, take_all, Hears, octet_bits, bits_of, FolderState}
 use Rattle.command_base.proofs.Hearing.{octet-more, octets-left, hears-none, hears-on, hears-part}
 use Rattle.command_base.proofs.listener.Listener.hear_octets.Goals as goal
 

@@ -1,6 +1,4 @@
-use Rattle.std.proofs.Common.{◌≤◌, ◌+◌, ◌*◌, Ok, take}
-use Rattle.frame_check.specs.Bits.{bits_of}
-use Rattle.command_base.specs.Heard.{Hears}
+use Rattle.command_base.proofs.Names.{◌≤◌, ◌+◌, ◌*◌, Ok, take, Hears, bits_of}
 use Rattle.command_base.proofs.listener.Listener.hear_octets.Given as goal
 
 abbrev pub invariant-loop-octet : goal.invariant-loop-octet

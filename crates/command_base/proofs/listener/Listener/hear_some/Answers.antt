@@ -1,7 +1,4 @@
-use Rattle.std.proofs.Common.{Bool, List, ℕ, sym, subst}
-use Rattle.outside_calls.specs.Folder.{FolderState}
-use Rattle.frame_check.specs.Bits.{low_bits}
-use Rattle.command_base.specs.Heard.{Hears}
+use Rattle.command_base.proofs.Names.{Bool, List, ℕ, sym, subst, Hears, low_bits, FolderState}
 use Rattle.command_base.proofs.Hearing.{low-four}
 use Rattle.command_base.proofs.listener.Listener.hear_some.Goals as goal
 

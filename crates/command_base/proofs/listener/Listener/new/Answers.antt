@@ -1,5 +1,4 @@
-use Rattle.std.proofs.Common.{refl}
-use Rattle.command_base.specs.Heard.{Listening}
+use Rattle.command_base.proofs.Names.{refl, Listening}
 use Rattle.command_base.proofs.Hearing.{heard-nothing, said-nothing}
 use Rattle.command_base.proofs.listener.Listener.new.Goals as goal
 

@@ -1,9 +1,7 @@
-use Rattle.std.proofs.Common.{◌≡◌, ◌≢◌, ℕ, zero, suc, ◌+◌, ◌≤◌, max, List, [], arith, refl, lit≤, lit<}
-use Rattle.shared_terms.specs.declared.role.Role.TheVariants.{Answerer}
-use Rattle.link_run.specs.Run.{Turn}
-use Rattle.link_run.specs.Starved.{IsStarved, SpanLoses}
-use Rattle.command_laws.specs.Worked.Made.{all_turns, runs}
-use Rattle.command_laws.specs.Worked.RunSettings.{way, loses, hundred_each, one_octet_each, one_break}
+use Rattle.command_laws.proofs.Names.{◌≡◌, ◌≢◌, ℕ, zero, suc, ◌+◌, ◌≤◌, List, [], arith, refl, all_turns, runs, Turn, Answerer}
+use Rattle.std.proofs.Common.{max, lit≤, lit<}
+use Rattle.link_run.specs.Starved.{SpanLoses}
+use Rattle.command_laws.specs.Worked.RunSettings.{way, loses, hundred_each}
 use Rattle.command_laws.specs.Worked.RunTraces.{OneLossStarvesNone}
 use Rattle.command_laws.proofs.worked.runs.starved_runs.Goals as goal
 

@@ -1,6 +1,5 @@
-use Rattle.std.proofs.Common.{lit≤, sym, subst}
+use Rattle.detection.proofs.Names.{lit≤, sym, subst, ReaderStands}
 use Rattle.frame_check.specs.Bits.{octet_bits}
-use Rattle.detection.specs.Reader.{ReaderStands}
 use Rattle.detection.proofs.Quiet.{none-seen}
 use Rattle.detection.proofs.reader.PatternReader.behind.Goals as goal
 

@@ -1,6 +1,4 @@
-use Rattle.std.proofs.Common.{lit≤, sym, subst}
-use Rattle.frame_check.specs.Bits.{low_bits}
-use Rattle.detection.specs.Reader.{ReaderStands}
+use Rattle.detection.proofs.Names.{lit≤, sym, subst, ReaderStands, low_bits}
 use Rattle.detection.proofs.Quiet.{none-seen}
 use Rattle.detection.proofs.reader.PatternReader.pass_four.Goals as goal
 

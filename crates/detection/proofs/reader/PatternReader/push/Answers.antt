@@ -1,7 +1,5 @@
-use Rattle.std.proofs.Common.{ℕ, Bool, List, [], ◌∷◌, ◌++◌, rules, sym, ◌∙◌, subst}
-use Rattle.std.proofs.lemmas.Bool.{false≢true}
-use Rattle.detection.specs.Patterns.{IsSeen}
-use Rattle.detection.specs.Reader.{ReaderStands}
+use Rattle.detection.proofs.Names.{ℕ, Bool, List, [], ◌∷◌, ◌++◌, sym, ◌∙◌, subst, false≢true, IsSeen, ReaderStands}
+use Rattle.std.proofs.Common.{rules}
 use Rattle.detection.proofs.Registers.{reader-shifted}
 use Rattle.detection.proofs.Answered.{seen-none, seen-once}
 use Rattle.detection.proofs.reader.PatternReader.push.Goals as goal

@@ -1,5 +1,4 @@
-use Rattle.std.proofs.Common.{map, string_bytes}
-use Rattle.frame_commands.specs.Listing.Words.{named}
+use Rattle.frame_commands.proofs.Names.{map, string_bytes, named}
 use Rattle.frame_commands.proofs.Listing.Headline.{headline-of, completes-of}
 use Rattle.frame_commands.proofs.frames.command.frames.Goals as goal
 

@@ -1,5 +1,4 @@
-use Rattle.std.proofs.Common.{◌∙◌, Err}
-use Rattle.outside_calls.specs.Folder.{FolderState}
+use Rattle.frame_commands.proofs.Names.{◌∙◌, Err, FolderState}
 use Rattle.command_base.proofs.Jobs.{answers-done, answers-stopped}
 use Rattle.frame_commands.proofs.Listing.Headline.{refused-by}
 use Rattle.frame_commands.proofs.frames.command.list_and_tell.Goals as goal

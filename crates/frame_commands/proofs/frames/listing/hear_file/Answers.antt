@@ -1,8 +1,5 @@
-use Rattle.std.proofs.Common.{[], arith}
-use Rattle.outside_calls.specs.Folder.{FolderState}
-use Rattle.outside_calls.proofs.Steps.{CountsStand-refl, CountsStand-trans}
-use Rattle.outside_calls.proofs.OnlyOutputs.{OnlyOutputs-refl, OnlyOutputs-trans}
-use Rattle.frame_commands.specs.Listing.Words.{named}
+use Rattle.frame_commands.proofs.Names.{[], arith, named, OnlyOutputs-refl, OnlyOutputs-trans, CountsStand-refl, CountsStand-trans}
+use Rattle.frame_commands.proofs.Names.{FolderState}
 use Rattle.frame_commands.proofs.Listing.Listed.{heard-none-yet}
 use Rattle.frame_commands.proofs.frames.listing.hear_file.Goals as goal
 

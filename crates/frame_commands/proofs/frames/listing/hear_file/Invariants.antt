@@ -1,9 +1,6 @@
-use Rattle.std.proofs.Common.{◌≤◌, ◌-◌, ◌*◌, []}
-use Rattle.outside_calls.specs.Folder.{FolderState, CountsStand}
-use Rattle.shared_terms.specs.declared.limits.TheConstants.{FILE_LIMIT}
-use Rattle.outside_calls.specs.Outputs.{OnlyOutputs}
-use Rattle.frame_commands.specs.Listing.Words.{named}
-use Rattle.frame_commands.specs.Listing.Heard.{Begun, HeardTo}
+use Rattle.frame_commands.proofs.Names.{◌≤◌, ◌*◌, [], Begun, HeardTo, named, FolderState, OnlyOutputs, FILE_LIMIT}
+use Rattle.std.proofs.Common.{◌-◌}
+use Rattle.outside_calls.specs.Folder.{CountsStand}
 use Rattle.frame_commands.proofs.frames.listing.hear_file.Given as goal
 
 abbrev pub invariant-loop-listener : goal.invariant-loop-listener

@@ -1,11 +1,7 @@
-use Rattle.std.proofs.Common.{◌≡◌, inr, ℕ, ◌<◌, [], ◌∷◌, ◌++◌, IsTrue, take, subst, arith}
-use Rattle.outside_calls.specs.Folder.{octets_at}
-use Rattle.outside_calls.proofs.Steps.{CountsStand-trans}
-use Rattle.outside_calls.proofs.OnlyOutputs.{OnlyOutputs-reads, OnlyOutputs-says, OnlyOutputs-trans}
-use Rattle.command_base.specs.declared.stop.Stop.TheVariants.{Say}
+use Rattle.frame_commands.proofs.Names.{◌≡◌, inr, ℕ, ◌<◌, [], ◌++◌, IsTrue, subst, arith, Say, HeardTo, named, OnlyOutputs-reads}
+use Rattle.frame_commands.proofs.Names.{OnlyOutputs-says, OnlyOutputs-trans, CountsStand-trans, octets_at}
+use Rattle.std.proofs.Common.{◌∷◌, take}
 use Rattle.command_base.proofs.Jobs.{stop-earlier}
-use Rattle.frame_commands.specs.Listing.Words.{named}
-use Rattle.frame_commands.specs.Listing.Heard.{HeardTo}
 use Rattle.frame_commands.proofs.Listing.Listed.{heard-part, heard-still, heard-more, heard-whole, say-part}
 use Rattle.frame_commands.proofs.frames.listing.hear_next.Goals as goal
 

@@ -1,5 +1,4 @@
-use Rattle.outside_calls.specs.Folder.{FolderState}
-use Rattle.frame_commands.specs.Listing.Words.{named}
+use Rattle.frame_commands.proofs.Names.{named, FolderState}
 use Rattle.command_base.proofs.Hearing.{said-nothing}
 use Rattle.frame_commands.proofs.Listing.Listed.{not-begun}
 use Rattle.frame_commands.proofs.frames.listing.list_pieces.Goals as goal

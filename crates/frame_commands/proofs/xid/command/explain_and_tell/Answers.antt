@@ -1,7 +1,4 @@
-use Rattle.std.proofs.Common.{◌∙◌, ℕ, List, map, string_bytes, subst}
-use Rattle.outside_calls.specs.Folder.{FolderState}
-use Rattle.command_base.specs.declared.status.Status.TheVariants.{Done}
-use Rattle.command_base.specs.Tells.{Tells}
+use Rattle.frame_commands.proofs.Names.{◌∙◌, ℕ, List, map, string_bytes, subst, Tells, Done, FolderState}
 use Rattle.frame_commands.proofs.Explaining.Completes.{explained, not-explained}
 use Rattle.frame_commands.proofs.xid.command.explain_and_tell.Goals as goal
 

@@ -1,6 +1,4 @@
-use Rattle.std.proofs.Common.{map, string_bytes}
-use Rattle.command_base.proofs.Jobs.{shared-of}
-use Rattle.frame_commands.specs.Explaining.Ends.{xid_job}
+use Rattle.frame_commands.proofs.Names.{map, string_bytes, shared-of, xid_job}
 use Rattle.frame_commands.proofs.Explaining.Completes.{completes-of}
 use Rattle.frame_commands.proofs.xid.command.xid.Goals as goal
 

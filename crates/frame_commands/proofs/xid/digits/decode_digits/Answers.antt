@@ -1,5 +1,4 @@
-use Rattle.std.proofs.Common.{sym, subst}
-use Rattle.frame_commands.specs.Explaining.Digits.{IsBadHex}
+use Rattle.frame_commands.proofs.Names.{sym, subst, IsBadHex}
 use Rattle.frame_commands.proofs.Explaining.Decoding.{written-err, why}
 use Rattle.frame_commands.proofs.xid.digits.decode_digits.Goals as goal
 

@@ -1,5 +1,4 @@
-use Rattle.std.proofs.Common.{sym, ap}
-use Rattle.frame_commands.specs.Explaining.Digits.{place_named}
+use Rattle.frame_commands.proofs.Names.{sym, ap, place_named}
 use Rattle.frame_commands.proofs.xid.digits.place_named.Goals as goal
 
 pub returns-in-InvalidHexCharacter : goal.returns-in-InvalidHexCharacter

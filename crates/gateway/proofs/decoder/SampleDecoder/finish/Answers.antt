@@ -1,10 +1,5 @@
-use Rattle.std.proofs.Common.{ℕ, ◌++◌, List, subst}
-use Rattle.line_coding.specs.Demodulates.{DemodulatorStands}
+use Rattle.gateway.proofs.Names.{ℕ, ◌++◌, List, subst, at_beginning, given, Read, ReadsAs, AnyReader, DemodulatorStands}
 use Rattle.rate_4800.specs.Demodulates.{DemodulatorStands as QuarterDemodulatorStands}
-use Rattle.exact_decoder.specs.Surviving.V32.{at_beginning}
-use Rattle.gateway.specs.declared.any_reader.AnyReader.{AnyReader}
-use Rattle.gateway.specs.Given.{given}
-use Rattle.gateway.specs.Reads.{Read, ReadsAs}
 use Rattle.gateway.proofs.Ending.{begun-ends, quarters-end}
 use Rattle.gateway.proofs.decoder.SampleDecoder.finish.Goals as goal
 

@@ -1,8 +1,5 @@
-use Rattle.std.proofs.Common.{◌≡◌, ◌∙◌, ◌≤◌, ◌++◌, List, length, take, refl, subst, arith}
-use Rattle.std.proofs.lemmas.List.{length-take-le}
-use Rattle.symbol_map.specs.declared.sample.Sample.{Sample}
-use Rattle.gateway.specs.Decoded.{HasDecoded}
-use Rattle.gateway.specs.Given.{given, samples_in}
+use Rattle.gateway.proofs.Names.{◌≡◌, ◌∙◌, ◌≤◌, ◌++◌, List, length, take, refl, subst, arith, length-take-le, HasDecoded, given, samples_in}
+use Rattle.gateway.proofs.Names.{Sample}
 use Rattle.gateway.proofs.Decoded.{some-more, decoded-given}
 use Rattle.gateway.proofs.decoder.SampleDecoder.push.Goals as goal
 

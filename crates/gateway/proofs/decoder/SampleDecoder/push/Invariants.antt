@@ -1,9 +1,5 @@
-use Rattle.std.proofs.Common.{◌≡◌, ◌+◌, ◌-◌, ◌/◌, ◌≤◌, ◌++◌, Bool, List, length}
-use Rattle.scramblers.specs.declared.mode.Mode.{Mode}
-use Rattle.symbol_map.specs.declared.sample.Sample.{Sample}
-use Rattle.gateway.specs.declared.any_reader.LineKind.{LineKind}
-use Rattle.gateway.specs.Decoded.{HasDecoded}
-use Rattle.gateway.specs.Given.{given, samples_in, AreBits}
+use Rattle.gateway.proofs.Names.{◌≡◌, ◌+◌, ◌-◌, ◌/◌, ◌≤◌, ◌++◌, Bool, List, length, HasDecoded, given, samples_in, AreBits, LineKind, Mode}
+use Rattle.gateway.proofs.Names.{Sample}
 use Rattle.gateway.proofs.decoder.SampleDecoder.push.Given as goal
 
 abbrev pub invariant-loop-read : goal.invariant-loop-read

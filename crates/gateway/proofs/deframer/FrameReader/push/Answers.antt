@@ -1,7 +1,5 @@
-use Rattle.std.proofs.Common.{ℕ, ◌+◌, ◌<◌, ◌≡◌, ◌++◌, Bool, List, length, ap, sym, subst, refl, ◌∙◌, arith}
-use Rattle.bit_stuffing.specs.Deframer.{DeframerStands}
-use Rattle.bit_stuffing.specs.Found.{answer_of}
-use Rattle.gateway.specs.Given.{heard}
+use Rattle.gateway.proofs.Names.{ℕ, ◌+◌, ◌<◌, ◌≡◌, ◌++◌, Bool, List, length, ap, sym, subst, refl, ◌∙◌, arith, DeframerStands, answer_of}
+use Rattle.gateway.proofs.Names.{heard}
 use Rattle.gateway.proofs.Hearing.{heard-more, length-heard-behind, none_more}
 use Rattle.gateway.proofs.deframer.FrameReader.push.Goals as goal
 

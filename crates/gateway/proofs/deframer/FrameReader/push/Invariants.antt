@@ -1,6 +1,4 @@
-use Rattle.std.proofs.Common.{◌≡◌, ◌++◌, Bool, List}
-use Rattle.bit_stuffing.specs.Deframer.{DeframerStands}
-use Rattle.gateway.specs.Given.{heard}
+use Rattle.gateway.proofs.Names.{◌≡◌, ◌++◌, Bool, List, DeframerStands, heard}
 use Rattle.gateway.specs.Frames.{NoneEnds}
 use Rattle.gateway.proofs.deframer.FrameReader.push.Given as goal
 

@@ -1,7 +1,5 @@
-use Rattle.std.proofs.Common.{◌+◌, ◌++◌, Bool, List, ap, sym, subst, refl, ◌∙◌, arith}
-use Rattle.detection.specs.Reader.{ReaderStands}
+use Rattle.gateway.proofs.Names.{◌+◌, ◌++◌, Bool, List, ap, sym, subst, refl, ◌∙◌, arith, ReaderStands, heard}
 use Rattle.detection.specs.Patterns.{seen_at}
-use Rattle.gateway.specs.Given.{heard}
 use Rattle.gateway.proofs.Hearing.{heard-more, none_more}
 use Rattle.gateway.proofs.detector.PatternDetector.push.Goals as goal
 

@@ -1,6 +1,4 @@
-use Rattle.std.proofs.Common.{◌++◌, Bool, List}
-use Rattle.detection.specs.Reader.{ReaderStands}
-use Rattle.gateway.specs.Given.{heard}
+use Rattle.gateway.proofs.Names.{◌++◌, Bool, List, ReaderStands, heard}
 use Rattle.gateway.specs.Sightings.{NoneSeen}
 use Rattle.gateway.proofs.detector.PatternDetector.push.Given as goal
 

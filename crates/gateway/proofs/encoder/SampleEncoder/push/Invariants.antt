@@ -1,9 +1,5 @@
-use Rattle.std.proofs.Common.{◌≡◌, ◌*◌, ◌≤◌, ◌++◌, Bool, List, length}
-use Rattle.scramblers.specs.declared.mode.Mode.{Mode}
-use Rattle.symbol_map.specs.declared.sample.Sample.{Sample}
-use Rattle.gateway.specs.declared.any_reader.LineKind.{LineKind}
-use Rattle.gateway.specs.Encoded.{HasEncoded, bits_each}
-use Rattle.gateway.specs.Given.{heard, samples_in}
+use Rattle.gateway.proofs.Names.{◌≡◌, ◌*◌, ◌≤◌, ◌++◌, Bool, List, length, HasEncoded, heard, samples_in, LineKind, Mode, Sample}
+use Rattle.gateway.specs.Encoded.{bits_each}
 use Rattle.gateway.proofs.encoder.SampleEncoder.push.Given as goal
 
 abbrev pub invariant-loop-written : goal.invariant-loop-written

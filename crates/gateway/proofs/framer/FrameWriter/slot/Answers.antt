@@ -1,6 +1,4 @@
-use Rattle.std.proofs.Common.{ℕ, ◌≡◌, ◌*◌, length, refl, subst, ◌∙◌, arith}
-use Rattle.detection.specs.Slots.{Signal, slots_of}
-use Rattle.gateway.specs.Given.{AreBits}
+use Rattle.gateway.proofs.Names.{ℕ, ◌≡◌, ◌*◌, length, refl, subst, ◌∙◌, arith, Signal, slots_of, AreBits}
 use Rattle.gateway.specs.Signals.{signal_of}
 use Rattle.gateway.specs.SlotsWritten.{Carries}
 use Rattle.gateway.proofs.Slotted.{slot-more, stands-behind, stands-more}

@@ -1,5 +1,4 @@
-use Rattle.std.proofs.Common.{ℕ, ◌≡◌, ◌*◌, ◌++◌, subst, arith}
-use Rattle.gateway.specs.Given.{heard, samples_in}
+use Rattle.gateway.proofs.Names.{ℕ, ◌≡◌, ◌*◌, ◌++◌, subst, arith, heard, samples_in}
 use Rattle.gateway.proofs.Measuring.{Measures, two-samples, measures-more}
 use Rattle.gateway.proofs.meter.LockMeter.push.Goals as goal
 

@@ -1,7 +1,4 @@
-use Rattle.std.proofs.Common.{◌≡◌, ◌+◌, ◌*◌, ◌++◌, Bool, List}
-use Rattle.scramblers.specs.declared.mode.Mode.{Mode}
-use Rattle.symbol_map.specs.declared.sample.Sample.{Sample}
-use Rattle.gateway.specs.Given.{heard, samples_in}
+use Rattle.gateway.proofs.Names.{◌≡◌, ◌+◌, ◌*◌, ◌++◌, Bool, List, heard, samples_in, Mode, Sample}
 use Rattle.gateway.proofs.Measuring.{Measures}
 use Rattle.gateway.proofs.meter.LockMeter.push.Given as goal
 

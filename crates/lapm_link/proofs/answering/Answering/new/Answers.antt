@@ -1,5 +1,4 @@
-use Rattle.std.proofs.Common.{refl}
-use Rattle.xid_params.specs.Terms.{agree}
+use Rattle.lapm_link.proofs.Names.{refl, agree}
 use Rattle.link_account.specs.declared.phase.Phase.TheVariants as phases
 use Rattle.lapm_link.proofs.Kept.{moved, as_kept}
 use Rattle.lapm_link.proofs.answering.Answering.new.Goals as goal

@@ -1,7 +1,4 @@
-use Rattle.std.proofs.Common.{◌∙◌, sym, subst}
-use Rattle.link_account.specs.Account.{Account}
-use Rattle.lapm_link.specs.declared.any_end.AnyEnd.{AnyEnd}
-use Rattle.lapm_link.specs.Stands.{StandsFor, Links}
+use Rattle.lapm_link.proofs.Names.{◌∙◌, sym, subst, StandsFor, Links, AnyEnd, Account}
 use Rattle.lapm_link.proofs.Unconnected.{same-number, takes-break, links-asked, takes-no-break, no-break-asked, takes-none}
 use Rattle.lapm_link.proofs.any_end.AnyEnd.ask_break.Goals as goal
 

@@ -1,11 +1,8 @@
-use Rattle.std.proofs.Common.{◌≡◌, ◌∙◌, ◌≤◌, ◌<◌, ℕ, Bool, List, length, drop, Option, Some, None, refl, sym, ap}
-use Rattle.std.proofs.Common.{subst, nat_lt, arith}
+use Rattle.lapm_link.proofs.Names.{◌≡◌, ◌∙◌, ◌≤◌, ℕ, Bool, List, length, Option, Some, None, refl, sym, ap, subst, nat_lt, arith, StandsFor}
+use Rattle.lapm_link.proofs.Names.{Links, undelivered_of, AnyEnd, Taking, Account}
+use Rattle.std.proofs.Common.{◌<◌, drop}
 use Rattle.std.specs.Bool.{OnTrue}
 use Rattle.std.specs.Prelude.{is_some}
-use Rattle.lapm_receiver.specs.Taking.{Taking}
-use Rattle.link_account.specs.Account.{Account}
-use Rattle.lapm_link.specs.declared.any_end.AnyEnd.{AnyEnd}
-use Rattle.lapm_link.specs.Stands.{StandsFor, Links, undelivered_of}
 use Rattle.lapm_link.proofs.Unconnected.{same-number, delivers-next, links-delivered, delivers-none, nothing-delivered, undelivered-none}
 use Rattle.lapm_link.proofs.Unconnected.{takes-none}
 use Rattle.lapm_link.proofs.any_end.AnyEnd.deliver.Goals as goal

@@ -1,8 +1,6 @@
-use Rattle.std.proofs.Common.{◌≡◌, ◌≤◌, ℕ, false, if◌then◌else◌, List, length, Option, Some, None, refl, subst, nat_lt, arith}
-use Rattle.std.proofs.lemmas.Bool.Decides.{nat_tests}
+use Rattle.lapm_link.proofs.Names.{◌≡◌, ◌≤◌, ℕ, false, if◌then◌else◌, List, length, Option, Some, None, refl, subst, nat_lt, arith}
+use Rattle.lapm_link.proofs.Names.{nat_tests, StandsFor, AnyEnd}
 use Rattle.std.specs.Prelude.{slice_index_or}
-use Rattle.lapm_link.specs.declared.any_end.AnyEnd.{AnyEnd}
-use Rattle.lapm_link.specs.Stands.{StandsFor}
 use Rattle.lapm_link.proofs.any_end.AnyEnd.given_break.Goals as goal
 
 not-less : (n : ℕ) → nat_lt n n ≡ false

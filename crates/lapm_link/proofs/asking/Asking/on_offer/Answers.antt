@@ -1,12 +1,6 @@
-use Rattle.std.proofs.Common.{◌≡◌, refl}
-use Rattle.xid_params.specs.declared.offer.Offer.{Offer}
-use Rattle.xid_params.specs.Terms.{agree}
-use Rattle.std.proofs.Common.{Some, Option}
-use Rattle.lapm_link.specs.declared.any_end.AnyEnd.{AnyEnd}
+use Rattle.lapm_link.proofs.Names.{◌≡◌, refl, Some, Option, StandsFor, AnyEnd, Account, agree, Offer}
 use Rattle.lapm_link.specs.declared.any_end.AnyEnd.TheVariants as ends
-use Rattle.link_account.specs.Account.{Account}
 use Rattle.link_account.specs.Hear.{on_xid_response}
-use Rattle.lapm_link.specs.Stands.{StandsFor}
 use Rattle.lapm_link.proofs.Kept.{moved, as_kept}
 use Rattle.lapm_link.proofs.asking.Asking.on_offer.Goals as goal
 

@@ -1,15 +1,10 @@
-use Rattle.std.proofs.Common.{◌≡◌, List, ℕ, true, false, Result, Ok, Err, sym, ◌∙◌, ap, subst}
+use Rattle.lapm_link.proofs.Names.{◌≡◌, List, ℕ, true, false, Result, Ok, Err, sym, ◌∙◌, ap, subst, Sent, TriesSo, IsUnlinked, Speaks}
+use Rattle.lapm_link.proofs.Names.{StandsFor, AnyEnd, Attempt, Account, Said, u_try, LinkFault}
 use Rattle.lapm_frames.specs.declared.frame.Frame.TheVariants.{Xid}
 use Rattle.xid_params.specs.Offers.{written}
-use Rattle.lapm_frames.specs.declared.sent.Sent.{Sent}
-use Rattle.shared_terms.specs.declared.fault.LinkFault.{LinkFault}
-use Rattle.lapm_link.specs.declared.attempt.Attempt.{Attempt}
 use Rattle.lapm_link.specs.declared.asking.Asking.{Asking}
-use Rattle.lapm_link.specs.declared.any_end.AnyEnd.{AnyEnd}
-use Rattle.link_account.specs.Account.{Account}
-use Rattle.lapm_link.specs.Attempt.{Tries, TriesSo, retried}
-use Rattle.link_account.specs.Speak.{Said, u_try}
-use Rattle.lapm_link.specs.Stands.{IsAsking, IsUnlinked, Speaks, StandsFor}
+use Rattle.lapm_link.specs.Attempt.{Tries, retried}
+use Rattle.lapm_link.specs.Stands.{IsAsking}
 use Rattle.lapm_link.proofs.asking.Asking.speak.Goals as goal
 
 -- an end that tries its offer again still asks

@@ -1,11 +1,8 @@
-use Rattle.std.proofs.Common.{◌≡◌, ℕ, true, false, ◌+◌, nat_eq, Ok, arith, sym, ◌∙◌, refl}
-use Rattle.std.proofs.lemmas.Bool.Decides.{nat_tests}
+use Rattle.lapm_link.proofs.Names.{◌≡◌, ℕ, true, false, Ok, arith, sym, ◌∙◌, refl, nat_tests, Sent, TriesSo, Attempt, Account, u_try}
+use Rattle.std.proofs.Common.{◌+◌, nat_eq}
 use Rattle.lapm_frames.specs.declared.frame.Frame.{Frame}
-use Rattle.lapm_link.specs.declared.attempt.Attempt.{Attempt}
-use Rattle.lapm_frames.specs.declared.sent.Sent.{Sent}
-use Rattle.link_account.specs.Account.{Account}
-use Rattle.link_account.specs.Speak.{tries_frame, u_try, trying_again}
-use Rattle.lapm_link.specs.Attempt.{TriesOnce, TriesSo}
+use Rattle.link_account.specs.Speak.{tries_frame, trying_again}
+use Rattle.lapm_link.specs.Attempt.{TriesOnce}
 use Rattle.lapm_link.proofs.attempt.Attempt.speak.Goals as goal
 
 -- at an expiry with tries left the frame is tried again

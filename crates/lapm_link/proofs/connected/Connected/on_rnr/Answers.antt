@@ -1,13 +1,8 @@
-use Rattle.std.proofs.Common.{arith, ◌≡◌, ◌∙◌, ◌&&◌, ◌||◌, Bool, Result, Ok, Err, if◌then◌else◌, sym, ap}
-use Rattle.std.proofs.lemmas.Result.{err_from_is_err_and}
+use Rattle.lapm_link.proofs.Names.{arith, ◌≡◌, ◌∙◌, ◌&&◌, ◌||◌, Bool, Result, Ok, Err, if◌then◌else◌, sym, ap, err_from_is_err_and, Becomes}
+use Rattle.lapm_link.proofs.Names.{Links, Connected, Account, Owes, LinkFault}
 use Rattle.lapm_sender.specs.Outgoing.{replied, acknowledged}
-use Rattle.shared_terms.specs.declared.fault.LinkFault.{LinkFault}
-use Rattle.link_account.specs.declared.owes.Owes.{Owes}
-use Rattle.link_account.specs.Account.{Account}
 use Rattle.link_account.specs.Hear.{ends_wait, then_in}
-use Rattle.lapm_link.specs.declared.connected.Connected.{Connected}
 use Rattle.lapm_link.specs.Taking.{taken_as}
-use Rattle.lapm_link.specs.Stands.{Becomes, Links}
 use Rattle.lapm_link.proofs.connected.Connected.on_rnr.Goals as goal
 
 -- a refused number stays refused

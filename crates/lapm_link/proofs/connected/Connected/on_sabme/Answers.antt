@@ -1,12 +1,7 @@
-use Rattle.std.proofs.Common.{◌≡◌, ◌∙◌, ◌||◌, Bool, false, if◌then◌else◌, Some, Ok, Err, sym, ap, subst}
-use Rattle.shared_terms.specs.Role.{is_originator}
-use Rattle.link_account.specs.declared.setup.Setup.{Setup}
-use Rattle.link_account.specs.declared.owes.Owes.{Owes}
+use Rattle.lapm_link.proofs.Names.{◌≡◌, ◌∙◌, ◌||◌, Bool, false, if◌then◌else◌, Some, Ok, Err, sym, ap, subst, Links, Becomes, Connected}
+use Rattle.lapm_link.proofs.Names.{Account, owing, Owes, Setup, is_originator}
 use Rattle.link_account.specs.declared.answer.Answer.TheVariants as answers
-use Rattle.link_account.specs.Account.{Account}
-use Rattle.link_account.specs.Hear.{on_sabme, owing, peer_reset}
-use Rattle.lapm_link.specs.declared.connected.Connected.{Connected}
-use Rattle.lapm_link.specs.Stands.{Links, Becomes}
+use Rattle.link_account.specs.Hear.{on_sabme, peer_reset}
 use Rattle.lapm_link.proofs.connected.Connected.on_sabme.Goals as goal
 use Rattle.lapm_link.proofs.connected.Connected.on_sabme.Goals.{then-self-via-then-self, then-self-via-else-self+then-is_originator}
 

@@ -1,10 +1,5 @@
-use Rattle.std.proofs.Common.{◌≡◌, Bool, false}
-use Rattle.std.proofs.lemmas.Result.{err_from_is_err_and}
-use Rattle.lapm_link.specs.declared.connected.Connected.{Connected}
-use Rattle.lapm_frames.specs.declared.sent.Sent.{Sent}
-use Rattle.link_account.specs.Account.{Account}
-use Rattle.link_account.specs.Speak.{steps, on_timer}
-use Rattle.lapm_link.specs.Stands.{SaysLinked}
+use Rattle.lapm_link.proofs.Names.{◌≡◌, Bool, false, err_from_is_err_and, Sent, SaysLinked, Connected, Account, steps}
+use Rattle.link_account.specs.Speak.{on_timer}
 use Rattle.lapm_link.proofs.Saying.{second_breaks, timers_pass, forgotten}
 use Rattle.lapm_link.proofs.connected.Connected.say.Goals as goal
 

@@ -1,8 +1,6 @@
-use Rattle.std.proofs.Common.{◌∙◌, Bool, if◌then◌else◌, None, sym, ap, subst}
+use Rattle.lapm_link.proofs.Names.{◌∙◌, Bool, if◌then◌else◌, None, sym, ap, subst, Gives, Owes}
 use Rattle.lapm_receiver.specs.Incoming.{asks}
-use Rattle.link_account.specs.declared.owes.Owes.{Owes}
 use Rattle.link_account.specs.Speak.{says_asking}
-use Rattle.lapm_link.specs.Stands.{Gives}
 use Rattle.lapm_link.proofs.connected.Connected.say_news.Goals as goal
 
 pub returns-clause-gives : goal.returns-clause-gives

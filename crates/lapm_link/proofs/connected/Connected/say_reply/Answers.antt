@@ -1,9 +1,4 @@
-use Rattle.std.proofs.Common.{◌≡◌, ◌∙◌, Bool, false, None, arith, sym, ap}
-use Rattle.link_account.specs.declared.owes.Owes.{Owes}
-use Rattle.link_account.specs.Account.{Account}
-use Rattle.link_account.specs.Speak.{Said, where_says}
-use Rattle.lapm_link.specs.declared.connected.Connected.{Connected}
-use Rattle.lapm_link.specs.Stands.{Links, Gives}
+use Rattle.lapm_link.proofs.Names.{◌≡◌, ◌∙◌, Bool, false, None, arith, sym, ap, Links, Gives, Connected, Account, Said, where_says, Owes}
 use Rattle.lapm_link.proofs.Saying.{gives_where, replied}
 use Rattle.lapm_link.proofs.connected.Connected.say_reply.Goals as goal
 

@@ -1,10 +1,6 @@
-use Rattle.std.proofs.Common.{◌≡◌, sym, ap, subst, ◌∙◌, true}
+use Rattle.lapm_link.proofs.Names.{◌≡◌, sym, ap, subst, ◌∙◌, true, Speaks, trying, Setup, is_originator}
 use Rattle.link_account.specs.declared.phase.Phase.TheVariants as phases
-use Rattle.link_account.specs.declared.setup.Setup.{Setup}
-use Rattle.shared_terms.specs.Role.{is_originator}
-use Rattle.link_account.specs.Hear.{trying}
 use Rattle.link_account.specs.Speak.{speak_in}
-use Rattle.lapm_link.specs.Stands.{Speaks}
 use Rattle.lapm_link.proofs.Saying.{releases}
 use Rattle.lapm_link.proofs.connected.Connected.speak.Goals as goal
 

@@ -1,13 +1,7 @@
-use Rattle.std.proofs.Common.{◌≡◌, sym, ap, ◌∙◌}
-use Rattle.shared_terms.specs.declared.role.Role.{Role}
-use Rattle.shared_terms.specs.declared.role.Role.TheVariants.{Originator, Answerer}
+use Rattle.lapm_link.proofs.Names.{◌≡◌, sym, ap, ◌∙◌, StandsFor, AnyEnd, Account, Setup, Role, Originator, Answerer}
 use Rattle.lapm_frames.specs.declared.seen.Seen.{Seen}
-use Rattle.link_account.specs.declared.setup.Setup.{Setup}
-use Rattle.lapm_link.specs.declared.any_end.AnyEnd.{AnyEnd}
 use Rattle.lapm_link.specs.declared.any_end.AnyEnd.TheVariants as ends
-use Rattle.link_account.specs.Account.{Account}
 use Rattle.link_account.specs.Hear.{on_pattern}
-use Rattle.lapm_link.specs.Stands.{StandsFor}
 use Rattle.lapm_link.proofs.detecting.Detecting.on_pattern.Goals as goal
 
 -- the rule at this role and pattern

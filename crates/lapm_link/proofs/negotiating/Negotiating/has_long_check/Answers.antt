@@ -1,6 +1,4 @@
-use Rattle.std.proofs.Common.{sym, ap, subst}
-use Rattle.xid_params.specs.declared.terms.Terms.{Terms}
-use Rattle.lapm_link.specs.Stands.{Negotiates}
+use Rattle.lapm_link.proofs.Names.{sym, ap, subst, Negotiates, Terms}
 use Rattle.lapm_link.proofs.negotiating.Negotiating.has_long_check.Goals as goal
 
 pub returns-in-Asking : goal.returns-in-Asking

@@ -1,13 +1,10 @@
-use Rattle.std.proofs.Common.{◌≡◌, ℕ, Bool}
-use Rattle.xid_params.specs.declared.terms.Terms.{Terms}
+use Rattle.lapm_link.proofs.Names.{◌≡◌, ℕ, Bool, Taking, Setup, is_originator, Terms}
 use Rattle.lapm_sender.specs.Sending.{Sending, StandsOut}
 use Rattle.lapm_sender.specs.Outgoing as outgoing
-use Rattle.lapm_receiver.specs.Taking.{Taking, StandsIn}
+use Rattle.lapm_receiver.specs.Taking.{StandsIn}
 use Rattle.lapm_receiver.specs.Incoming as incoming
-use Rattle.link_account.specs.declared.setup.Setup.{Setup}
 use Rattle.shared_terms.specs.Role.{other}
 use Rattle.link_account.specs.Account.{size_for, window_for}
-use Rattle.shared_terms.specs.Role.{is_originator}
 use Rattle.lapm_link.proofs.unlinked.Unlinked.connect.Goals as goal
 
 -- a sender that has begun by these terms

@@ -1,9 +1,5 @@
-use Rattle.std.proofs.Common.{◌∙◌, ℕ, Bool, List, [], ◌∷◌, ◌++◌, ap, subst, refl}
-use Rattle.std.specs.List.{flat_map}
-use Rattle.frame_check.specs.Bits.{low_bits}
-use Rattle.trellis_tables.specs.LabelReader.{LabelReaderStands, quads_of}
-use Rattle.line_coding.specs.Modes.{DescramblesAs}
-use Rattle.line_coding.specs.Demodulates.{line_of}
+use Rattle.line_coding.proofs.Names.{◌∙◌, ℕ, Bool, List, [], ◌∷◌, ◌++◌, ap, subst, refl, flat_map, low_bits, line_of, DescramblesAs}
+use Rattle.line_coding.proofs.Names.{LabelReaderStands, quads_of}
 use Rattle.line_coding.proofs.Fours.{fours-more}
 use Rattle.line_coding.proofs.demodulator.DemodulatorDemodulate32.push.Goals as goal
 

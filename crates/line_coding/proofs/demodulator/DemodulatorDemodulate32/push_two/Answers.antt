@@ -1,9 +1,5 @@
-use Rattle.std.proofs.Common.{◌≡◌, ◌∙◌, Bool, List, ℕ, [], ◌∷◌, ◌++◌, refl, ap, subst, append_assoc}
-use Rattle.std.specs.List.{flat_map}
-use Rattle.frame_check.specs.Bits.{low_bits, octet_bits}
-use Rattle.trellis_tables.specs.LabelReader.{LabelReaderStands, quads_of}
-use Rattle.line_coding.specs.Modes.{DescramblesAs}
-use Rattle.line_coding.specs.Demodulates.{line_of}
+use Rattle.line_coding.proofs.Names.{◌≡◌, ◌∙◌, Bool, List, ℕ, [], ◌∷◌, ◌++◌, refl, ap, subst, append_assoc, flat_map, low_bits, octet_bits}
+use Rattle.line_coding.proofs.Names.{line_of, DescramblesAs, LabelReaderStands, quads_of}
 use Rattle.line_coding.proofs.Fours.{octets-more}
 use Rattle.line_coding.proofs.demodulator.DemodulatorDemodulate32.push_two.Goals as goal
 

@@ -1,6 +1,4 @@
-use Rattle.std.proofs.Common.{[], ◌∷◌, ◌++◌, sym, subst}
-use Rattle.exact_decoder.specs.Surviving.V32.{at_any}
-use Rattle.line_coding.specs.MiddleReading.{Middle, MiddleRead}
+use Rattle.line_coding.proofs.Names.{[], ◌∷◌, ◌++◌, sym, subst, at_any, Middle, MiddleRead}
 use Rattle.line_coding.proofs.Taking.{middle-pushed}
 use Rattle.line_coding.proofs.middle_reader.MiddleReader.push.Goals as goal
 

@@ -1,7 +1,5 @@
-use Rattle.std.proofs.Common.{◌++◌, sym, subst}
-use Rattle.exact_decoder.specs.Surviving.V32.{at_any}
+use Rattle.line_coding.proofs.Names.{◌++◌, sym, subst, at_any, Middle, MiddleRead}
 use Rattle.exact_decoder.specs.Batches.{heard_of}
-use Rattle.line_coding.specs.MiddleReading.{Middle, MiddleRead}
 use Rattle.line_coding.proofs.Taking.{middle-pushed}
 use Rattle.line_coding.proofs.middle_reader.MiddleReader.push_some.Goals as goal
 

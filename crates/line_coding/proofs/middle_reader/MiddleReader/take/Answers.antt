@@ -1,7 +1,4 @@
-use Rattle.std.proofs.Common.{◌∙◌, ◌<◌, length, drop, arith, sym, ap, subst}
-use Rattle.frame_check.specs.Bits.{low_bits}
-use Rattle.exact_decoder.specs.Surviving.V32.{at_any}
-use Rattle.line_coding.specs.MiddleReading.{Middle, MiddleRead}
+use Rattle.line_coding.proofs.Names.{◌∙◌, ◌<◌, length, drop, arith, sym, ap, subst, at_any, low_bits, Middle, MiddleRead}
 use Rattle.line_coding.proofs.Taking.{middle-early, middle-sixth, middle-later, middle-none}
 use Rattle.line_coding.proofs.middle_reader.MiddleReader.take.Goals as goal
 

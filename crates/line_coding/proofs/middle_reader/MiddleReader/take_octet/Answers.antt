@@ -1,7 +1,5 @@
-use Rattle.std.proofs.Common.{◌<◌, arith, sym, subst}
-use Rattle.exact_decoder.specs.Surviving.V32.{at_any}
+use Rattle.line_coding.proofs.Names.{◌<◌, arith, sym, subst, at_any, Middle, MiddleRead}
 use Rattle.line_coding.specs.Reading.{bits_in}
-use Rattle.line_coding.specs.MiddleReading.{Middle, MiddleRead}
 use Rattle.line_coding.proofs.Taking.{middle-later}
 use Rattle.line_coding.proofs.middle_reader.MiddleReader.take_octet.Goals as goal
 

@@ -1,7 +1,6 @@
-use Rattle.std.proofs.Common.{◌∙◌, ℕ, ◌<◌, [], ◌∷◌, ◌++◌, refl, sym, ap}
+use Rattle.line_coding.proofs.Names.{◌∙◌, ℕ, ◌<◌, [], ◌∷◌, ◌++◌, refl, sym, ap, low_bits}
 use Rattle.std.proofs.lemmas.List.Elements.{All-push}
 use Rattle.std.proofs.lemmas.List.{map-append}
-use Rattle.frame_check.specs.Bits.{low_bits}
 use Rattle.symbol_map.specs.Points.{point_of}
 use Rattle.line_coding.proofs.Fours.{fours-more}
 use Rattle.line_coding.proofs.modulator.Modulator.label.Goals as goal

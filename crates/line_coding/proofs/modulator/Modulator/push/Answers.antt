@@ -1,7 +1,4 @@
-use Rattle.std.proofs.Common.{[], ◌∷◌, ◌++◌, sym, subst}
-use Rattle.frame_check.specs.Bits.{low_bits}
-use Rattle.symbol_map.specs.declared.sample.Sample.{Sample}
-use Rattle.line_coding.specs.Modulates.{ModulatorStands}
+use Rattle.line_coding.proofs.Names.{[], ◌∷◌, ◌++◌, sym, subst, low_bits, ModulatorStands, Sample}
 use Rattle.line_coding.proofs.modulator.Modulator.push.Goals as goal
 
 pub returns : goal.returns

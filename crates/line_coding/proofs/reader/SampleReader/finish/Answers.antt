@@ -1,5 +1,4 @@
-use Rattle.std.proofs.Common.{subst, sym}
-use Rattle.line_coding.specs.Reading.{SamplesRead}
+use Rattle.line_coding.proofs.Names.{subst, sym, SamplesRead}
 use Rattle.line_coding.proofs.reader.SampleReader.finish.Goals as goal
 
 pub returns : goal.returns

@@ -1,5 +1,4 @@
-use Rattle.std.proofs.Common.{◌∙◌, length, ap}
-use Rattle.line_coding.specs.Reading.{Reading}
+use Rattle.line_coding.proofs.Names.{◌∙◌, length, ap, Reading}
 use Rattle.line_coding.proofs.reader.SampleReader.pending.Goals as goal
 
 pub returns : goal.returns

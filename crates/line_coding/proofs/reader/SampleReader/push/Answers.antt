@@ -1,5 +1,4 @@
-use Rattle.std.proofs.Common.{◌≤◌, ◌+◌, sym, subst}
-use Rattle.line_coding.specs.Reading.{Reading, SamplesRead}
+use Rattle.line_coding.proofs.Names.{◌≤◌, ◌+◌, sym, subst, Reading, SamplesRead}
 use Rattle.line_coding.proofs.reader.SampleReader.push.Goals as goal
 
 pub returns : goal.returns

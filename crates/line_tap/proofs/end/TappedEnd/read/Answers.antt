@@ -1,14 +1,6 @@
-use Rattle.std.proofs.Common.{◌≡◌, ◌∙◌, ap, ◌<◌, ◌*◌, ◌++◌, length, take, arith, sym, subst, ℕ, List, Option, Some, None}
-use Rattle.std.specs.Prelude.{IfNone}
-use Rattle.std.proofs.lemmas.List.{take_all}
+use Rattle.line_tap.proofs.Names.{◌≡◌, ◌∙◌, ap, ◌<◌, ◌*◌, ◌++◌, length, take, arith, sym, subst, ℕ, List, Option, Some, None, take_all}
+use Rattle.line_tap.proofs.Names.{IfNone, Sent, AreFit, signals, ReadsNext, slot_as, IsNext, ReadsSlot, HoldsNext, samples_in}
 use Rattle.std.proofs.lemmas.Option.{IfSome_then}
-use Rattle.lapm_frames.specs.declared.sent.Sent.{Sent}
-use Rattle.recordings.specs.Samples.{samples_in}
-use Rattle.line_tap.specs.Tapping.{HoldsNext}
-use Rattle.line_tap.specs.Reader.{IsNext, ReadsSlot}
-use Rattle.line_run.specs.Fitting.{AreFit}
-use Rattle.line_run.specs.Sampled.{signals}
-use Rattle.line_tap.specs.End.{ReadsNext, slot_as}
 use Rattle.line_tap.proofs.SlotNext.{none-held, short-held, reads-next}
 use Rattle.line_tap.proofs.end.TappedEnd.read.Goals as goal
 

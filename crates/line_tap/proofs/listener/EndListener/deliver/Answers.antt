@@ -1,10 +1,7 @@
-use Rattle.std.proofs.Common.{refl, sym, ◌∙◌, ap, subst}
-use Rattle.outside_calls.specs.Folder.{FolderState, Appended, PartlyAppended}
-use Rattle.outside_calls.proofs.Steps.{FaultsStand-trans, CountsStand-refl, CountsStand-trans}
+use Rattle.line_tap.proofs.Names.{refl, sym, ◌∙◌, ap, subst, Taking, StandsIn, delivered, EndListener, CountsStand-refl, CountsStand-trans}
+use Rattle.line_tap.proofs.Names.{FolderState, Appended, PartlyAppended}
+use Rattle.outside_calls.proofs.Steps.{FaultsStand-trans}
 use Rattle.line_world.proofs.Handing.{writes-on, writes-none}
-use Rattle.lapm_receiver.specs.Taking.{Taking, StandsIn}
-use Rattle.line_tap.specs.declared.listener.EndListener.{EndListener}
-use Rattle.line_tap.specs.EndListener.{delivered}
 use Rattle.line_tap.proofs.Causes.{cause-earlier}
 use Rattle.line_tap.proofs.Listening.{listens-on, idle-again}
 use Rattle.line_tap.proofs.Handing.{fewer-ready, handing-starts, next-is, handing-next, handing-ends, handing-stops}

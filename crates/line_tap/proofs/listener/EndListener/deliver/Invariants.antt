@@ -1,7 +1,4 @@
-use Rattle.std.proofs.Common.{◌≡◌, length}
-use Rattle.outside_calls.specs.Folder.{OnlyWrites, CountsStand}
-use Rattle.lapm_receiver.specs.Incoming.{Incoming}
-use Rattle.lapm_receiver.specs.Taking.{StandsIn}
+use Rattle.line_tap.proofs.Names.{◌≡◌, length, Incoming, StandsIn, OnlyWrites, CountsStand}
 use Rattle.line_tap.proofs.Handing.{Handing}
 use Rattle.line_tap.proofs.listener.EndListener.deliver.Given as goal
 

@@ -1,6 +1,4 @@
-use Rattle.std.proofs.Common.{sym, subst}
-use Rattle.lapm_frames.specs.declared.heard.Heard.{Heard}
-use Rattle.line_tap.specs.EndListener.{Overhears}
+use Rattle.line_tap.proofs.Names.{sym, subst, Heard, Overhears}
 use Rattle.line_tap.proofs.listener.EndListener.hear.Goals as goal
 
 pub returns-in-Passed-clause-stands : goal.returns-in-Passed-clause-stands

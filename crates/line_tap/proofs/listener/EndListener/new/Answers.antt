@@ -1,6 +1,5 @@
-use Rattle.std.proofs.Common.{refl, subst}
+use Rattle.line_tap.proofs.Names.{refl, subst, StandsIn}
 use Rattle.lapm_receiver.specs.Incoming.{begun}
-use Rattle.lapm_receiver.specs.Taking.{StandsIn}
 use Rattle.line_tap.proofs.listener.EndListener.new.Goals as goal
 
 pub returns-clause-stands : goal.returns-clause-stands

@@ -1,11 +1,6 @@
-use Rattle.std.proofs.Common.{◌≡◌, true, ◌++◌, sym, ◌∙◌, subst}
-use Rattle.lapm_frames.specs.declared.frame.Frame.TheVariants.{I, Ui}
-use Rattle.lapm_frames.specs.declared.heard.Heard.TheVariants.{Passed}
+use Rattle.line_tap.proofs.Names.{◌≡◌, true, ◌++◌, sym, ◌∙◌, subst, I, Ui, Passed, Listens, given_in, given_by}
 use Rattle.lapm_frames.specs.declared.sent.Sent.TheVariants as slots
 use Rattle.lapm_receiver.specs.Incoming.{after_take}
-use Rattle.link_run.specs.Laws.{given_in}
-use Rattle.link_run.specs.Listened.{given_by}
-use Rattle.line_tap.specs.EndListener.{Listens}
 use Rattle.line_tap.proofs.Listening.{gives-no-segment, opens-no-segment, opens-no-word}
 use Rattle.line_tap.proofs.listener.EndListener.take.Goals as goal
 

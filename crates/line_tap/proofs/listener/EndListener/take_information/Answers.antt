@@ -1,8 +1,5 @@
-use Rattle.std.proofs.Common.{◌≡◌, ◌++◌, sym, ◌∙◌, ap, subst, Ok}
+use Rattle.line_tap.proofs.Names.{◌≡◌, ◌++◌, sym, ◌∙◌, ap, subst, Ok, Listens, given_in, given_by_word}
 use Rattle.break_signals.specs.Words.{word_in}
-use Rattle.link_run.specs.Laws.{given_in}
-use Rattle.link_run.specs.Listened.{given_by_word}
-use Rattle.line_tap.specs.EndListener.{Listens}
 use Rattle.line_tap.proofs.listener.EndListener.take_information.Goals as goal
 
 pub returns-in-Ok-clause-given : goal.returns-in-Ok-clause-given

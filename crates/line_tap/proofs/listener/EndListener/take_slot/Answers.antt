@@ -1,7 +1,4 @@
-use Rattle.std.proofs.Common.{sym, subst}
-use Rattle.lapm_frames.specs.declared.sent.Sent.{Sent}
-use Rattle.lapm_frames.specs.declared.heard.Heard.TheVariants.{Passed}
-use Rattle.line_tap.specs.EndListener.{Overhears}
+use Rattle.line_tap.proofs.Names.{sym, subst, Passed, Sent, Overhears}
 use Rattle.line_tap.proofs.listener.EndListener.take_slot.Goals as goal
 
 pub returns-in-Frame-clause-stands : goal.returns-in-Frame-clause-stands

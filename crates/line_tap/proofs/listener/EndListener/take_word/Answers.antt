@@ -1,8 +1,6 @@
-use Rattle.std.proofs.Common.{◌≡◌, ◌%◌, ◌++◌, length, refl, sym, ◌∙◌, ap, subst, Ok}
+use Rattle.line_tap.proofs.Names.{◌≡◌, ◌%◌, ◌++◌, length, refl, sym, ◌∙◌, ap, subst, Ok, given_in, given_by_word}
 use Rattle.break_signals.specs.declared.word.BreakWord.{BreakWord}
 use Rattle.break_signals.specs.Breaks.{TheirBreaks, gives}
-use Rattle.link_run.specs.Laws.{given_in}
-use Rattle.link_run.specs.Listened.{given_by_word}
 use Rattle.line_tap.proofs.Listening.{with-given}
 use Rattle.line_tap.proofs.listener.EndListener.take_word.Goals as goal
 

@@ -1,24 +1,10 @@
-use Rattle.std.proofs.Common.{◌≡◌, ◌∙◌, ◌*◌, ◌++◌, ◌∷◌, [], ℕ, Bool, List, IfNone, refl, sym, ap, subst, arith}
-use Rattle.sample_line.specs.Mode.{mode_of}
-use Rattle.scramblers.specs.declared.mode.Mode.{Mode}
-use Rattle.scramblers.specs.Mode.{tap_of}
-use Rattle.symbol_map.specs.declared.sample.Sample.{Sample}
-use Rattle.bit_stuffing.specs.BitSlot.{line_bits}
-use Rattle.detection.specs.Slots.{signal_bits, slot_of}
-use Rattle.line_coding.specs.Modulates.{Modulates}
-use Rattle.trellis_tables.specs.Table.{next_state}
-use Rattle.trellis_tables.specs.Sequences.{Leads}
+use Rattle.line_tap.proofs.Names.{◌≡◌, ◌∙◌, ◌*◌, ◌++◌, ◌∷◌, [], ℕ, Bool, List, refl, sym, ap, subst, arith, line_bits, slot_bits}
+use Rattle.line_tap.proofs.Names.{signal_bits, slot_of, Sent, DemodulatorStands, Modulates, AreLabels, IsNext, carries, EndsAt, samples_in}
+use Rattle.line_tap.proofs.Names.{bits_behind, mode_of, IsCodable, tap_of, Mode, Sample, Leads, next_state}
+use Rattle.std.proofs.Common.{IfNone}
 use Rattle.trellis_tables.proofs.Sequences.{Leads-append}
-use Rattle.recordings.specs.Samples.{samples_in}
-use Rattle.lapm_frames.specs.declared.sent.Sent.{Sent}
-use Rattle.bit_stuffing.specs.Slots.{slot_bits}
-use Rattle.line_tap.specs.Seeking.{EndsAt, EndsBy}
-use Rattle.sample_line.specs.Signals.{IsCodable}
-use Rattle.sample_line.specs.Line.{bits_behind}
-use Rattle.line_tap.specs.Reader.{IsNext, carries}
+use Rattle.line_tap.specs.Seeking.{EndsBy}
 use Rattle.line_tap.proofs.Guessing.{GuessLaws}
-use Rattle.line_coding.specs.Demodulates.{DemodulatorStands}
-use Rattle.line_tap.specs.Labels.{AreLabels}
 use Rattle.line_tap.proofs.PointLabels.{count-samples}
 use Rattle.line_tap.proofs.SlotReading.{found-ends, found-lent, found-sent, bits-read, guessed, labels-next, sequence-modulates, phase-is}
 use Rattle.line_tap.proofs.SlotReading.{written-as, writer-on, phase-next, bits-more, labels-more, labels-code}

@@ -1,10 +1,5 @@
-use Rattle.std.proofs.Common.{◌≡◌, ◌∙◌, ◌+◌, List, Bool, [], length, drop, None, sym, ap, subst, arith, rules}
-use Rattle.bit_stuffing.specs.BitSlot.{line_bits}
-use Rattle.bit_stuffing.specs.Flags.{bit_of}
-use Rattle.bit_stuffing.specs.Found.{pieces_of}
-use Rattle.bit_stuffing.specs.Sent.{wholes}
-use Rattle.bit_stuffing.specs.Slots.{rest_of_flag}
-use Rattle.line_tap.specs.Seeking.{EndsFirst, FindsSent}
+use Rattle.line_tap.proofs.Names.{◌≡◌, ◌∙◌, ◌+◌, List, Bool, [], length, drop, None, sym, ap, subst, arith, rules, line_bits, bit_of}
+use Rattle.line_tap.proofs.Names.{pieces_of, wholes, rest_of_flag, EndsFirst, FindsSent}
 use Rattle.line_tap.proofs.FoundSent.{FoundLaws, finds-none, finds-there, none-there, first-there, found-at}
 use Rattle.line_tap.proofs.seeker.Seeker.frame_in.Goals as goal
 

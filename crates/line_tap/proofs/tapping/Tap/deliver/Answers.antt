@@ -1,13 +1,7 @@
-use Rattle.std.proofs.Common.{inl, [], ◌∷◌, refl}
-use Rattle.outside_calls.specs.Folder.{FolderState}
-use Rattle.outside_calls.proofs.Steps.{CountsStand-trans}
-use Rattle.outside_calls.proofs.Putting.{AddEach-next, AddPart-next, KeepsEach-writes, OnlyPuts-one, OnlyPuts-trans}
+use Rattle.line_tap.proofs.Names.{inl, [], ◌∷◌, refl, TapNames, named, outputs_of, silent_in, terms_of, added, AddEach-next, AddPart-next}
+use Rattle.line_tap.proofs.Names.{OnlyPuts-one, OnlyPuts-trans, CountsStand-trans, FolderState, Originator, Answerer}
+use Rattle.outside_calls.proofs.Putting.{KeepsEach-writes}
 use Rattle.command_base.proofs.Jobs.{write-earlier}
-use Rattle.shared_terms.specs.declared.role.Role.TheVariants.{Originator, Answerer}
-use Rattle.line_tap.specs.Tapping.{terms_of}
-use Rattle.line_tap.specs.Names.{TapNames, named, outputs_of}
-use Rattle.line_tap.specs.Tap.{silent_in}
-use Rattle.line_tap.specs.Turn.{added}
 use Rattle.line_tap.proofs.HeardSo.{behind-on}
 use Rattle.line_tap.proofs.Causes.{writes-fail, write-among}
 use Rattle.line_tap.proofs.tapping.Tap.deliver.Goals as goal

@@ -1,6 +1,4 @@
-use Rattle.std.proofs.Common.{[], ◌∷◌, refl, subst, None}
-use Rattle.outside_calls.specs.Folder.{Appended, PartlyAppended}
-use Rattle.line_tap.specs.Names.{TapNames, named}
+use Rattle.line_tap.proofs.Names.{[], ◌∷◌, refl, subst, None, TapNames, named, Appended, PartlyAppended}
 use Rattle.line_tap.proofs.TurnTexts.{text-is}
 use Rattle.line_tap.proofs.Causes.{write-among, writes-fail}
 use Rattle.line_tap.proofs.tapping.Tap.finish.Goals as goal

@@ -1,16 +1,6 @@
-use Rattle.std.proofs.Common.{◌+◌, [], ◌∷◌, refl, subst, ap, ◌∙◌, Some}
-use Rattle.outside_calls.specs.Folder.{Appended, PartlyAppended}
-use Rattle.shared_terms.specs.Both.{Both}
-use Rattle.shared_terms.specs.declared.role.Role.TheVariants.{Originator, Answerer}
-use Rattle.lapm_frames.specs.declared.sent.Sent.{Sent}
-use Rattle.link_run.specs.Listened.{check_by}
-use Rattle.line_run.specs.Stream.{sent_by}
+use Rattle.line_tap.proofs.Names.{◌+◌, [], ◌∷◌, refl, subst, ap, ◌∙◌, Some, Sent, sent_by, Slot, TapNames, named, slots_as, line_of}
+use Rattle.line_tap.proofs.Names.{terms_of, told, Tap, check_by, Appended, PartlyAppended, Both, Originator, Answerer}
 use Rattle.line_world.proofs.Waiting.{room-of}
-use Rattle.line_tap.specs.Tapping.{line_of, terms_of, told}
-use Rattle.line_tap.specs.End.{Slot}
-use Rattle.line_tap.specs.declared.tapping.Tap.{Tap}
-use Rattle.line_tap.specs.Tap.{slots_as}
-use Rattle.line_tap.specs.Names.{TapNames, named}
 use Rattle.line_tap.proofs.TurnTexts.{text-is}
 use Rattle.line_tap.proofs.Going.{after-going}
 use Rattle.line_tap.proofs.Causes.{write-among, writes-fail}

@@ -1,17 +1,7 @@
-use Rattle.std.proofs.Common.{refl, sym, subst, rules}
-use Rattle.frame_check.specs.declared.check.Check.{Check}
-use Rattle.shared_terms.specs.declared.role.Role.TheVariants.{Originator, Answerer}
-use Rattle.shared_terms.specs.Both.{Both, of}
-use Rattle.lapm_frames.specs.declared.heard.Heard.{Heard}
-use Rattle.noise_script.specs.Script.{IsInLimits}
-use Rattle.line_run.specs.Stream.{both_sent_by}
-use Rattle.link_run.specs.Listened.{judged_by}
-use Rattle.line_tap.specs.Tapping.{line_of, terms_of}
-use Rattle.line_tap.specs.declared.tapping.Tap.{Tap}
-use Rattle.line_tap.specs.Tap.{silent_in}
+use Rattle.line_tap.proofs.Names.{refl, sym, subst, rules, Check, Heard, both_sent_by, silent_in, line_of, terms_of, Tap, end_of, judged_by}
+use Rattle.line_tap.proofs.Names.{IsInLimits, Both, of, Originator, Answerer}
 use Rattle.line_tap.proofs.HeardSo.{LoneLaws, are-due, are-few, listens-too, ends-by, checks-so, hears-these, behind-on}
 use Rattle.line_tap.proofs.tapping.Tap.hear.Goals as goal
-use Rattle.line_world.specs.Faults.{end_of}
 
 pub arrive-requires : goal.arrive-requires
 arrive-requires c =

@@ -1,10 +1,6 @@
-use Rattle.std.proofs.Common.{◌*◌, ◌≤◌, ◌++◌, take, List, ℕ, refl, sym, ◌∙◌, ap, subst}
-use Rattle.shared_terms.specs.declared.role.Role.TheVariants.{Originator, Answerer}
-use Rattle.frame_check.specs.declared.check.Check.{Check}
-use Rattle.link_run.specs.Listened.{check_by}
-use Rattle.line_tap.specs.Tapping.{line_of, terms_of}
+use Rattle.line_tap.proofs.Names.{◌*◌, ◌≤◌, ◌++◌, take, List, ℕ, refl, sym, ◌∙◌, ap, subst, Check, slot_as, line_of, terms_of, check_by}
+use Rattle.line_tap.proofs.Names.{Originator, Answerer}
 use Rattle.line_tap.proofs.ToldFit.{FitLaws, told-fit}
-use Rattle.line_tap.specs.End.{slot_as}
 use Rattle.line_tap.proofs.Looking.{reads-too}
 use Rattle.line_tap.proofs.tapping.Tap.look.Goals as goal
 

@@ -1,10 +1,6 @@
-use Rattle.std.proofs.Common.{◌≡◌, ◌≤◌, true, [], arith, refl, sym, ◌∙◌, subst, None}
+use Rattle.line_tap.proofs.Names.{◌≡◌, ◌≤◌, true, [], arith, refl, sym, ◌∙◌, subst, None, Tapping, tapping, line_of, terms_of, no_octets}
+use Rattle.line_tap.proofs.Names.{Tap, agree, Terms}
 use Rattle.std.proofs.lemmas.Result.{err_from_is_err_and}
-use Rattle.xid_params.specs.declared.terms.Terms.{Terms}
-use Rattle.xid_params.specs.Terms.{agree}
-use Rattle.line_tap.specs.Tapping.{Tapping, tapping, line_of, terms_of}
-use Rattle.line_tap.specs.declared.tapping.Tap.{Tap}
-use Rattle.line_tap.specs.Turns.{no_octets}
 use Rattle.line_tap.proofs.Beginning.{window-low, window-high, other-low, other-high, window-few, after-none}
 use Rattle.line_tap.proofs.tapping.Tap.new.Goals as goal
 

@@ -1,11 +1,4 @@
-use Rattle.std.proofs.Common.{List, ℕ, ◌≤◌, ◌<◌, refl, sym, ◌∙◌, subst}
-use Rattle.line_tap.specs.declared.tapping.Tap.{Tap}
-use Rattle.line_tap.specs.Names.{named}
-use Rattle.link_run.specs.Run.{Turn}
-use Rattle.shared_terms.specs.Both.{Both}
-use Rattle.lapm_frames.specs.declared.heard.Heard.{Heard}
-use Rattle.line_tap.specs.Tapping.{Tapping}
-use Rattle.line_tap.specs.Tap.{InTurn}
+use Rattle.line_tap.proofs.Names.{List, ℕ, ◌≤◌, ◌<◌, refl, sym, ◌∙◌, subst, Heard, named, InTurn, Tapping, Tap, Turn, Both}
 use Rattle.line_tap.proofs.Turning.{has-read-pieces, read-turn}
 use Rattle.line_tap.proofs.tapping.Tap.read.Given.{Over}
 use Rattle.line_tap.proofs.tapping.Tap.read.Goals.{After-read_pieces}

@@ -1,23 +1,13 @@
-use Rattle.std.proofs.Common.{List, ◌≡◌, ◌+◌, ◌∙◌, refl, sym, ap, subst}
-use Rattle.noise_script.specs.Script.{IsInLimits}
-use Rattle.outside_calls.specs.Folder.{FolderState}
-use Rattle.outside_calls.proofs.Steps.{CountsStand-refl, CountsStand-trans}
-use Rattle.outside_calls.proofs.Putting.{OnlyPuts-refl}
+use Rattle.line_tap.proofs.Names.{List, ◌≡◌, ◌+◌, ◌∙◌, refl, sym, ap, subst, stop-earlier, Read, Write, EndsLine, TapNames, named}
+use Rattle.line_tap.proofs.Names.{outputs_of, recordings_of, AreReadTo, HearsSo, InTurn, IsToGo, TapAfter, going_in, slots_as, Tapping}
+use Rattle.line_tap.proofs.Names.{end_of, Turn, IsInLimits, OnlyPuts-refl, CountsStand-refl, CountsStand-trans, FolderState}
 use Rattle.line_world.specs.declared.directions.LineEnd.{LineEnd}
-use Rattle.line_tap.specs.Ends.{EndsLine}
-use Rattle.command_base.specs.declared.stop.Stop.TheVariants.{Read, Write}
-use Rattle.command_base.proofs.Jobs.{stop-earlier}
-use Rattle.line_tap.specs.Names.{TapNames, named, outputs_of, recordings_of}
-use Rattle.link_run.specs.Run.{Turn}
-use Rattle.line_tap.specs.Tapping.{Tapping}
-use Rattle.line_tap.specs.Tap.{AreReadTo, HearsSo, InTurn, IsToGo, TapAfter, going_in, slots_as}
 use Rattle.line_tap.proofs.Turning.{HasPieces, now_of, loses-line, stops-delivering, stops-reading, ends-whole, stops-ending, ends-badly}
 use Rattle.line_tap.proofs.Turning.{so-heard, has-pieces, only-read, is-stopped, is-done, within-still, early-still, nearer-by, within-by}
 use Rattle.line_tap.proofs.Turning.{to-go, goes-on-by, stops-going, only-written, whole-orig, some-octets, ready-again}
 use Rattle.line_tap.proofs.tapping.Tap.turn.Given.{Over}
 use Rattle.line_tap.proofs.tapping.Tap.turn.Goals.{In-Ok-read, In-Ok-look}
 use Rattle.line_tap.proofs.tapping.Tap.turn.Goals as goal
-use Rattle.line_world.specs.Faults.{end_of}
 
 -- both pieces were read
 pieces-read : (g : Over) (c : In-Ok-read g) (start : FolderState) (x : Tapping) (ts : List Turn) → TapAfter c.args.self.now x ts

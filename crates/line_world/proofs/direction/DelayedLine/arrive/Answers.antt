@@ -1,8 +1,5 @@
-use Rattle.std.proofs.Common.{◌-◌, ◌<◌, ◌≤◌, length, drop, arith, refl, ◌∙◌, ap, subst}
-use Rattle.noise_script.specs.Script.{loses}
-use Rattle.sample_line.specs.Line.{size_of}
-use Rattle.line_world.specs.declared.direction.DelayedLine.{DelayedLine}
-use Rattle.line_world.specs.Way.{AreOnWay, Early, Due}
+use Rattle.line_world.proofs.Names.{◌-◌, ◌<◌, ◌≤◌, length, drop, arith, refl, ◌∙◌, ap, subst, AreOnWay, Early, Due, DelayedLine, loses}
+use Rattle.line_world.proofs.Names.{size_of}
 use Rattle.line_world.proofs.Passing.{same-count, Oldest, oldest, first-of, PassesAll, passes-oldest, numbered-by}
 use Rattle.line_world.proofs.direction.DelayedLine.arrive.Goals as goal
 

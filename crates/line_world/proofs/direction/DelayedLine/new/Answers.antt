@@ -1,5 +1,4 @@
-use Rattle.std.proofs.Common.{ap, ◌∙◌, ◌*◌}
-use Rattle.line_world.specs.declared.direction.DelayedLine.{DelayedLine}
+use Rattle.line_world.proofs.Names.{ap, ◌∙◌, ◌*◌, DelayedLine}
 use Rattle.line_world.proofs.Passing.{starts}
 use Rattle.line_world.proofs.direction.DelayedLine.new.Goals as goal
 

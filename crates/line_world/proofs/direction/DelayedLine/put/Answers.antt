@@ -1,7 +1,4 @@
-use Rattle.std.proofs.Common.{◌<◌, length, arith, refl, sym, ◌∙◌, ap, subst}
-use Rattle.lapm_frames.specs.Sendable.{IsSendable}
-use Rattle.line_world.specs.declared.direction.DelayedLine.{DelayedLine}
-use Rattle.line_world.specs.declared.slot.SentSlot.{SentSlot}
+use Rattle.line_world.proofs.Names.{◌<◌, length, arith, refl, sym, ◌∙◌, ap, subst, IsSendable, DelayedLine, SentSlot}
 use Rattle.line_world.proofs.Passing.{puts-so, all-kept}
 use Rattle.line_world.proofs.direction.DelayedLine.put.Goals as goal
 

@@ -1,9 +1,5 @@
-use Rattle.std.proofs.Common.{subst, Ok, Err}
-use Rattle.shared_terms.specs.declared.role.Role.TheVariants.{Originator, Answerer}
-use Rattle.lapm_frames.specs.declared.heard.Heard.{Heard}
-use Rattle.line_run.specs.Sampled.{IsHeardOf}
+use Rattle.line_world.proofs.Names.{subst, Ok, Err, Heard, IsHeardOf, HaveRoom, Originator, Answerer}
 use Rattle.line_world.proofs.Waiting.{Moved, role-hears, late-of, stands-of, hears-both, room-both}
-use Rattle.line_world.specs.Lines.{HaveRoom}
 use Rattle.line_world.proofs.directions.Directions.arrive.Goals.{After-arrive, After-arrive-2}
 use Rattle.line_world.proofs.directions.Directions.arrive.Goals as goal
 

@@ -1,6 +1,4 @@
-use Rattle.std.proofs.Common.{◌*◌, sym, ◌∙◌, ap}
-use Rattle.line_run.specs.Scripted.{wire_at}
-use Rattle.shared_terms.specs.declared.role.Role.TheVariants.{Originator, Answerer}
+use Rattle.line_world.proofs.Names.{◌*◌, sym, ◌∙◌, ap, wire_at, Originator, Answerer}
 use Rattle.line_world.proofs.Waiting.{waits-first, waits-none}
 use Rattle.line_world.proofs.directions.Directions.new.Goals as goal
 

@@ -1,6 +1,4 @@
-use Rattle.shared_terms.specs.declared.role.Role.TheVariants.{Originator, Answerer}
-use Rattle.line_world.specs.declared.lines.Lines.{Lines}
-use Rattle.line_world.specs.Lines.{HaveArrived, HaveRoom}
+use Rattle.line_world.proofs.Names.{HaveArrived, HaveRoom, Lines, Originator, Answerer}
 use Rattle.line_world.proofs.Waiting.{arrives-left}
 use Rattle.line_world.proofs.Coded.{both-coded}
 use Rattle.line_world.proofs.lines.Lines.arrive.Goals as goal

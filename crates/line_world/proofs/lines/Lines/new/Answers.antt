@@ -1,7 +1,4 @@
-use Rattle.std.proofs.Common.{sym}
-use Rattle.line_run.specs.Scripted.{wire_at}
-use Rattle.line_world.specs.declared.lines.Lines.{Lines}
-use Rattle.line_world.specs.Lines.{none_sent}
+use Rattle.line_world.proofs.Names.{sym, wire_at, none_sent, Lines}
 use Rattle.line_world.proofs.Coded.{both-coded}
 use Rattle.line_world.proofs.lines.Lines.new.Goals as goal
 

@@ -1,8 +1,4 @@
-use Rattle.std.proofs.Common.{◌-◌, ap}
-use Rattle.sample_line.specs.Line.{Kept}
-use Rattle.shared_terms.specs.declared.role.Role.TheVariants.{Originator, Answerer}
-use Rattle.line_world.specs.declared.lines.Lines.{Lines}
-use Rattle.line_world.specs.Lines.{and_more}
+use Rattle.line_world.proofs.Names.{◌-◌, ap, and_more, Lines, Kept, Originator, Answerer}
 use Rattle.line_world.proofs.Waiting.{room-of, sends-behind, waits-both, codes-next}
 use Rattle.line_world.proofs.Coded.{both-coded}
 use Rattle.line_world.proofs.lines.Lines.send.Goals as goal

@@ -1,6 +1,4 @@
-use Rattle.std.proofs.Common.{Bool, ◌&&◌, ap, sym, ◌∙◌}
-use Rattle.link_run.specs.End.{has_finished}
-use Rattle.line_run.specs.Scripted.{link_of}
+use Rattle.line_world.proofs.Names.{Bool, ◌&&◌, ap, sym, ◌∙◌, link_of, has_finished}
 use Rattle.line_world.proofs.link.Link.are_finished.Goals as goal
 
 pub returns-then-is_finished : goal.returns-then-is_finished

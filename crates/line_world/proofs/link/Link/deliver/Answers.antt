@@ -1,10 +1,6 @@
-use Rattle.std.proofs.Common.{[], ◌∷◌, inl, inr, subst, rules}
-use Rattle.std.specs.List.{concat}
-use Rattle.outside_calls.specs.Folder.{Rose}
-use Rattle.outside_calls.proofs.Steps.{GoesOn-refl, CountsStand-trans, FaultsStand-trans}
-use Rattle.outside_calls.proofs.Putting.{OnlyPuts-one, OnlyPuts-trans, KeepsEach-refl, AddEach-next, AddPart-longer, AddPart-next}
-use Rattle.link_run.specs.End.{deliveries}
-use Rattle.line_run.specs.Names.{outputs_of, written}
+use Rattle.line_world.proofs.Names.{[], ◌∷◌, inl, inr, subst, rules, concat, outputs_of, written, deliveries, OnlyPuts-one, OnlyPuts-trans}
+use Rattle.line_world.proofs.Names.{KeepsEach-refl, AddEach-next, AddPart-longer, AddPart-next, GoesOn-refl, CountsStand-trans}
+use Rattle.line_world.proofs.Names.{FaultsStand-trans, Rose}
 use Rattle.line_world.proofs.Standing.{counted-on}
 use Rattle.line_world.proofs.Offering.{no-fault}
 use Rattle.line_world.proofs.link.Link.deliver.Goals as goal

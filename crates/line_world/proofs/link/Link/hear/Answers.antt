@@ -1,5 +1,4 @@
-use Rattle.link_run.specs.Run.{arrival}
-use Rattle.line_world.specs.Link.{HearsOn}
+use Rattle.line_world.proofs.Names.{HearsOn, arrival}
 use Rattle.line_world.proofs.link.Link.hear.Goals as goal
 
 pub returns-clause-hears : goal.returns-clause-hears

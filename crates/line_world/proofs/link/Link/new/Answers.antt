@@ -1,7 +1,4 @@
-use Rattle.std.proofs.Common.{subst}
-use Rattle.link_account.specs.declared.setup.Setup.{Setup}
-use Rattle.link_account.specs.Account.{fresh}
-use Rattle.line_world.specs.Station.{Stands}
+use Rattle.line_world.proofs.Names.{subst, Stands, fresh, Setup}
 use Rattle.line_world.proofs.link.Link.new.Goals as goal
 
 pub returns-clause-stands : goal.returns-clause-stands

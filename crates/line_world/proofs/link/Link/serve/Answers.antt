@@ -1,9 +1,5 @@
-use Rattle.std.proofs.Common.{◌≡◌, Bool, ap, subst, ◌∙◌}
-use Rattle.shared_terms.specs.declared.role.Role.TheVariants.{Originator, Answerer}
-use Rattle.link_account.specs.Account.{after_busy}
-use Rattle.link_run.specs.End.{asked, is_busy, is_released}
-use Rattle.line_run.specs.Scripted.{breaks_of, busy_of}
-use Rattle.line_world.specs.Station.{Stands}
+use Rattle.line_world.proofs.Names.{◌≡◌, Bool, ap, subst, ◌∙◌, breaks_of, busy_of, Stands, after_busy, asked, is_busy, is_released}
+use Rattle.line_world.proofs.Names.{Originator, Answerer}
 use Rattle.line_world.proofs.link.Link.serve.Goals as goal
 
 pub returns-clause-stands : goal.returns-clause-stands

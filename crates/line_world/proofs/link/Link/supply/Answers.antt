@@ -1,9 +1,5 @@
-use Rattle.std.proofs.Common.{inl, inr, subst, rules, arith}
-use Rattle.outside_calls.specs.Folder.{Rose}
-use Rattle.outside_calls.proofs.Steps.{OnlyReads-trans, CountsStand-trans, FaultsStand-trans}
-use Rattle.turn_bound.specs.Limits.{file_limit}
-use Rattle.line_world.specs.Station.{Supplies}
-use Rattle.line_run.specs.Names.{written}
+use Rattle.line_world.proofs.Names.{inl, inr, subst, rules, arith, written, Supplies, OnlyReads-trans, CountsStand-trans, FaultsStand-trans}
+use Rattle.line_world.proofs.Names.{Rose, file_limit}
 use Rattle.line_world.proofs.Linking.{reads-later}
 use Rattle.line_world.proofs.Offering.{no-fault}
 use Rattle.line_world.proofs.link.Link.supply.Goals as goal

@@ -1,9 +1,4 @@
-use Rattle.std.proofs.Common.{refl, subst, None}
-use Rattle.outside_calls.specs.Folder.{Appended, PartlyAppended}
-use Rattle.shared_terms.specs.declared.role.Role.TheVariants.{Originator, Answerer}
-use Rattle.link_run.specs.Outcomes.{Done}
-use Rattle.line_run.specs.Names.{written}
-use Rattle.line_world.specs.Mid.{turn_in}
+use Rattle.line_world.proofs.Names.{refl, subst, None, written, turn_in, Done, Appended, PartlyAppended, Originator, Answerer}
 use Rattle.line_world.proofs.Hearing.{heard-in, none-sent}
 use Rattle.line_world.proofs.Speaking.{hears-these, last-turn, text-is, adds-part}
 use Rattle.line_world.proofs.modems.Modems.finish.Goals as goal

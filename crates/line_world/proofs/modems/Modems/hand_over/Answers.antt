@@ -1,8 +1,6 @@
-use Rattle.std.proofs.Common.{◌∙◌}
+use Rattle.line_world.proofs.Names.{◌∙◌, written, delivered}
 use Rattle.line_world.specs.Link.{both_ends}
-use Rattle.link_run.specs.End.{delivered}
 use Rattle.line_world.proofs.Serving.{given-delivered, writing-fault, writing-counts}
-use Rattle.line_run.specs.Names.{written}
 use Rattle.line_world.proofs.modems.Modems.hand_over.Goals as goal
 
 pub returns-in-Ok-clause-hands : goal.returns-in-Ok-clause-hands

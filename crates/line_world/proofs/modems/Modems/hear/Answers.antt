@@ -1,9 +1,4 @@
-use Rattle.std.proofs.Common.{arith, refl, sym, subst}
-use Rattle.noise_script.specs.Script.{IsInLimits}
-use Rattle.line_run.specs.Scripted.{wire_at}
-use Rattle.line_world.specs.Lines.{ArrivesBoth, HaveArrived}
-use Rattle.line_world.specs.Link.{HearsWell}
-use Rattle.link_run.specs.Run.{arrival}
+use Rattle.line_world.proofs.Names.{arith, refl, sym, subst, wire_at, ArrivesBoth, HaveArrived, HearsWell, arrival, IsInLimits}
 use Rattle.line_world.proofs.Hearing.{HearingLaws, IsHeardBy, few-turns, early-turns, heard-by, hears-well, has-heard, tallies-heard}
 use Rattle.line_world.proofs.Hearing.{lost-so}
 use Rattle.line_world.proofs.modems.Modems.hear.Goals as goal

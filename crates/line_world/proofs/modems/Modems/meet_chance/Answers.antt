@@ -1,7 +1,4 @@
-use Rattle.std.proofs.Common.{inr, subst}
-use Rattle.outside_calls.specs.Folder.{Appended, PartlyAppended}
-use Rattle.line_texts.specs.LineText.{chance_line}
-use Rattle.line_run.specs.Names.{written}
+use Rattle.line_world.proofs.Names.{inr, subst, written, chance_line, Appended, PartlyAppended}
 use Rattle.line_world.proofs.Folders.{receives-none}
 use Rattle.line_world.proofs.Turning.{writing-ends}
 use Rattle.line_world.proofs.modems.Modems.meet_chance.Goals as goal

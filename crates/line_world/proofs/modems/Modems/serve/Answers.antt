@@ -1,9 +1,6 @@
-use Rattle.std.proofs.Common.{◌+◌, length, sym, subst}
-use Rattle.noise_script.specs.Script.{IsInLimits}
-use Rattle.line_world.specs.Link.{LinkStands}
-use Rattle.line_world.specs.Mid.{ReadsBoth, served, supplied, handed}
+use Rattle.line_world.proofs.Names.{◌+◌, length, sym, subst, written, LinkStands, ReadsBoth, served, IsInLimits}
+use Rattle.line_world.specs.Mid.{supplied, handed}
 use Rattle.line_world.proofs.Serving.{over-others, reading-fault, reading-counts}
-use Rattle.line_run.specs.Names.{written}
 use Rattle.line_world.proofs.modems.Modems.serve.Goals as goal
 
 pub serve-requires-clause-counted : goal.serve-requires-clause-counted

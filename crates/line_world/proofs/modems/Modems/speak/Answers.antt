@@ -1,12 +1,6 @@
-use Rattle.std.proofs.Common.{◌+◌, refl, sym, ◌∙◌, ap, subst, Some, None, arith, rules}
-use Rattle.outside_calls.specs.Folder.{Appended, PartlyAppended}
-use Rattle.shared_terms.specs.declared.role.Role.TheVariants.{Originator, Answerer}
-use Rattle.noise_script.specs.Script.{IsInLimits}
-use Rattle.line_run.specs.Scripted.{longest_of, slot_symbols}
-use Rattle.line_world.specs.Lines.{ArePut}
+use Rattle.line_world.proofs.Names.{◌+◌, refl, sym, ◌∙◌, ap, subst, Some, None, arith, rules, written, longest_of, slot_symbols, ArePut}
+use Rattle.line_world.proofs.Names.{turn_in, IsInLimits, Appended, PartlyAppended, Originator, Answerer}
 use Rattle.link_run.specs.Outcomes.{Going, Broken}
-use Rattle.line_run.specs.Names.{written}
-use Rattle.line_world.specs.Mid.{turn_in}
 use Rattle.line_world.proofs.Hearing.{none-sent}
 use Rattle.line_world.proofs.Speaking.{GoingLaws, spoken_by, ends_of, spoken-turn, broken-turn, text-is, all-codable, put_by}
 use Rattle.line_world.proofs.Speaking.{are-put, goes-on, ends-so, counts-so, stops-so, adds-part}

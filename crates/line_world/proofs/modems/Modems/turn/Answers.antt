@@ -1,15 +1,7 @@
-use Rattle.std.proofs.Common.{◌≡◌, ◌+◌, ◌<◌, length, refl, sym, ◌∙◌, ap, subst}
-use Rattle.outside_calls.proofs.Steps.{CountsStand-trans, CountsStand-refl}
-use Rattle.link_run.specs.End.{is_closed}
-use Rattle.outside_calls.proofs.Putting.{OnlyPuts-trans, OnlyPuts-reads, KeepsEach-refl, KeepsEach-reads, AddEach-kept, OnlyPuts-refl}
-use Rattle.line_run.specs.Names.{outputs_of, written}
-use Rattle.line_world.specs.Link.{AreCounted, octets_of}
-use Rattle.line_world.specs.declared.directions.LineEnd.{LineEnd}
-use Rattle.line_run.specs.Sampled.{EndsLine}
-use Rattle.line_run.specs.Scripted.{wire_at}
-use Rattle.line_world.specs.Lines.{HaveArrived}
-use Rattle.link_run.specs.Outcomes.{Done}
-use Rattle.line_world.specs.Mid.{handed, served}
+use Rattle.line_world.proofs.Names.{◌≡◌, ◌+◌, ◌<◌, length, refl, sym, ◌∙◌, ap, subst, outputs_of, written, EndsLine, wire_at, end_of}
+use Rattle.line_world.proofs.Names.{HaveArrived, AreCounted, octets_of, served, LineEnd, is_closed, Done, OnlyPuts-trans, OnlyPuts-reads}
+use Rattle.line_world.proofs.Names.{KeepsEach-refl, KeepsEach-reads, AddEach-kept, OnlyPuts-refl, CountsStand-trans, CountsStand-refl}
+use Rattle.line_world.specs.Mid.{handed}
 use Rattle.line_world.proofs.Hearing.{early-turns}
 use Rattle.line_world.proofs.Serving.{phase-delivered}
 use Rattle.line_world.proofs.Folders.{lines-only, counts-later, stay-known, others-known}
@@ -18,7 +10,6 @@ use Rattle.line_world.proofs.Turning.{stops-reading, stops-writing, ends-in, spe
 use Rattle.line_world.proofs.modems.Modems.turn.Given.{Over}
 use Rattle.line_world.proofs.modems.Modems.turn.Goals.{After-line_runs_end_soon}
 use Rattle.line_world.proofs.modems.Modems.turn.Goals as goal
-use Rattle.line_world.specs.Faults.{end_of}
 
 pub serve-requires : goal.serve-requires
 serve-requires g c = record {

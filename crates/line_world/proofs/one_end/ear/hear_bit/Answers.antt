@@ -1,7 +1,5 @@
-use Rattle.std.proofs.Common.{[], ◌∷◌, ◌++◌, subst}
-use Rattle.lapm_frames.specs.declared.arrived.Arrived.{Arrived}
+use Rattle.line_world.proofs.Names.{[], ◌∷◌, ◌++◌, subst, Arrived, IsHeard}
 use Rattle.lapm_frames.specs.declared.arrived.Arrived.TheVariants as arrivals
-use Rattle.line_world.specs.OneEnd.Heard.{IsHeard}
 use Rattle.line_world.proofs.OneEnd.Hearing.{first-now, frame-ends, heard-before, heard-still, nothing-ends}
 use Rattle.line_world.proofs.one_end.ear.hear_bit.Goals as goal
 

@@ -1,7 +1,4 @@
-use Rattle.std.proofs.Common.{Bool, List, ◌++◌, take, subst, arith}
-use Rattle.frame_check.specs.Bits.{octet_bits}
-use Rattle.detection.specs.Ear.{HasHeard}
-use Rattle.line_world.specs.OneEnd.Heard.{IsHeard}
+use Rattle.line_world.proofs.Names.{Bool, List, ◌++◌, take, subst, arith, HasHeard, octet_bits, IsHeard}
 use Rattle.line_world.proofs.OneEnd.Hearing.{append-again, bit-more, heard-quiet}
 use Rattle.line_world.proofs.one_end.ear.hear_octet.Goals as goal
 

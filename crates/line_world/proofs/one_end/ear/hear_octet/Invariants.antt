@@ -1,8 +1,4 @@
-use Rattle.std.proofs.Common.{Bool, List, ◌++◌, take}
-use Rattle.frame_check.specs.Bits.{octet_bits}
-use Rattle.link_account.specs.Numbers.{IsNumbered}
-use Rattle.line_world.specs.OneEnd.Heard.{IsHeard}
-use Rattle.detection.specs.Ear.{HasHeard}
+use Rattle.line_world.proofs.Names.{Bool, List, ◌++◌, take, HasHeard, octet_bits, IsHeard, IsNumbered}
 use Rattle.line_world.proofs.one_end.ear.hear_octet.Given as goal
 
 abbrev pub invariant-loop-place : goal.invariant-loop-place

@@ -1,8 +1,4 @@
-use Rattle.std.proofs.Common.{Bool, List, ◌++◌, take}
-use Rattle.frame_check.specs.Bits.{bits_of}
-use Rattle.link_account.specs.Numbers.{IsNumbered}
-use Rattle.line_world.specs.OneEnd.Heard.{IsHeard, filled}
-use Rattle.detection.specs.Ear.{HasHeard}
+use Rattle.line_world.proofs.Names.{Bool, List, ◌++◌, take, HasHeard, bits_of, IsHeard, filled, IsNumbered}
 use Rattle.line_world.proofs.one_end.ear.hear_slot.Given as goal
 
 abbrev pub invariant-loop-place : goal.invariant-loop-place

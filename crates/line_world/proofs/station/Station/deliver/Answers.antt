@@ -1,7 +1,5 @@
-use Rattle.std.proofs.Common.{ℕ, List, arith, refl, sym, subst}
-use Rattle.outside_calls.specs.Folder.{FolderState, Appended, PartlyAppended, Rose}
-use Rattle.outside_calls.proofs.Steps.{CountsStand-refl, CountsStand-trans, FaultsStand-trans}
-use Rattle.line_world.specs.declared.station.Station.{Station}
+use Rattle.line_world.proofs.Names.{ℕ, List, arith, refl, sym, subst, Station, CountsStand-refl, CountsStand-trans, FaultsStand-trans}
+use Rattle.line_world.proofs.Names.{FolderState, Appended, PartlyAppended, Rose}
 use Rattle.line_world.proofs.Handing.{handing-starts, handing-next, handing-ends, handing-stops, handed-segment, writes-on, writes-none}
 use Rattle.line_world.proofs.Standing.{takes-on}
 use Rattle.line_world.proofs.Offering.{no-fault}

@@ -1,8 +1,5 @@
-use Rattle.std.proofs.Common.{◌≡◌, ℕ, List}
-use Rattle.outside_calls.specs.Folder.{OnlyWrites, CountsStand}
-use Rattle.lapm_link.specs.Stands.{TakesNothing, undelivered_of}
-use Rattle.link_account.specs.Account.{Account}
-use Rattle.line_world.specs.Station.{Stands}
+use Rattle.line_world.proofs.Names.{◌≡◌, ℕ, List, TakesNothing, Stands, Account, OnlyWrites, CountsStand}
+use Rattle.lapm_link.specs.Stands.{undelivered_of}
 use Rattle.line_world.proofs.Handing.{Handing}
 use Rattle.line_world.proofs.station.Station.deliver.Given as goal
 

@@ -1,5 +1,4 @@
-use Rattle.std.proofs.Common.{◌+◌, ◌≤◌, IfOk, subst, sym, ◌∙◌}
-use Rattle.lapm_link.specs.Stands.{StandsFor, taken_of}
+use Rattle.line_world.proofs.Names.{◌+◌, ◌≤◌, IfOk, subst, sym, ◌∙◌, StandsFor, taken_of}
 use Rattle.line_world.proofs.Standing.{kept-heard, kept-counted, heard-gives-up}
 use Rattle.line_world.proofs.station.Station.hear.Goals as goal
 

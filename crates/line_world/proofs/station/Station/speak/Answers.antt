@@ -1,6 +1,4 @@
-use Rattle.std.proofs.Common.{IfOk, subst, sym, ◌∙◌}
-use Rattle.lapm_link.specs.Stands.{StandsFor, TakesNothing}
-use Rattle.lapm_frames.specs.Sendable.{IsSendable}
+use Rattle.line_world.proofs.Names.{IfOk, subst, sym, ◌∙◌, IsSendable, StandsFor, TakesNothing}
 use Rattle.line_world.proofs.Standing.{kept-spoken, kept-idle, kept-counts, kept-sendable, kept-fault, spoken-gives-up}
 use Rattle.line_world.proofs.station.Station.speak.Goals as goal
 

@@ -1,10 +1,8 @@
-use Rattle.std.proofs.Common.{◌≡◌, ◌<◌, ◌^◌, ℕ, List, length, take, arith, refl, sym, ap, subst, ◌∙◌, Option, rules}
-use Rattle.std.proofs.lemmas.List.{length-take-le}
+use Rattle.line_world.proofs.Names.{◌≡◌, ◌<◌, ◌^◌, ℕ, List, length, take, arith, refl, sym, ap, subst, ◌∙◌, Option, rules, length-take-le}
+use Rattle.line_world.proofs.Names.{piece_at, OnlyReads-trans, CountsStand-refl, CountsStand-trans, FaultsStand-trans, told_later}
+use Rattle.line_world.proofs.Names.{octets-kept, FolderState, Rose}
 use Rattle.std.specs.Option.{IsSomeAnd}
-use Rattle.outside_calls.specs.Folder.{FolderState, Rose}
-use Rattle.outside_calls.proofs.Steps.{OnlyReads-refl, OnlyReads-trans, CountsStand-refl, CountsStand-trans, FaultsStand-trans, told_later}
-use Rattle.outside_calls.proofs.Steps.{octets-kept}
-use Rattle.link_run.specs.End.{piece_at}
+use Rattle.outside_calls.proofs.Steps.{OnlyReads-refl}
 use Rattle.line_world.proofs.Offering.{supplying-starts, supplying-next, supplying-ends, wants-within, as-err, no-fault}
 use Rattle.line_world.proofs.Standing.{idle-on, counted-on, takes-on}
 use Rattle.line_world.proofs.station.Station.supply.Goals as goal

@@ -1,9 +1,6 @@
-use Rattle.std.proofs.Common.{◌≡◌, ◌≤◌, ℕ, List, length}
-use Rattle.outside_calls.specs.Folder.{OnlyReads, CountsStand}
+use Rattle.line_world.proofs.Names.{◌≡◌, ◌≤◌, ℕ, List, length, TakesNothing, Stands, Supplying, Account, OnlyReads, CountsStand}
 use Rattle.frame_check.specs.declared.sizes.TheConstants.{INFO}
-use Rattle.lapm_link.specs.Stands.{TakesNothing, room_of}
-use Rattle.link_account.specs.Account.{Account}
-use Rattle.line_world.specs.Station.{Stands, Supplying}
+use Rattle.lapm_link.specs.Stands.{room_of}
 use Rattle.line_world.proofs.station.Station.supply.Given as goal
 
 abbrev pub invariant-loop-number : goal.invariant-loop-number

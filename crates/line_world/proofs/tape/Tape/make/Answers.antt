@@ -1,8 +1,6 @@
-use Rattle.std.proofs.Common.{option_copied, subst}
-use Rattle.sample_line.specs.Mode.{mode_of}
+use Rattle.line_world.proofs.Names.{subst, wire_of, HasSent, mode_of}
+use Rattle.std.proofs.Common.{option_copied}
 use Rattle.line_run.specs.Sampled.{bits_of}
-use Rattle.line_run.specs.Scripted.{wire_of}
-use Rattle.line_world.specs.World.{HasSent}
 use Rattle.line_world.proofs.Taping.{slot-recorded}
 use Rattle.line_world.proofs.tape.Tape.make.Goals as goal
 

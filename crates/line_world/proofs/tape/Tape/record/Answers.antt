@@ -1,7 +1,4 @@
-use Rattle.outside_calls.specs.Folder.{FolderState}
-use Rattle.std.proofs.Common.{ℕ, List, subst}
-use Rattle.outside_calls.specs.Folder.{Appended, PartlyAppended}
-use Rattle.line_run.specs.Scripted.{wire_of}
+use Rattle.line_world.proofs.Names.{ℕ, List, subst, wire_of, FolderState, Appended, PartlyAppended}
 use Rattle.line_world.proofs.Taping.{takes-slot, takes-part}
 use Rattle.line_world.proofs.tape.Tape.record.Goals as goal
 

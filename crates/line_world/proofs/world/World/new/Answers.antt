@@ -1,5 +1,4 @@
-use Rattle.std.proofs.Common.{refl, None}
-use Rattle.line_run.specs.Scripted.{wire_of}
+use Rattle.line_world.proofs.Names.{refl, None, wire_of}
 use Rattle.line_world.proofs.Lending.{ready-first}
 use Rattle.line_world.proofs.world.World.new.Goals as goal
 

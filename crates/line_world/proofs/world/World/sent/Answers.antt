@@ -1,6 +1,4 @@
-use Rattle.std.proofs.Common.{◌∷◌}
-use Rattle.line_run.specs.Scripted.{wire_of, link_of}
-use Rattle.line_run.specs.Stream.{both_sent_by}
+use Rattle.line_world.proofs.Names.{◌∷◌, wire_of, link_of, both_sent_by}
 use Rattle.line_world.proofs.Lending.{sent-so}
 use Rattle.line_world.proofs.world.World.sent.Goals as goal
 

@@ -1,12 +1,6 @@
-use Rattle.std.proofs.Common.{◌∷◌, sym, ◌∙◌, subst, Result}
-use Rattle.line_run.specs.Scripted.{wire_at, wire_of}
-use Rattle.line_run.specs.Stream.{both_sent_by}
-use Rattle.line_world.specs.Lines.{AreDue, LinesWait}
-use Rattle.line_run.specs.Names.{written}
-use Rattle.line_world.specs.Modems.{ModemsAfter}
-use Rattle.line_world.specs.Turn.{GoesOnBy, TurnAnswers}
-use Rattle.line_world.specs.declared.step.Step.{Step}
-use Rattle.line_run.specs.declared.fault.RunFault.{RunFault}
+use Rattle.line_world.proofs.Names.{◌∷◌, sym, ◌∙◌, subst, Result, written, wire_at, wire_of, both_sent_by, RunFault, AreDue, LinesWait}
+use Rattle.line_world.proofs.Names.{ModemsAfter, GoesOnBy, Step}
+use Rattle.line_world.specs.Turn.{TurnAnswers}
 use Rattle.line_world.proofs.Lending.{LoneLaws, alone, are-due, lends}
 use Rattle.line_world.proofs.world.World.turn.Goals as goal
 

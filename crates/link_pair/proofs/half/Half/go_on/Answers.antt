@@ -1,6 +1,4 @@
-use Rattle.std.proofs.Common.{refl, sym, ◌∙◌, ap, Ok}
-use Rattle.line_run.specs.Scripted.{wire_at}
-use Rattle.line_run.specs.Names.{written}
+use Rattle.link_pair.proofs.Names.{refl, sym, ◌∙◌, ap, Ok, written, wire_at}
 use Rattle.link_pair.proofs.Going.{ready-for, came-to, came-going, came-ended, came-halted, sorted-counts}
 use Rattle.link_pair.proofs.half.Half.go_on.Goals as goal
 

@@ -1,13 +1,8 @@
-use Rattle.std.proofs.Common.{refl, subst, rules, [], ◌∷◌}
-use Rattle.shared_terms.specs.Both.{of}
-use Rattle.line_run.specs.Sampled.{EndsLineBy}
-use Rattle.line_run.specs.Scripted.{wire_at}
+use Rattle.link_pair.proofs.Names.{refl, subst, rules, [], ◌∷◌, outputs_of, written, EndsLineBy, wire_at, turns_on_line, OnlyPuts-refl}
+use Rattle.link_pair.proofs.Names.{CountsStand-refl, of}
 use Rattle.line_world.specs.declared.directions.LineEnd.{LineEnd}
-use Rattle.line_run.specs.Names.{outputs_of, written}
-use Rattle.link_pair.specs.Pairs.Pair.{turns_on_line}
 use Rattle.link_pair.proofs.Idling.{at-end, count-at, has-idled, lost-idly, met-idly, stopped-idly, writes-ends}
-use Rattle.outside_calls.proofs.Steps.{CountsStand-refl}
-use Rattle.outside_calls.proofs.Putting.{OnlyPuts-one, OnlyPuts-refl}
+use Rattle.outside_calls.proofs.Putting.{OnlyPuts-one}
 use Rattle.link_pair.proofs.half.Half.idle.Goals as goal
 use Rattle.line_world.specs.Faults.{end_of}
 

@@ -1,5 +1,4 @@
-use Rattle.std.proofs.Common.{refl, []}
-use Rattle.link_pair.specs.Pairs.Beside.{first_dlci, after_second}
+use Rattle.link_pair.proofs.Names.{refl, [], first_dlci, after_second}
 use Rattle.link_pair.proofs.two_links.Pair.new.Goals as goal
 
 pub returns-clause-first : goal.returns-clause-first

@@ -1,10 +1,6 @@
-use Rattle.std.proofs.Common.{subst, ◌∙◌, Ok}
-use Rattle.outside_calls.specs.Folder.{FolderState}
-use Rattle.outside_calls.proofs.Putting.{OnlyPuts-trans}
-use Rattle.noise_script.specs.Script.{ScriptValue}
-use Rattle.line_run.specs.Names.{Written, written}
-use Rattle.link_pair.specs.Pairs.Ends.{First, Second}
-use Rattle.link_pair.specs.Pair.{Comes, inputs_in, outputs_in, round_of, script_of}
+use Rattle.link_pair.proofs.Names.{subst, ◌∙◌, Ok, Written, written, Comes, round_of, script_of, First, Second, ScriptValue, OnlyPuts-trans}
+use Rattle.link_pair.proofs.Names.{FolderState}
+use Rattle.link_pair.specs.Pair.{inputs_in, outputs_in}
 use Rattle.link_pair.proofs.Beginning.{counts-behind}
 use Rattle.link_pair.proofs.two_links.Pair.round.Goals as goal
 

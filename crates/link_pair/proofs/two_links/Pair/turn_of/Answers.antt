@@ -1,7 +1,5 @@
-use Rattle.std.proofs.Common.{sym, subst, Ok, arith}
-use Rattle.outside_calls.specs.Folder.{FolderState}
-use Rattle.line_run.specs.Names.{Written, written}
-use Rattle.link_pair.specs.Pair.{Awaits, Comes, which}
+use Rattle.link_pair.proofs.Names.{sym, subst, Ok, arith, Written, written, Awaits, Comes, FolderState}
+use Rattle.link_pair.specs.Pair.{which}
 use Rattle.link_pair.proofs.Beside.{first-apart, second-apart, only-first, only-second, first-counts, second-counts}
 use Rattle.link_pair.proofs.Pairing.{PairLaws, pair-laws, first-ready, second-ready, few-rounds}
 use Rattle.link_pair.proofs.Turning.{Leaves, first_moved, second_moved, comes-first, comes-second, fault-first, fault-second}

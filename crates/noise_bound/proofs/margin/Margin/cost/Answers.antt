@@ -1,5 +1,4 @@
-use Rattle.std.proofs.Common.{subst, sym}
-use Rattle.noise_bound.specs.Margins.{Measured, IsCostOf}
+use Rattle.noise_bound.proofs.Names.{subst, sym, Measured, IsCostOf}
 use Rattle.noise_bound.proofs.Margins.{measured}
 use Rattle.noise_bound.proofs.margin.Margin.cost.Goals as goal
 

@@ -1,8 +1,6 @@
-use Rattle.std.proofs.Common.{◌+◌, [], ◌∷◌, ◌++◌, Bool, List, refl, sym, subst, arith}
-use Rattle.frame_check.specs.Bits.{bits_of}
-use Rattle.line_coding.specs.Modulates.{ModulatorStands}
+use Rattle.noise_bound.proofs.Names.{◌+◌, [], ◌∷◌, ◌++◌, Bool, List, refl, sym, subst, arith, bits_of, ModulatorStands, Measured}
+use Rattle.noise_bound.proofs.Names.{MarginStands}
 use Rattle.recordings.proofs.Octets.{bits-more}
-use Rattle.noise_bound.specs.Margins.{Measured, MarginStands}
 use Rattle.noise_bound.proofs.Margins.{measures-more}
 use Rattle.noise_bound.proofs.margin.Margin.push.Goals as goal
 

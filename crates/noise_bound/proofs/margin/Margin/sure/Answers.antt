@@ -1,6 +1,4 @@
-use Rattle.std.proofs.Common.{nat_lt, ap}
-use Rattle.noise_bound.specs.Margins.{Measured}
-use Rattle.noise_bound.specs.Near.{sure}
+use Rattle.noise_bound.proofs.Names.{nat_lt, ap, Measured, sure}
 use Rattle.noise_bound.proofs.margin.Margin.sure.Goals as goal
 
 pub returns : goal.returns

@@ -1,7 +1,4 @@
-use Rattle.std.proofs.Common.{◌∙◌, Err}
-use Rattle.outside_calls.proofs.Putting.{OnlyOutputs-puts}
-use Rattle.command_base.proofs.Jobs.{answers-done, answers-stopped}
-use Rattle.run_commands.specs.Peering.Words.{Names, named, outputs_of}
+use Rattle.run_commands.proofs.Names.{◌∙◌, Err, answers-done, answers-stopped, OnlyOutputs-puts, Names, named, outputs_of}
 use Rattle.run_commands.proofs.Peering.Headline.{refused-by}
 use Rattle.run_commands.proofs.peer.command.meet_and_tell.Goals as goal
 

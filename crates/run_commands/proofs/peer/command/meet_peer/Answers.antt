@@ -1,9 +1,6 @@
-use Rattle.outside_calls.specs.Folder.{FolderState}
-use Rattle.outside_calls.proofs.Steps.{OnlyReads-trans, FaultsStand-trans, CountsStand-trans}
-use Rattle.shared_terms.specs.declared.limits.TheConstants.{FILE_LIMIT}
-use Rattle.command_base.proofs.Jobs.{stop-earlier, end-earlier}
-use Rattle.outside_calls.proofs.Putting.{OnlyPuts-reads, OnlyPuts-trans}
-use Rattle.run_commands.specs.Peering.Words.{Names, named, inputs_of, outputs_of}
+use Rattle.run_commands.proofs.Names.{stop-earlier, end-earlier, OnlyPuts-reads, OnlyPuts-trans, CountsStand-trans, FolderState, Names}
+use Rattle.run_commands.proofs.Names.{named, inputs_of, outputs_of, FILE_LIMIT}
+use Rattle.outside_calls.proofs.Steps.{OnlyReads-trans, FaultsStand-trans}
 use Rattle.command_base.proofs.Reading.{within-earlier}
 use Rattle.run_commands.proofs.Peering.Reaching.{bits-fail, file-fails}
 use Rattle.run_commands.proofs.Peering.Starting.{bits-refused, file-refused, refused-counts}

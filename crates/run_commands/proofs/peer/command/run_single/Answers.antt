@@ -1,7 +1,4 @@
-use Rattle.std.proofs.Common.{inl}
-use Rattle.outside_calls.proofs.Putting.{OnlyPuts-trans}
-use Rattle.command_base.proofs.Jobs.{end-earlier}
-use Rattle.run_commands.specs.Peering.Words.{Names, named, inputs_of, outputs_of}
+use Rattle.run_commands.proofs.Names.{inl, end-earlier, OnlyPuts-trans, Names, named, inputs_of, outputs_of}
 use Rattle.run_commands.proofs.Peering.Starting.{reached-first, ends-creating}
 use Rattle.run_commands.proofs.peer.command.run_single.Goals as goal
 

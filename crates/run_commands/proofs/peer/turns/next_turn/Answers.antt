@@ -1,24 +1,13 @@
-use Rattle.std.proofs.Common.{◌≡◌, ◌∙◌, inl, inr, ℕ, ◌+◌, ◌*◌, ◌<◌, IsTrue, List, ◌++◌, length, take, refl, sym, subst, arith, Option, Some}
-use Rattle.std.proofs.Common.{None, Result, Ok, Err, rules}
-use Rattle.std.proofs.lemmas.List.{append-nil, length-take-le}
-use Rattle.outside_calls.specs.Folder.{FolderState, octets_at}
-use Rattle.outside_calls.proofs.Putting.{OnlyPuts-reads}
-use Rattle.outside_calls.proofs.Steps.{CountsStand-trans}
-use Rattle.shared_terms.specs.declared.role.Role.{Role}
-use Rattle.shared_terms.specs.declared.limits.TheConstants.{FILE_LIMIT}
-use Rattle.command_base.specs.Inputs.{ReadTo}
-use Rattle.command_base.specs.declared.stop.Stop.{Stop}
-use Rattle.command_base.specs.Stops.{StopCounts}
-use Rattle.line_world.specs.OneEnd.Heard.{slot_octets}
-use Rattle.line_world.specs.OneEnd.Peer.{Closed}
-use Rattle.line_world.specs.OneEnd.Single.{turn_of}
-use Rattle.line_world.specs.OneEnd.Turn.{Makes, EndsBy as TurnEndsBy}
-use Rattle.run_commands.specs.Peering.Words.{Names, named, turn_names, inputs_of, outputs_of}
+use Rattle.run_commands.proofs.Names.{◌≡◌, ◌∙◌, inl, inr, ℕ, ◌+◌, ◌*◌, ◌<◌, IsTrue, List, ◌++◌, length, take, refl, sym, subst, arith}
+use Rattle.run_commands.proofs.Names.{Option, Some, None, Result, Ok, Err, rules, append-nil, ReadTo, StopCounts, Stop, slot_octets, Closed}
+use Rattle.run_commands.proofs.Names.{turn_of, Makes, OnlyPuts-reads, CountsStand-trans, FolderState, octets_at, Reached, Names, named}
+use Rattle.run_commands.proofs.Names.{turn_names, inputs_of, outputs_of, FILE_LIMIT, Role}
+use Rattle.std.proofs.lemmas.List.{length-take-le}
+use Rattle.line_world.specs.OneEnd.Turn.{EndsBy as TurnEndsBy}
 use Rattle.run_commands.specs.Peering.Ends.{EndsBy}
 use Rattle.run_commands.proofs.Peering.Starting.{goes-by, ends-short-by}
 use Rattle.run_commands.proofs.Peering.Reaching.{fails-later, Around, around-slot, fault-ends, closed-ends, ends-whole, not-read}
 use Rattle.run_commands.proofs.Peering.Reaching.{turn-apart, touches, bits-fail, fault-counts}
-use Rattle.run_commands.specs.Peering.Turns.{Reached}
 use Rattle.run_commands.proofs.peer.turns.next_turn.Given.{Over}
 use Rattle.run_commands.proofs.peer.turns.next_turn.Goals.{After-turn}
 use Rattle.run_commands.proofs.peer.turns.next_turn.Goals as goal

@@ -1,8 +1,6 @@
-use Rattle.std.proofs.Common.{refl, arith}
-use Rattle.outside_calls.proofs.Putting.{OnlyPuts-refl, OnlyPuts-trans}
-use Rattle.outside_calls.proofs.Steps.{CountsStand-refl, CountsStand-trans}
-use Rattle.command_base.proofs.Jobs.{stop-earlier}
-use Rattle.run_commands.specs.Peering.Words.{named, inputs_of, outputs_of}
+use Rattle.run_commands.proofs.Names.{refl, arith, stop-earlier, OnlyPuts-trans, CountsStand-refl, CountsStand-trans, named, inputs_of}
+use Rattle.run_commands.proofs.Names.{outputs_of}
+use Rattle.outside_calls.proofs.Putting.{OnlyPuts-refl}
 use Rattle.run_commands.proofs.peer.turns.run_turns.Goals as goal
 
 pub loop-turns-init : goal.loop-turns-init

@@ -1,11 +1,7 @@
-use Rattle.std.proofs.Common.{◌-◌, ◌*◌, ◌≤◌}
-use Rattle.outside_calls.specs.Folder.{FolderState, CountsStand}
-use Rattle.shared_terms.specs.declared.limits.TheConstants.{FILE_LIMIT}
-use Rattle.outside_calls.specs.Outputs.{OnlyPuts}
-use Rattle.line_world.specs.OneEnd.Heard.{slot_octets}
-use Rattle.line_world.specs.OneEnd.Single.{IsReady, turn_of}
-use Rattle.run_commands.specs.Peering.Words.{named, outputs_of}
-use Rattle.run_commands.specs.Peering.Turns.{Reached}
+use Rattle.run_commands.proofs.Names.{◌*◌, ◌≤◌, slot_octets, turn_of, FolderState, CountsStand, OnlyPuts, Reached, named, outputs_of}
+use Rattle.run_commands.proofs.Names.{FILE_LIMIT}
+use Rattle.std.proofs.Common.{◌-◌}
+use Rattle.line_world.specs.OneEnd.Single.{IsReady}
 use Rattle.run_commands.proofs.peer.turns.run_turns.Given as goal
 
 abbrev pub invariant-loop-turns : goal.invariant-loop-turns

@@ -1,6 +1,4 @@
-use Rattle.std.proofs.Common.{sym, ◌∙◌, ap}
-use Rattle.command_base.specs.declared.stop.Stop.TheVariants.{Own}
-use Rattle.run_commands.specs.Peering.Turns.{fault_stop}
+use Rattle.run_commands.proofs.Names.{sym, ◌∙◌, ap, Own, fault_stop}
 use Rattle.run_commands.proofs.peer.turns.stop_of.Goals as goal
 
 pub returns-in-Link : goal.returns-in-Link

@@ -1,6 +1,5 @@
-use Rattle.std.proofs.Common.{◌∙◌, Err}
-use Rattle.command_base.proofs.Jobs.{answers-done, answers-stopped}
-use Rattle.run_inputs.specs.Words.{RunNames, named}
+use Rattle.run_commands.proofs.Names.{◌∙◌, Err, answers-done, answers-stopped, RunNames}
+use Rattle.run_inputs.specs.Words.{named}
 use Rattle.run_commands.proofs.Running.Refusing.{refused-by}
 use Rattle.run_commands.proofs.run.command.run_and_tell.Goals as goal
 

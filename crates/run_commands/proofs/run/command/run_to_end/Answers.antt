@@ -1,13 +1,7 @@
-use Rattle.std.proofs.Common.{◌∙◌, [], sym, subst}
-use Rattle.noise_script.specs.Script.{ScriptValue}
-use Rattle.link_run.specs.Run.{start}
-use Rattle.line_run.specs.Scripted.{link_of}
-use Rattle.line_world.specs.World.{WorldAfter}
-use Rattle.command_base.proofs.Jobs.{end-earlier}
-use Rattle.outside_calls.proofs.OnlyOutputs.{OnlyOutputs-reads, OnlyOutputs-trans}
-use Rattle.run_inputs.specs.declared.limits.TheConstants.{LIMITS}
-use Rattle.run_inputs.specs.Words.{RunNames, named, inputs_of, outputs_of}
-use Rattle.run_commands.specs.Running.Ends.{IsBegun}
+use Rattle.run_commands.proofs.Names.{◌∙◌, [], sym, subst, end-earlier, link_of, WorldAfter, start, ScriptValue, OnlyOutputs-trans, IsBegun}
+use Rattle.run_commands.proofs.Names.{RunNames, LIMITS}
+use Rattle.outside_calls.proofs.OnlyOutputs.{OnlyOutputs-reads}
+use Rattle.run_inputs.specs.Words.{named, inputs_of, outputs_of}
 use Rattle.run_commands.proofs.Running.Runs.{ends-refused}
 use Rattle.run_commands.proofs.run.command.run_to_end.Goals as goal
 

@@ -1,20 +1,8 @@
-use Rattle.std.proofs.Common.{inl, inr, ◌++◌, sym, subst, rules}
-use Rattle.outside_calls.specs.Folder.{FolderState}
-use Rattle.outside_calls.proofs.Steps.{CountsStand-trans}
-use Rattle.noise_script.specs.Script.{ScriptValue}
-use Rattle.outside_calls.specs.Outputs.{AreApartFrom, OnlyPuts}
-use Rattle.line_run.specs.Recorded.{Tapes, tapes_of}
+use Rattle.run_commands.proofs.Names.{inl, inr, ◌++◌, sym, subst, rules, stop-earlier, StopCounts, Tapes, tapes_of, FaultCountsOver}
+use Rattle.run_commands.proofs.Names.{RunEnds, FaultEnds, script_of, ScriptValue, OnlyOutputs-trans, OnlyOutputs-puts, CountsStand-trans}
+use Rattle.run_commands.proofs.Names.{FolderState, AreApartFrom, OnlyPuts, EndsBy, RunNames, LIMITS}
 use Rattle.line_run.specs.Names as written
-use Rattle.line_world.specs.World.{script_of}
-use Rattle.line_world.specs.Turn.{FaultCountsOver}
-use Rattle.command_base.specs.Stops.{StopCounts}
-use Rattle.command_base.proofs.Jobs.{stop-earlier}
-use Rattle.outside_calls.proofs.OnlyOutputs.{OnlyOutputs-trans}
-use Rattle.outside_calls.proofs.Putting.{OnlyOutputs-puts}
-use Rattle.run_inputs.specs.declared.limits.TheConstants.{LIMITS}
-use Rattle.run_inputs.specs.Words.{RunNames, named, inputs_of, outputs_of}
-use Rattle.line_world.specs.Turns.{RunEnds, FaultEnds}
-use Rattle.run_commands.specs.Running.Ends.{EndsBy}
+use Rattle.run_inputs.specs.Words.{named, inputs_of, outputs_of}
 use Rattle.line_run.specs.Ends as runs
 use Rattle.run_commands.proofs.Running.Runs.{apart-names, ends-creating, ends-heading, ran-to, ends-in-turn, turn-counts}
 use Rattle.run_commands.proofs.run.command.run_world.Goals as goal

@@ -1,9 +1,5 @@
-use Rattle.std.proofs.Common.{inl, inr, ◌∙◌, [], ◌∷◌, Some, sym, rules}
-use Rattle.outside_calls.specs.Folder.{FolderState}
-use Rattle.outside_calls.proofs.Steps.{CountsStand-trans}
+use Rattle.run_commands.proofs.Names.{inl, inr, ◌∙◌, [], ◌∷◌, Some, sym, rules, Holds-kept, CountsStand-trans, FolderState, Originator}
 use Rattle.command_base.proofs.Creating.{WriteFails-later, WriteFails-first as first-fails, OnlyOutputs-none as touches-first}
-use Rattle.outside_calls.proofs.Holding.{Holds-kept}
-use Rattle.shared_terms.specs.declared.role.Role.TheVariants.{Originator}
 use Rattle.line_world.proofs.Taping.{keeps-later}
 use Rattle.run_commands.proofs.Running.Heads.{touches-both}
 use Rattle.run_commands.proofs.run.outputs.begin_both.Goals as goal

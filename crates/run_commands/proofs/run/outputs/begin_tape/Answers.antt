@@ -1,8 +1,6 @@
-use Rattle.std.proofs.Common.{List, ℕ, [], ◌∙◌, ap, subst, rules}
-use Rattle.outside_calls.specs.Folder.{FolderState, Appended, PartlyAppended}
+use Rattle.run_commands.proofs.Names.{List, ℕ, [], ◌∙◌, ap, subst, rules, FolderState, Appended, header_of, mode_of}
+use Rattle.outside_calls.specs.Folder.{PartlyAppended}
 use Rattle.outside_calls.proofs.Holding.{HoldsFront-more}
-use Rattle.sample_line.specs.Mode.{mode_of}
-use Rattle.recordings.specs.Recording.{header_of}
 use Rattle.run_commands.proofs.Running.Heads.{begins, heads}
 use Rattle.run_commands.proofs.run.outputs.begin_tape.Goals as goal
 

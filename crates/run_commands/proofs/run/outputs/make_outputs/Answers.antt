@@ -1,8 +1,5 @@
-use Rattle.std.proofs.Common.{◌∙◌, inl, inr, rules}
-use Rattle.outside_calls.specs.Folder.{FolderState}
-use Rattle.outside_calls.proofs.Steps.{CountsStand-trans}
-use Rattle.line_run.specs.Recorded.{tapes_of}
-use Rattle.run_inputs.specs.Words.{RunNames, named, texts_of, inputs_of, outputs_of}
+use Rattle.run_commands.proofs.Names.{◌∙◌, inl, inr, rules, tapes_of, CountsStand-trans, FolderState, RunNames, texts_of}
+use Rattle.run_inputs.specs.Words.{named, inputs_of, outputs_of}
 use Rattle.line_world.proofs.Several.{keeps-front}
 use Rattle.run_commands.proofs.Running.Heads.{creates-kept, creates-front, tapes-apart, creates-tapes, touches-tapes, tapes-fail}
 use Rattle.run_commands.proofs.run.outputs.make_outputs.Goals as goal

@@ -1,7 +1,5 @@
-use Rattle.std.proofs.Common.{◌∙◌, ℕ, List, map, string_bytes, subst}
-use Rattle.outside_calls.specs.Folder.{FolderState}
-use Rattle.command_base.specs.declared.status.Status.TheVariants.{Done}
-use Rattle.command_base.specs.Tells.{Tells}
+use Rattle.run_commands.proofs.Names.{◌∙◌, ℕ, List, subst, Tells, Done, FolderState}
+use Rattle.std.proofs.Common.{map, string_bytes}
 use Rattle.run_commands.proofs.Soaking.Headline.{soaked, stopped}
 use Rattle.run_commands.proofs.soak.command.soak_and_tell.Goals as goal
 

@@ -1,7 +1,5 @@
-use Rattle.std.proofs.Common.{◌∙◌, ℕ, List, length, sym, ap}
-use Rattle.std.proofs.lemmas.Result.{on_ok_weaker}
+use Rattle.run_commands.proofs.Names.{◌∙◌, ℕ, List, length, sym, ap, on_ok_weaker, SureState}
 use Rattle.std.specs.FinMap as finite
-use Rattle.program_folders.specs.Sure.{SureState}
 use Rattle.run_commands.proofs.soak.folder.put_file.Goals as goal
 
 pub returns-clause-file : goal.returns-clause-file

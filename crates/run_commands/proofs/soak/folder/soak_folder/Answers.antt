@@ -1,9 +1,5 @@
-use Rattle.std.proofs.Common.{◌∙◌, refl, ap}
+use Rattle.run_commands.proofs.Names.{◌∙◌, refl, ap, Files, soak_names, soak_file, Originator, Answerer}
 use Rattle.std.specs.FinMap as finite
-use Rattle.outside_calls.specs.Folder.{Files}
-use Rattle.shared_terms.specs.declared.role.Role.TheVariants.{Originator, Answerer}
-use Rattle.run_commands.specs.Soaking.Soak.{soak_file}
-use Rattle.run_commands.specs.Soaking.Folder.{soak_names}
 use Rattle.run_commands.proofs.Soaking.Filling.{both-put}
 use Rattle.run_commands.proofs.soak.folder.soak_folder.Goals as goal
 

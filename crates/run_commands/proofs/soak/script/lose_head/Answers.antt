@@ -1,5 +1,4 @@
-use Rattle.std.proofs.Common.{sym, ap}
-use Rattle.run_commands.specs.Soaking.Text.{lose_head}
+use Rattle.run_commands.proofs.Names.{sym, ap, lose_head}
 use Rattle.run_commands.proofs.soak.script.lose_head.Goals as goal
 
 pub returns-in-Answerer : goal.returns-in-Answerer

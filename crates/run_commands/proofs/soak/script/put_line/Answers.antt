@@ -1,5 +1,4 @@
-use Rattle.std.proofs.lemmas.Result.{on_ok_weaker}
-use Rattle.std.specs.Prelude.{decimal}
+use Rattle.run_commands.proofs.Names.{on_ok_weaker, decimal}
 use Rattle.run_commands.proofs.Soaking.Lines.{three-pieces}
 use Rattle.run_commands.proofs.soak.script.put_line.Goals as goal
 

@@ -1,5 +1,4 @@
-use Rattle.std.proofs.Common.{◌≡◌, ◌≤◌, ◌∙◌, ℕ, List, length, ap, sym, subst, arith}
-use Rattle.noise_script.specs.Grammar.{ScriptSpelling}
+use Rattle.run_commands.proofs.Names.{◌≡◌, ◌≤◌, ◌∙◌, ℕ, List, length, ap, sym, subst, arith, ScriptSpelling}
 use Rattle.run_commands.specs.Soaking.Soak.{soak_script}
 use Rattle.run_commands.specs.Soaking.Text.{soak_text}
 use Rattle.run_commands.proofs.Soaking.Lines.{whole-short}

@@ -1,9 +1,5 @@
-use Rattle.std.proofs.Common.{◌≡◌, ◌++◌, ◌∷◌, ◌∙◌, [], sym, ap, arith}
-use Rattle.std.specs.Prelude.{codes}
-use Rattle.shared_terms.specs.declared.role.Role.TheVariants.{Originator, Answerer}
-use Rattle.run_commands.specs.Soaking.Soak.{role_in_turn}
-use Rattle.noise_script.specs.Noisy.{text_of}
-use Rattle.run_commands.specs.Soaking.Text.{delay_line, noise_line, lose_line, soak_lines}
+use Rattle.run_commands.proofs.Names.{◌≡◌, ◌++◌, ◌∷◌, ◌∙◌, [], sym, ap, arith, codes, text_of, role_in_turn, delay_line, noise_line}
+use Rattle.run_commands.proofs.Names.{lose_line, soak_lines, Originator, Answerer}
 use Rattle.run_commands.proofs.Soaking.Lines.{first-lines, loss-more, text-is}
 use Rattle.run_commands.proofs.soak.script.soak_text.Goals as goal
 

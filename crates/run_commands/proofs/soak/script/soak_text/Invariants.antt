@@ -1,6 +1,4 @@
-use Rattle.std.proofs.Common.{◌≡◌}
-use Rattle.noise_script.specs.Noisy.{text_of}
-use Rattle.run_commands.specs.Soaking.Text.{soak_lines}
+use Rattle.run_commands.proofs.Names.{◌≡◌, text_of, soak_lines}
 use Rattle.run_commands.proofs.soak.script.soak_text.Given as goal
 
 abbrev pub invariant-loop-n : goal.invariant-loop-n

@@ -1,8 +1,4 @@
-use Rattle.std.proofs.Common.{◌∙◌, [], sym, subst}
-use Rattle.noise_script.specs.Script.{ScriptValue}
-use Rattle.link_run.specs.Run.{start}
-use Rattle.line_run.specs.Scripted.{link_of}
-use Rattle.line_world.specs.World.{WorldAfter}
+use Rattle.run_commands.proofs.Names.{◌∙◌, [], sym, subst, link_of, WorldAfter, start, ScriptValue}
 use Rattle.run_commands.proofs.soak.soaking.soak_run.Goals as goal
 
 pub soak_world-requires-clause-first : goal.soak_world-requires-clause-first

@@ -1,10 +1,6 @@
-use Rattle.std.proofs.Common.{ℕ, Ok, Err, sym, subst}
-use Rattle.outside_calls.specs.Outputs.{Creates, AreApartFrom}
-use Rattle.program_folders.specs.Sure.{sure_folder}
-use Rattle.line_run.specs.Names.{Written, inputs_of, outputs_of, written}
-use Rattle.line_world.specs.World.{script_of, lost_of, again_of}
-use Rattle.command_base.specs.declared.stop.Stop.{Stop}
-use Rattle.run_commands.specs.Soaking.Ends.{Ends}
+use Rattle.run_commands.proofs.Names.{ℕ, Ok, Err, sym, subst, Stop, Written, script_of, Creates, AreApartFrom, sure_folder, Ends}
+use Rattle.line_run.specs.Names.{inputs_of, outputs_of, written}
+use Rattle.line_world.specs.World.{lost_of, again_of}
 use Rattle.run_commands.proofs.Soaking.Filling.{apart}
 use Rattle.run_commands.proofs.Soaking.Turning.{soaked-over, ended-over}
 use Rattle.run_commands.proofs.soak.soaking.soak_world.Goals as goal

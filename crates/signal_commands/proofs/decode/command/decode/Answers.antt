@@ -1,5 +1,4 @@
-use Rattle.std.proofs.Common.{map, string_bytes}
-use Rattle.signal_commands.specs.Decoding.Words.{named}
+use Rattle.signal_commands.proofs.Names.{map, string_bytes, named}
 use Rattle.signal_commands.proofs.Decoding.Headline.{headline-of, completes-of}
 use Rattle.signal_commands.proofs.decode.command.decode.Goals as goal
 

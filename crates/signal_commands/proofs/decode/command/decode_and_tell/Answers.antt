@@ -1,7 +1,4 @@
-use Rattle.std.proofs.Common.{◌∙◌, Err}
-use Rattle.command_base.proofs.Jobs.{answers-done, answers-stopped}
-use Rattle.outside_calls.proofs.OnlyOutputs.{OnlyOutputs-one}
-use Rattle.signal_commands.specs.Decoding.Words.{DecodeNames, named}
+use Rattle.signal_commands.proofs.Names.{◌∙◌, Err, answers-done, answers-stopped, OnlyOutputs-one, DecodeNames, named}
 use Rattle.signal_commands.proofs.Decoding.Headline.{refused-by}
 use Rattle.signal_commands.proofs.decode.command.decode_and_tell.Goals as goal
 

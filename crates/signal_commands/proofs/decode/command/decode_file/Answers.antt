@@ -1,14 +1,8 @@
-use Rattle.std.proofs.Common.{inl, inr, [], ◌∷◌, refl}
-use Rattle.outside_calls.specs.Folder.{FolderState}
-use Rattle.outside_calls.proofs.Steps.{KeepsName-trans, FaultsStand-refl, CountsStand-trans}
-use Rattle.outside_calls.proofs.OnlyOutputs.{OnlyOutput-refl, OnlyOutput-writes, OnlyOutput-trans}
-use Rattle.recordings.specs.declared.header.TheConstants.{HEADER}
-use Rattle.command_base.proofs.Behind.{behind-none, reads-first}
-use Rattle.outside_calls.specs.Outputs.{OnlyOutput}
-use Rattle.outside_calls.proofs.Holding.{HoldsFront-all}
-use Rattle.command_base.proofs.Jobs.{stop-earlier, end-earlier}
-use Rattle.signal_commands.specs.Decoding.Words.{DecodeNames, named}
-use Rattle.signal_commands.specs.Decoding.Played.{PlayedTo}
+use Rattle.signal_commands.proofs.Names.{inl, inr, [], ◌∷◌, refl, behind-none, reads-first, stop-earlier, end-earlier, HoldsFront-all}
+use Rattle.signal_commands.proofs.Names.{OnlyOutput-writes, OnlyOutput-trans, KeepsName-trans, CountsStand-trans, FolderState, OnlyOutput}
+use Rattle.signal_commands.proofs.Names.{HEADER, PlayedTo, DecodeNames, named}
+use Rattle.outside_calls.proofs.Steps.{FaultsStand-refl}
+use Rattle.outside_calls.proofs.OnlyOutputs.{OnlyOutput-refl}
 use Rattle.signal_commands.proofs.Decoding.Parts.{hears-releases, part}
 use Rattle.signal_commands.proofs.Decoding.Steps.{apart-names, only-of-reads, only-write}
 use Rattle.signal_commands.proofs.decode.command.decode_file.Goals as goal

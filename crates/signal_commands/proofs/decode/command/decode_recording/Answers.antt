@@ -1,7 +1,4 @@
-use Rattle.std.proofs.Common.{[], ◌∷◌}
-use Rattle.outside_calls.proofs.OnlyOutputs.{OnlyOutput-reads, OnlyOutput-trans}
-use Rattle.command_base.proofs.Jobs.{end-earlier}
-use Rattle.signal_commands.specs.Decoding.Words.{named}
+use Rattle.signal_commands.proofs.Names.{[], ◌∷◌, end-earlier, OnlyOutput-reads, OnlyOutput-trans, named}
 use Rattle.signal_commands.proofs.Decoding.Steps.{not-opened}
 use Rattle.signal_commands.proofs.decode.command.decode_recording.Goals as goal
 

@@ -1,5 +1,4 @@
-use Rattle.std.proofs.Common.{◌≡◌, rules}
-use Rattle.signal_commands.specs.declared.decode.octet_joiner.Bits.{Bits}
+use Rattle.signal_commands.proofs.Names.{◌≡◌, rules, Bits}
 use Rattle.signal_commands.proofs.Decoding.Joined.{above, not-wrapped}
 use Rattle.signal_commands.proofs.decode.octet_joiner.joined.Goals as goal
 

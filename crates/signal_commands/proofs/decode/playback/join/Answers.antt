@@ -1,5 +1,4 @@
-use Rattle.std.proofs.Common.{◌∙◌, ◌++◌, ◌∷◌, ℕ, List, [], sym, ap, subst, append_assoc, append-nil}
-use Rattle.signal_commands.specs.Decoding.Octets.{bits_in, OctetsJoined}
+use Rattle.signal_commands.proofs.Names.{◌∙◌, ◌++◌, ◌∷◌, ℕ, List, [], sym, ap, subst, append_assoc, append-nil, bits_in, OctetsJoined}
 use Rattle.signal_commands.proofs.decode.playback.join.Goals as goal
 
 pub returns-in-Some-clause-joined : goal.returns-in-Some-clause-joined

@@ -1,9 +1,7 @@
-use Rattle.std.proofs.Common.{◌≡◌, ◌∙◌, ◌<◌, ◌≤◌, ◌+◌, ◌++◌, ◌∷◌, ℕ, List, [], length, take, sym, ap, subst, arith, append_assoc, get_or}
+use Rattle.signal_commands.proofs.Names.{◌≡◌, ◌∙◌, ◌<◌, ◌≤◌, ◌+◌, ◌++◌, ◌∷◌, ℕ, List, [], length, take, sym, ap, subst, arith, append_assoc}
+use Rattle.signal_commands.proofs.Names.{take_more, take_all, low_bits, OctetsJoined, LabelsJoined}
+use Rattle.std.proofs.Common.{get_or}
 use Rattle.std.proofs.Common.{option_to_list}
-use Rattle.std.proofs.lemmas.List.{take_more, take_all}
-use Rattle.frame_check.specs.Bits.{low_bits}
-use Rattle.signal_commands.specs.Decoding.Octets.{OctetsJoined}
-use Rattle.signal_commands.specs.Decoding.Playing.{LabelsJoined}
 use Rattle.signal_commands.proofs.decode.playback.read_tail.Goals as goal
 
 pub loop-label-preserved : goal.loop-label-preserved

@@ -1,6 +1,4 @@
-use Rattle.std.proofs.Common.{◌≤◌, ◌+◌, ◌*◌, ◌++◌, ℕ, List, length, take}
-use Rattle.scramblers.specs.declared.mode.Mode.{Mode}
-use Rattle.signal_commands.specs.Decoding.Playing.{LabelsJoined}
+use Rattle.signal_commands.proofs.Names.{◌≤◌, ◌+◌, ◌*◌, ◌++◌, ℕ, List, length, take, Mode, LabelsJoined}
 use Rattle.signal_commands.proofs.decode.playback.read_tail.Given as goal
 
 abbrev pub invariant-loop-label : goal.invariant-loop-label

@@ -1,20 +1,9 @@
-use Rattle.std.proofs.Common.{◌≡◌, ◌≢◌, ◌∙◌, inl, inr, ℕ, ◌+◌, ◌-◌, ◌%◌, [], ◌∷◌, ◌++◌, List, length, length-append, take, sym, subst}
-use Rattle.std.proofs.Common.{arith, rules}
-use Rattle.std.proofs.lemmas.List.{length-take}
-use Rattle.outside_calls.specs.Folder.{FolderState, Appended, PartlyAppended}
-use Rattle.outside_calls.proofs.Steps.{CountsStand-trans}
-use Rattle.command_base.proofs.Jobs.{write-earlier}
-use Rattle.symbol_map.specs.declared.sample.Sample.{Sample}
-use Rattle.signal_commands.specs.Decoding.Words.{DecodeNames, named}
-use Rattle.recordings.specs.Samples.{samples_in}
-use Rattle.recordings.proofs.Samples.{samples_in-append}
-use Rattle.command_base.specs.Recordings.{ReadBehind}
-use Rattle.command_base.proofs.Behind.{behind-kept, reads-first, reads-all}
-use Rattle.signal_commands.specs.declared.decode.playback.Playback.{Playback}
-use Rattle.signal_commands.specs.Decoding.Playing.{Hears, IsReady}
-use Rattle.signal_commands.specs.Decoding.Played.{LosesWithin}
+use Rattle.signal_commands.proofs.Names.{◌≡◌, ◌≢◌, ◌∙◌, inl, inr, ℕ, ◌+◌, ◌-◌, ◌%◌, [], ◌∷◌, ◌++◌, List, length, length-append, take, sym}
+use Rattle.signal_commands.proofs.Names.{subst, arith, rules, length-take, behind-kept, reads-first, reads-all, write-earlier, ReadBehind}
+use Rattle.signal_commands.proofs.Names.{HoldsFront-more, Holds-kept, Holds-more, CountsStand-trans, FolderState, Appended, PartlyAppended}
+use Rattle.signal_commands.proofs.Names.{samples_in-append, samples_in, LosesWithin, Hears, DecodeNames, named, Playback, Sample}
+use Rattle.signal_commands.specs.Decoding.Playing.{IsReady}
 use Rattle.signal_commands.proofs.Decoding.Parts.{Releases, piece-releases, part, front-part, lost-part, cut-part}
-use Rattle.outside_calls.proofs.Holding.{HoldsFront-more, Holds-kept, Holds-more}
 use Rattle.signal_commands.proofs.Decoding.Steps.{apart-names, only-read, only-write, only-of-reads}
 use Rattle.signal_commands.proofs.decode.player.play_next.Goals as goal
 

@@ -1,8 +1,5 @@
-use Rattle.std.proofs.Common.{◌∙◌, ◌≤◌, ◌+◌, ◌*◌, ◌/◌, ◌++◌, ℕ, List, length, take, sym, ap, subst, arith, append_assoc}
-use Rattle.symbol_map.specs.declared.sample.Sample.{Sample}
-use Rattle.recordings.specs.Samples.{samples_in}
-use Rattle.recordings.proofs.Samples.{samples_in-all, samples_in-split}
-use Rattle.signal_commands.specs.Decoding.Playing.{Hears}
+use Rattle.signal_commands.proofs.Names.{◌∙◌, ◌≤◌, ◌+◌, ◌*◌, ◌/◌, ◌++◌, ℕ, List, length, take, sym, ap, subst, arith, append_assoc}
+use Rattle.signal_commands.proofs.Names.{samples_in-all, samples_in-split, samples_in, Hears, Sample}
 use Rattle.signal_commands.proofs.Batches.{some-more, some-heard}
 use Rattle.signal_commands.proofs.decode.player.play_piece.Goals as goal
 

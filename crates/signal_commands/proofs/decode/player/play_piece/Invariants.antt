@@ -1,10 +1,6 @@
-use Rattle.std.proofs.Common.{◌≡◌, ◌≤◌, ◌+◌, ◌-◌, ◌*◌, ◌/◌, ◌++◌, ℕ, List, [], length, take, None}
-use Rattle.scramblers.specs.declared.mode.Mode.{Mode}
-use Rattle.symbol_map.specs.declared.sample.Sample.{Sample}
+use Rattle.signal_commands.proofs.Names.{◌≡◌, ◌≤◌, ◌+◌, ◌-◌, ◌*◌, ◌/◌, ◌++◌, ℕ, List, [], length, take, None, samples_in, Rate, Mode}
+use Rattle.signal_commands.proofs.Names.{decoding_of, Hears, Sample}
 use Rattle.signal_commands.specs.declared.decode.playback.TheConstants.{GIVEN}
-use Rattle.recordings.specs.declared.rate.Rate.{Rate}
-use Rattle.recordings.specs.Samples.{samples_in}
-use Rattle.signal_commands.specs.Decoding.Playing.{decoding_of, Hears}
 use Rattle.signal_commands.proofs.decode.player.play_piece.Given as goal
 
 abbrev pub invariant-loop-at : goal.invariant-loop-at

@@ -1,6 +1,4 @@
-use Rattle.std.proofs.Common.{◌+◌, [], ◌∷◌, arith}
-use Rattle.command_base.proofs.Jobs.{stop-earlier}
-use Rattle.outside_calls.proofs.Steps.{CountsStand-trans}
+use Rattle.signal_commands.proofs.Names.{◌+◌, [], ◌∷◌, arith, stop-earlier, CountsStand-trans}
 use Rattle.signal_commands.proofs.Decoding.Steps.{only-then}
 use Rattle.signal_commands.proofs.decode.player.play_to_end.Goals as goal
 

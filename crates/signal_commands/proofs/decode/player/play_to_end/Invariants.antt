@@ -1,13 +1,7 @@
-use Rattle.std.proofs.Common.{◌≡◌, ◌≤◌, ◌-◌, ◌*◌, length}
-use Rattle.outside_calls.specs.Folder.{FolderState, CountsStand}
-use Rattle.command_base.specs.declared.limits.TheConstants.{RECORDING_LIMIT}
-use Rattle.outside_calls.specs.Outputs.{OnlyOutput}
-use Rattle.recordings.specs.declared.header.TheConstants.{HEADER}
+use Rattle.signal_commands.proofs.Names.{◌≡◌, ◌≤◌, ◌-◌, ◌*◌, length, RECORDING_LIMIT, PIECE, FolderState, CountsStand, OnlyOutput, HEADER}
+use Rattle.signal_commands.proofs.Names.{PlayedTo, named}
 use Rattle.signal_commands.specs.declared.decode.playback.TheConstants.{ROOM}
-use Rattle.command_base.specs.declared.samples.TheConstants.{PIECE}
-use Rattle.signal_commands.specs.Decoding.Words.{named}
 use Rattle.signal_commands.specs.Decoding.Playing.{IsReady}
-use Rattle.signal_commands.specs.Decoding.Played.{PlayedTo}
 use Rattle.signal_commands.proofs.decode.player.play_to_end.Given as goal
 
 abbrev pub invariant-loop-step : goal.invariant-loop-step

@@ -1,11 +1,6 @@
-use Rattle.std.proofs.Common.{inr, ℕ, ◌++◌, List, length-append, subst, arith}
-use Rattle.outside_calls.specs.Folder.{FolderState, Appended, PartlyAppended}
-use Rattle.signal_commands.specs.Decoding.Words.{DecodeNames, named}
-use Rattle.recordings.specs.Samples.{samples_in}
-use Rattle.signal_commands.specs.Decoding.Ends.{IsFollowed}
-use Rattle.outside_calls.proofs.Holding.{HoldsFront-more, Holds-more}
-use Rattle.outside_calls.proofs.OnlyOutputs.{OnlyOutput-writes}
-use Rattle.command_base.proofs.Behind.{reads-all}
+use Rattle.signal_commands.proofs.Names.{inr, ℕ, ◌++◌, List, length-append, subst, arith, reads-all, HoldsFront-more, Holds-more}
+use Rattle.signal_commands.proofs.Names.{OnlyOutput-writes, FolderState, Appended, PartlyAppended, samples_in, IsFollowed, DecodeNames}
+use Rattle.signal_commands.proofs.Names.{named}
 use Rattle.signal_commands.proofs.Decoding.Parts.{followed}
 use Rattle.signal_commands.proofs.decode.player.write_rest.Goals as goal
 

@@ -1,7 +1,5 @@
-use Rattle.std.proofs.Common.{◌∙◌, Err}
-use Rattle.command_base.proofs.Jobs.{answers-done, answers-stopped}
-use Rattle.outside_calls.proofs.OnlyOutputs.{OnlyOutputs-one}
-use Rattle.signal_commands.specs.Encoding.Words.{EncodeNames, named}
+use Rattle.signal_commands.proofs.Names.{◌∙◌, Err, answers-done, answers-stopped, OnlyOutputs-one, EncodeNames}
+use Rattle.signal_commands.specs.Encoding.Words.{named}
 use Rattle.signal_commands.proofs.Encoding.Headline.{refused-by}
 use Rattle.signal_commands.proofs.encode.command.encode_and_tell.Goals as goal
 

@@ -1,9 +1,7 @@
-use Rattle.std.proofs.Common.{◌∙◌, ℕ, Bool, List, [], ◌∷◌, ◌++◌, ap, subst, arith}
-use Rattle.frame_check.specs.Bits.{bits_of}
-use Rattle.symbol_map.specs.declared.sample.Sample.{Sample}
+use Rattle.signal_commands.proofs.Names.{◌∙◌, ℕ, Bool, List, [], ◌∷◌, ◌++◌, ap, subst, arith, bits_of, two-more, count-more, length-more}
+use Rattle.signal_commands.proofs.Names.{sample_octets, Sample}
 use Rattle.rate_4800.specs.Modulates.{ModulatorStands}
-use Rattle.recordings.specs.Recording.{sample_octets}
-use Rattle.recordings.proofs.Octets.{bits-by-twos, two-more, count-more, length-more}
+use Rattle.recordings.proofs.Octets.{bits-by-twos}
 use Rattle.signal_commands.proofs.encode.recorder.put_four.Goals as goal
 
 pub returns-clause-stands : goal.returns-clause-stands

@@ -1,8 +1,5 @@
-use Rattle.std.proofs.Common.{[], ◌∷◌}
-use Rattle.outside_calls.specs.Folder.{FolderState}
-use Rattle.outside_calls.proofs.Steps.{CountsStand-trans}
-use Rattle.outside_calls.proofs.OnlyOutputs.{OnlyOutput-reads, OnlyOutput-trans}
-use Rattle.command_base.proofs.Jobs.{write-earlier, end-earlier}
+use Rattle.signal_commands.proofs.Names.{[], ◌∷◌, write-earlier, end-earlier, OnlyOutput-reads, OnlyOutput-trans, CountsStand-trans}
+use Rattle.signal_commands.proofs.Names.{FolderState}
 use Rattle.signal_commands.specs.Encoding.Words.{named}
 use Rattle.signal_commands.proofs.Encoding.Making.{create-part, not-begun, refused-counts, writes-only}
 use Rattle.signal_commands.proofs.encode.recording.make_recording.Goals as goal

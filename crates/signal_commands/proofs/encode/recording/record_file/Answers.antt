@@ -1,10 +1,6 @@
-use Rattle.std.proofs.Common.{◌∙◌, ℕ, List, [], ◌∷◌, sym, subst, arith}
-use Rattle.outside_calls.specs.Folder.{FolderState, Appended, PartlyAppended}
-use Rattle.outside_calls.proofs.Steps.{CountsStand-trans}
-use Rattle.outside_calls.proofs.OnlyOutputs.{OnlyOutput-writes, OnlyOutput-trans}
-use Rattle.command_base.proofs.Jobs.{stop-earlier}
-use Rattle.signal_commands.specs.Encoding.Words.{EncodeNames, named}
-use Rattle.signal_commands.specs.Encoding.Ends.{WritesAll}
+use Rattle.signal_commands.proofs.Names.{◌∙◌, ℕ, List, [], ◌∷◌, sym, subst, arith, stop-earlier, OnlyOutput-writes, OnlyOutput-trans}
+use Rattle.signal_commands.proofs.Names.{CountsStand-trans, FolderState, Appended, PartlyAppended, WritesAll, EncodeNames}
+use Rattle.signal_commands.specs.Encoding.Words.{named}
 use Rattle.signal_commands.proofs.Encoding.Making.{header-part, recorded-none}
 use Rattle.signal_commands.proofs.encode.recording.record_file.Goals as goal
 

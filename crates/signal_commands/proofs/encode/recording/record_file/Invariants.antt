@@ -1,9 +1,5 @@
-use Rattle.std.proofs.Common.{◌≤◌, ◌-◌}
-use Rattle.outside_calls.specs.Folder.{FolderState, CountsStand}
-use Rattle.shared_terms.specs.declared.limits.TheConstants.{FILE_LIMIT}
-use Rattle.outside_calls.specs.Outputs.{OnlyOutput}
+use Rattle.signal_commands.proofs.Names.{◌≤◌, ◌-◌, FolderState, CountsStand, OnlyOutput, FILE_LIMIT, Begun, RecordedTo}
 use Rattle.signal_commands.specs.Encoding.Words.{named}
-use Rattle.signal_commands.specs.Encoding.Recorded.{Begun, RecordedTo}
 use Rattle.signal_commands.proofs.encode.recording.record_file.Given as goal
 
 abbrev pub invariant-loop-count : goal.invariant-loop-count

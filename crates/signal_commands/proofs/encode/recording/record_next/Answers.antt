@@ -1,12 +1,7 @@
-use Rattle.std.proofs.Common.{◌≡◌, inr, ℕ, ◌+◌, ◌<◌, List, [], ◌∷◌, ◌++◌, IsTrue, take, subst, arith, rules}
-use Rattle.std.proofs.lemmas.List.{length-take}
-use Rattle.outside_calls.specs.Folder.{FolderState, octets_at, Appended, PartlyAppended}
-use Rattle.outside_calls.proofs.Steps.{CountsStand-trans}
-use Rattle.outside_calls.proofs.OnlyOutputs.{OnlyOutput-reads}
-use Rattle.command_base.proofs.Jobs.{write-earlier}
-use Rattle.signal_commands.specs.declared.encode.recorder.Recorder.{Recorder}
-use Rattle.signal_commands.specs.Encoding.Recorder.{RecorderStands}
-use Rattle.signal_commands.specs.Encoding.Words.{EncodeNames, named}
+use Rattle.signal_commands.proofs.Names.{◌≡◌, inr, ℕ, ◌+◌, ◌<◌, List, [], ◌∷◌, ◌++◌, IsTrue, take, subst, arith, rules, length-take}
+use Rattle.signal_commands.proofs.Names.{write-earlier, OnlyOutput-reads, CountsStand-trans, FolderState, octets_at, Appended}
+use Rattle.signal_commands.proofs.Names.{PartlyAppended, RecorderStands, EncodeNames, Recorder}
+use Rattle.signal_commands.specs.Encoding.Words.{named}
 use Rattle.signal_commands.proofs.Encoding.Making.{recorded-front, recorded-read, recorded-more, recorded-whole, piece-part, writes-only}
 use Rattle.signal_commands.proofs.encode.recording.record_next.Goals as goal
 

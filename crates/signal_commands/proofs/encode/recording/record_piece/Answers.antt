@@ -1,6 +1,5 @@
-use Rattle.std.proofs.Common.{ℕ, List, [], ◌∷◌, ◌++◌, ◌∙◌, length, slice_index, take, sym, ap, subst, arith, append-nil, append_assoc}
-use Rattle.std.proofs.lemmas.List.{take_more, take_all}
-use Rattle.signal_commands.specs.Encoding.Recorder.{RecorderStands}
+use Rattle.signal_commands.proofs.Names.{ℕ, List, [], ◌∷◌, ◌++◌, ◌∙◌, length, slice_index, take, sym, ap, subst, arith, append-nil}
+use Rattle.signal_commands.proofs.Names.{append_assoc, take_more, take_all, RecorderStands}
 use Rattle.signal_commands.proofs.encode.recording.record_piece.Goals as goal
 
 pub loop-octet-init : goal.loop-octet-init

@@ -1,7 +1,4 @@
-use Rattle.std.proofs.Common.{◌≤◌, ◌*◌, ◌++◌, ℕ, List, length, take}
-use Rattle.scramblers.specs.declared.mode.Mode.{Mode}
-use Rattle.recordings.specs.declared.rate.Rate.{Rate}
-use Rattle.signal_commands.specs.Encoding.Recorder.{RecorderStands}
+use Rattle.signal_commands.proofs.Names.{◌≤◌, ◌*◌, ◌++◌, ℕ, List, length, take, Rate, Mode, RecorderStands}
 use Rattle.signal_commands.proofs.encode.recording.record_piece.Given as goal
 
 abbrev pub invariant-loop-octet : goal.invariant-loop-octet

@@ -1,7 +1,5 @@
-use Rattle.std.proofs.Common.{[]}
-use Rattle.outside_calls.proofs.Steps.{OnlyReads-trans}
-use Rattle.command_base.proofs.Jobs.{end-earlier}
-use Rattle.signal_commands.specs.Margins.Words.{named, inputs_of}
+use Rattle.signal_commands.proofs.Names.{[], end-earlier, OnlyReads-trans, inputs_of}
+use Rattle.signal_commands.specs.Margins.Words.{named}
 use Rattle.signal_commands.proofs.margin.command.measure.Goals as goal
 
 pub returns-in-Ok : goal.returns-in-Ok

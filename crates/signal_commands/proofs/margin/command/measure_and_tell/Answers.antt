@@ -1,7 +1,4 @@
-use Rattle.std.proofs.Common.{◌∙◌, [], Err}
-use Rattle.command_base.specs.Lines.{margin_line}
-use Rattle.command_base.proofs.Jobs.{answers-done, answers-stopped}
-use Rattle.outside_calls.proofs.OnlyOutputs.{OnlyOutputs-reads}
+use Rattle.signal_commands.proofs.Names.{◌∙◌, [], Err, answers-done, answers-stopped, margin_line, OnlyOutputs-reads}
 use Rattle.signal_commands.proofs.Margins.Headline.{refused-by}
 use Rattle.signal_commands.proofs.margin.command.measure_and_tell.Goals as goal
 

@@ -1,18 +1,7 @@
-use Rattle.std.proofs.Common.{◌≡◌, ◌∙◌, ℕ, ◌+◌, ◌*◌, List, [], ◌++◌, min, length, take, refl, ap, arith, rules}
-use Rattle.std.proofs.lemmas.List.{length-take}
-use Rattle.outside_calls.specs.Folder.{FolderState}
-use Rattle.outside_calls.proofs.Steps.{OnlyReads-trans, CountsStand-trans}
-use Rattle.command_base.specs.declared.stop.Stop.TheVariants.{Read}
-use Rattle.command_base.proofs.Jobs.{stop-earlier}
-use Rattle.command_base.specs.declared.limits.TheConstants.{RECORDING_LIMIT}
-use Rattle.shared_terms.specs.declared.limits.TheConstants.{FILE_LIMIT}
-use Rattle.command_base.specs.Inputs.{ReadTo}
-use Rattle.command_base.proofs.Reading.{ReadTo-kept}
-use Rattle.recordings.specs.Recording.{header_of}
-use Rattle.recordings.specs.Samples.{samples_in}
-use Rattle.signal_commands.specs.Margins.Words.{MarginNames, named, inputs_of}
-use Rattle.signal_commands.specs.Margins.Ends.EndsOwn.{is_misfit}
-use Rattle.signal_commands.specs.Margins.Ends.FailsToRead.{one_unread}
+use Rattle.signal_commands.proofs.Names.{◌≡◌, ◌∙◌, ℕ, ◌+◌, ◌*◌, List, [], ◌++◌, min, length, take, refl, ap, arith, rules, length-take}
+use Rattle.signal_commands.proofs.Names.{stop-earlier, ReadTo-kept, ReadTo, RECORDING_LIMIT, Read, OnlyReads-trans, CountsStand-trans}
+use Rattle.signal_commands.proofs.Names.{FolderState, header_of, samples_in, FILE_LIMIT, is_misfit, one_unread, MarginNames, inputs_of}
+use Rattle.signal_commands.specs.Margins.Words.{named}
 use Rattle.signal_commands.proofs.Margins.Looking.{rec-fails, file-fails}
 use Rattle.signal_commands.proofs.Margins.Measures.{misfit, measured-more, ended}
 use Rattle.signal_commands.proofs.margin.measuring.measure_next.Goals as goal

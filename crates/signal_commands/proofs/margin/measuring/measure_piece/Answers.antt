@@ -1,9 +1,5 @@
-use Rattle.std.proofs.Common.{◌≡◌, ◌+◌, ◌*◌, ◌++◌, ◌∷◌, [], ℕ, List, take, slice_index, sym, subst, arith, append-nil, append_assoc, ap}
-use Rattle.std.proofs.Common.{◌∙◌}
-use Rattle.std.proofs.lemmas.List.{take_more, take_all}
-use Rattle.symbol_map.specs.declared.sample.Sample.{Sample}
-use Rattle.noise_bound.specs.Margins.{MarginStands}
-use Rattle.recordings.specs.Samples.{samples_in}
+use Rattle.signal_commands.proofs.Names.{◌≡◌, ◌+◌, ◌*◌, ◌++◌, ◌∷◌, [], ℕ, List, take, slice_index, sym, subst, arith, append-nil}
+use Rattle.signal_commands.proofs.Names.{append_assoc, ap, ◌∙◌, take_more, take_all, MarginStands, samples_in, Sample}
 use Rattle.signal_commands.proofs.Margins.Measures.{two-more-samples}
 use Rattle.signal_commands.proofs.margin.measuring.measure_piece.Goals as goal
 

@@ -1,8 +1,4 @@
-use Rattle.std.proofs.Common.{◌≡◌, ℕ, ◌+◌, ◌*◌, List, ◌++◌, take}
-use Rattle.scramblers.specs.declared.mode.Mode.{Mode}
-use Rattle.symbol_map.specs.declared.sample.Sample.{Sample}
-use Rattle.noise_bound.specs.Margins.{MarginStands}
-use Rattle.recordings.specs.Samples.{samples_in}
+use Rattle.signal_commands.proofs.Names.{◌≡◌, ℕ, ◌+◌, ◌*◌, List, ◌++◌, take, MarginStands, samples_in, Mode, Sample}
 use Rattle.signal_commands.proofs.margin.measuring.measure_piece.Given as goal
 
 abbrev pub invariant-loop-place : goal.invariant-loop-place

@@ -1,8 +1,5 @@
-use Rattle.std.proofs.Common.{◌≡◌, ◌≤◌, ◌-◌}
-use Rattle.outside_calls.specs.Folder.{FolderState, OnlyReads, CountsStand}
-use Rattle.shared_terms.specs.declared.limits.TheConstants.{FILE_LIMIT}
+use Rattle.signal_commands.proofs.Names.{◌≡◌, ◌≤◌, ◌-◌, FolderState, OnlyReads, CountsStand, FILE_LIMIT, Opened, MeasuredTo}
 use Rattle.signal_commands.specs.Margins.Words.{named}
-use Rattle.signal_commands.specs.Margins.Measuring.{Opened, MeasuredTo}
 use Rattle.signal_commands.proofs.margin.measuring.measure_to_end.Given as goal
 
 abbrev pub invariant-loop-margin : goal.invariant-loop-margin

@@ -1,19 +1,12 @@
-use Rattle.std.proofs.Common.{◌∙◌, ℕ, List, [], refl, sym, subst, take, rules}
-use Rattle.outside_calls.specs.Folder.{FolderState, OnlyReads}
-use Rattle.outside_calls.proofs.Steps.{OnlyReads-trans, CountsStand-trans}
-use Rattle.command_base.specs.declared.stop.Stop.TheVariants.{Read}
-use Rattle.command_base.proofs.Jobs.{stop-earlier}
-use Rattle.command_base.specs.declared.limits.TheConstants.{RECORDING_LIMIT}
-use Rattle.shared_terms.specs.declared.limits.TheConstants.{FILE_LIMIT}
-use Rattle.command_base.specs.Inputs.{ReadTo}
-use Rattle.command_base.proofs.Reading.{ReadTo-none, within-earlier}
+use Rattle.signal_commands.proofs.Names.{◌∙◌, ℕ, List, [], refl, sym, subst, take, rules, stop-earlier, ReadTo-none, ReadTo}
+use Rattle.signal_commands.proofs.Names.{RECORDING_LIMIT, Read, OnlyReads-trans, CountsStand-trans, FolderState, OnlyReads, IsBadHeader}
+use Rattle.signal_commands.proofs.Names.{FILE_LIMIT, one_unread, inputs_of}
+use Rattle.command_base.proofs.Reading.{within-earlier}
 use Rattle.recordings.specs.declared.rate.Rate.TheVariants as rates
-use Rattle.recordings.specs.Headers.{IsBadHeader}
 use Rattle.command_base.proofs.HeaderRead.{header-octets}
 use Rattle.signal_commands.specs.Margins.Ends.EndsOwn.{is_other}
-use Rattle.signal_commands.specs.Margins.Ends.FailsToRead.{one_unread}
 use Rattle.signal_commands.proofs.Margins.Looking.{rec-refused, file-refused, rec-fails, file-fails, refused-counts}
-use Rattle.signal_commands.specs.Margins.Words.{named, inputs_of}
+use Rattle.signal_commands.specs.Margins.Words.{named}
 use Rattle.signal_commands.proofs.margin.opening.open_inputs.Goals as goal
 
 pub returns-in-Err-clause-err : goal.returns-in-Err-clause-err

@@ -1,6 +1,4 @@
-use Rattle.std.proofs.Common.{[], ◌∷◌}
-use Rattle.outside_calls.proofs.OnlyOutputs.{OnlyOutputs-reads, OnlyOutputs-trans}
-use Rattle.command_base.proofs.Jobs.{end-earlier}
+use Rattle.signal_commands.proofs.Names.{[], ◌∷◌, end-earlier, OnlyOutputs-reads, OnlyOutputs-trans}
 use Rattle.signal_commands.proofs.PickingUp.Parts.{not-opened}
 use Rattle.signal_commands.proofs.pickup.command.pick_up.Goals as goal
 

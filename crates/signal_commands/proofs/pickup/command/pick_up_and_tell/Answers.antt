@@ -1,5 +1,4 @@
-use Rattle.std.proofs.Common.{◌∙◌, Err}
-use Rattle.command_base.proofs.Jobs.{answers-done, answers-stopped}
+use Rattle.signal_commands.proofs.Names.{◌∙◌, Err, answers-done, answers-stopped}
 use Rattle.signal_commands.proofs.PickingUp.Headline.{refused-by}
 use Rattle.signal_commands.proofs.pickup.command.pick_up_and_tell.Goals as goal
 

@@ -1,7 +1,5 @@
-use Rattle.std.proofs.Common.{[], refl}
-use Rattle.outside_calls.proofs.OnlyOutputs.{OnlyOutputs-reads}
+use Rattle.signal_commands.proofs.Names.{[], refl, behind-none, OnlyOutputs-reads}
 use Rattle.recordings.specs.declared.rate.Rate.TheVariants as rates
-use Rattle.command_base.proofs.Behind.{behind-none}
 use Rattle.signal_commands.proofs.PickingUp.Playings.{plays-after}
 use Rattle.signal_commands.proofs.pickup.command.pick_up_samples.Goals as goal
 

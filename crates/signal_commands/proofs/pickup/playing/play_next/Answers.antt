@@ -1,19 +1,9 @@
-use Rattle.std.proofs.Common.{◌≡◌, ◌≢◌, ◌∙◌, inl, inr, ℕ, ◌+◌, ◌-◌, ◌%◌, ◌++◌, ◌∷◌, [], List, length, length-append, take, refl, sym, subst}
-use Rattle.std.proofs.Common.{arith, rules}
-use Rattle.std.proofs.lemmas.List.{length-take}
-use Rattle.outside_calls.specs.Folder.{FolderState}
-use Rattle.outside_calls.proofs.Steps.{CountsStand-trans}
-use Rattle.symbol_map.specs.declared.sample.Sample.{Sample}
-use Rattle.command_base.proofs.Jobs.{stop-earlier}
-use Rattle.outside_calls.proofs.OnlyOutputs.{OnlyOutputs-reads, OnlyOutputs-says, OnlyOutputs-trans}
+use Rattle.signal_commands.proofs.Names.{◌≡◌, ◌≢◌, ◌∙◌, inl, inr, ℕ, ◌+◌, ◌-◌, ◌%◌, ◌++◌, ◌∷◌, [], List, length, length-append, take, refl}
+use Rattle.signal_commands.proofs.Names.{sym, subst, arith, rules, length-take, behind-kept, reads-first, reads-all, stop-earlier}
+use Rattle.signal_commands.proofs.Names.{ReadBehind, RECORDING_LIMIT, OnlyOutputs-reads, OnlyOutputs-trans, CountsStand-trans, FolderState}
+use Rattle.signal_commands.proofs.Names.{samples_in-append, samples_in, is_cut, Plays, StopsPlay, Sample}
+use Rattle.outside_calls.proofs.OnlyOutputs.{OnlyOutputs-says}
 use Rattle.recordings.specs.declared.rate.Rate.TheVariants as rates
-use Rattle.recordings.specs.Samples.{samples_in}
-use Rattle.recordings.proofs.Samples.{samples_in-append}
-use Rattle.command_base.specs.declared.limits.TheConstants.{RECORDING_LIMIT}
-use Rattle.command_base.specs.Recordings.{ReadBehind}
-use Rattle.command_base.proofs.Behind.{behind-kept, reads-first, reads-all}
-use Rattle.signal_commands.specs.PickingUp.Ends.EndsOwn.{is_cut}
-use Rattle.signal_commands.specs.PickingUp.Playing.{Plays, StopsPlay}
 use Rattle.signal_commands.proofs.PickingUp.Playings.{plays-after, ready-later}
 use Rattle.signal_commands.proofs.PickingUp.Parts.{front-part, stops-by, cut-by}
 use Rattle.signal_commands.proofs.pickup.playing.play_next.Goals as goal

@@ -1,14 +1,6 @@
-use Rattle.std.proofs.Common.{◌≡◌, ◌∙◌, ◌≤◌, ◌+◌, ◌*◌, ◌/◌, ◌++◌, ℕ, List, [], length, take, sym, ap, subst, arith, append_assoc}
-use Rattle.std.proofs.lemmas.List.{length-take-le}
-use Rattle.symbol_map.specs.declared.sample.Sample.{Sample}
-use Rattle.outside_calls.specs.Folder.{FolderState}
-use Rattle.outside_calls.proofs.Steps.{CountsStand-trans}
-use Rattle.command_base.specs.declared.limits.TheConstants.{RECORDING_LIMIT}
-use Rattle.command_base.proofs.Jobs.{stop-earlier}
-use Rattle.recordings.specs.Samples.{samples_in}
-use Rattle.recordings.proofs.Samples.{samples_in-all, samples_in-split}
-use Rattle.command_base.proofs.Hearing.{says-trans}
-use Rattle.signal_commands.specs.PickingUp.Playing.{Plays, IsReady, StopsPlay}
+use Rattle.signal_commands.proofs.Names.{◌≡◌, ◌∙◌, ◌≤◌, ◌+◌, ◌*◌, ◌/◌, ◌++◌, ℕ, List, [], length, take, sym, ap, subst, arith, append_assoc}
+use Rattle.signal_commands.proofs.Names.{length-take-le, says-trans, stop-earlier, RECORDING_LIMIT, CountsStand-trans, FolderState}
+use Rattle.signal_commands.proofs.Names.{samples_in-all, samples_in-split, samples_in, Plays, IsReady, StopsPlay, Sample}
 use Rattle.signal_commands.proofs.Batches.{some-more, some-heard}
 use Rattle.signal_commands.proofs.PickingUp.Playings.{ready-later, stops-longer}
 use Rattle.signal_commands.proofs.pickup.playing.play_piece.Goals as goal

@@ -1,8 +1,5 @@
-use Rattle.std.proofs.Common.{ℕ, ◌≤◌, ◌+◌, ◌-◌, ◌*◌, ◌/◌, List, ◌++◌, length, take}
-use Rattle.symbol_map.specs.declared.sample.Sample.{Sample}
-use Rattle.outside_calls.specs.Folder.{FolderState, OnlySays, CountsStand}
-use Rattle.recordings.specs.Samples.{samples_in}
-use Rattle.signal_commands.specs.PickingUp.Playing.{Plays, IsReady}
+use Rattle.signal_commands.proofs.Names.{ℕ, ◌≤◌, ◌+◌, ◌-◌, ◌*◌, ◌/◌, List, ◌++◌, length, take, FolderState, OnlySays, CountsStand}
+use Rattle.signal_commands.proofs.Names.{samples_in, Plays, IsReady, Sample}
 use Rattle.signal_commands.proofs.pickup.playing.play_piece.Given as goal
 
 abbrev pub invariant-loop-at : goal.invariant-loop-at

@@ -1,11 +1,6 @@
-use Rattle.std.proofs.Common.{ℕ, ◌+◌, List, [], ◌∷◌, sym, subst, arith}
-use Rattle.outside_calls.specs.Folder.{FolderState}
-use Rattle.outside_calls.proofs.Steps.{CountsStand-trans}
-use Rattle.outside_calls.proofs.OnlyOutputs.{OnlyOutputs-trans}
-use Rattle.command_base.proofs.Jobs.{stop-earlier}
+use Rattle.signal_commands.proofs.Names.{ℕ, ◌+◌, List, [], ◌∷◌, sym, subst, arith, reads-all, stop-earlier, OnlyOutputs-trans}
+use Rattle.signal_commands.proofs.Names.{CountsStand-trans, FolderState, PicksUpAll}
 use Rattle.recordings.specs.declared.rate.Rate.TheVariants as rates
-use Rattle.command_base.proofs.Behind.{reads-all}
-use Rattle.signal_commands.specs.PickingUp.Ends.{PicksUpAll}
 use Rattle.signal_commands.proofs.PickingUp.Parts.{all-by}
 use Rattle.signal_commands.proofs.pickup.playing.play_to_end.Goals as goal
 

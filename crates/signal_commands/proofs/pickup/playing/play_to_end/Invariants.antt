@@ -1,10 +1,6 @@
-use Rattle.std.proofs.Common.{◌≡◌, ◌≤◌, ◌-◌, [], length}
-use Rattle.outside_calls.specs.Folder.{FolderState, CountsStand}
-use Rattle.command_base.specs.declared.limits.TheConstants.{RECORDING_LIMIT}
-use Rattle.outside_calls.specs.Outputs.{OnlyOutputs}
-use Rattle.recordings.specs.declared.header.TheConstants.{HEADER}
-use Rattle.command_base.specs.declared.samples.TheConstants.{PIECE}
-use Rattle.signal_commands.specs.PickingUp.Playing.{IsReady, PlayedTo}
+use Rattle.signal_commands.proofs.Names.{◌≡◌, ◌≤◌, ◌-◌, [], length, RECORDING_LIMIT, PIECE, FolderState, CountsStand, OnlyOutputs, HEADER}
+use Rattle.signal_commands.proofs.Names.{IsReady}
+use Rattle.signal_commands.specs.PickingUp.Playing.{PlayedTo}
 use Rattle.signal_commands.proofs.pickup.playing.play_to_end.Given as goal
 
 abbrev pub invariant-loop-player : goal.invariant-loop-player

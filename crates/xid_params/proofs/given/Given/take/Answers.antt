@@ -1,5 +1,4 @@
-use Rattle.std.proofs.Common.{[], ◌∷◌, ◌++◌, sym, subst}
-use Rattle.xid_params.specs.Gathered.{Stands}
+use Rattle.xid_params.proofs.Names.{[], ◌∷◌, ◌++◌, sym, subst, Stands}
 use Rattle.xid_params.proofs.Tables.{stands-other, well-other, well-more, not-repeated}
 use Rattle.xid_params.proofs.given.Given.take.Goals as goal
 

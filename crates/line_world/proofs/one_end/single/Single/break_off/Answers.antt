@@ -1,5 +1,4 @@
-use Rattle.std.proofs.Common.{[], None, refl}
-use Rattle.line_world.specs.OneEnd.Peer.{Broken}
+use Rattle.line_world.proofs.Names.{[], None, refl, Broken}
 use Rattle.line_world.proofs.OneEnd.Turning.{silent-turn, breaking-off, adds-line, adds-part, ends-part}
 use Rattle.line_world.proofs.one_end.single.Single.break_off.Goals as goal
 

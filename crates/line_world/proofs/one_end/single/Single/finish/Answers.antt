@@ -1,8 +1,4 @@
-use Rattle.std.proofs.Common.{None, refl}
-use Rattle.std.specs.List.{concat}
-use Rattle.link_run.specs.End.{deliveries}
-use Rattle.line_world.specs.OneEnd.Peer.{Closed}
-use Rattle.line_world.specs.OneEnd.Mid.{handed}
+use Rattle.line_world.proofs.Names.{None, refl, concat, handed, Closed, deliveries}
 use Rattle.line_world.proofs.OneEnd.Turning.{silent-turn, closing, adds-line, adds-part}
 use Rattle.line_world.proofs.one_end.single.Single.finish.Goals as goal
 

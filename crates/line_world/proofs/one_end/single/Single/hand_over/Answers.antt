@@ -1,7 +1,5 @@
-use Rattle.std.proofs.Common.{arith, ◌∙◌, sym, subst, [], ◌∷◌}
-use Rattle.link_run.specs.End.{delivered}
+use Rattle.line_world.proofs.Names.{arith, ◌∙◌, sym, subst, [], ◌∷◌, FaultCounts, delivered}
 use Rattle.line_world.specs.OneEnd.Mid.{IsWriting}
-use Rattle.line_world.specs.OneEnd.Turn.{FaultCounts}
 use Rattle.line_world.proofs.Serving.{given-delivered}
 use Rattle.line_world.proofs.OneEnd.Folders.{write-fault, write-fault-counts}
 use Rattle.line_world.proofs.one_end.single.Single.hand_over.Goals as goal

@@ -1,6 +1,4 @@
-use Rattle.std.proofs.Common.{◌∙◌, ap}
-use Rattle.link_run.specs.End.{is_closed}
-use Rattle.line_world.specs.OneEnd.Mid.{handed}
+use Rattle.line_world.proofs.Names.{◌∙◌, ap, handed, is_closed}
 use Rattle.line_world.proofs.OneEnd.Turning.{hangs-originator, hangs-answerer}
 use Rattle.line_world.proofs.one_end.single.Single.hangs_up.Goals as goal
 

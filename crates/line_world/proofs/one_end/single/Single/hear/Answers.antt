@@ -1,6 +1,4 @@
-use Rattle.std.proofs.Common.{◌≡◌, subst, Ok}
-use Rattle.link_account.specs.Hear.{hear}
-use Rattle.line_world.specs.OneEnd.Heard.{IsHeard, slot_bits, stream}
+use Rattle.line_world.proofs.Names.{◌≡◌, subst, Ok, IsHeard, slot_bits, stream, hear}
 use Rattle.line_world.proofs.OneEnd.Turning.{heard-well}
 use Rattle.line_world.proofs.one_end.single.Single.hear.Goals as goal
 

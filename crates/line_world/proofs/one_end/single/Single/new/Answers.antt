@@ -1,6 +1,4 @@
-use Rattle.std.proofs.Common.{[], refl, subst, arith}
-use Rattle.link_account.specs.Account.{fresh}
-use Rattle.line_world.specs.Station.{Stands}
+use Rattle.line_world.proofs.Names.{[], refl, subst, arith, Stands, fresh}
 use Rattle.line_world.specs.OneEnd.Peer.{setup_of}
 use Rattle.line_world.proofs.one_end.single.Single.new.Goals as goal
 

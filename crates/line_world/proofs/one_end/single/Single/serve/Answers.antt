@@ -1,8 +1,5 @@
-use Rattle.std.proofs.Common.{refl, sym, subst, arith, [], ◌∷◌}
-use Rattle.link_run.specs.End.{offered}
-use Rattle.line_world.specs.OneEnd.Mid.{handed, IsReading}
+use Rattle.line_world.proofs.Names.{refl, sym, subst, arith, [], ◌∷◌, handed, IsReading, FaultCounts, offered}
 use Rattle.line_world.proofs.OneEnd.Turning.{reads-on}
-use Rattle.line_world.specs.OneEnd.Turn.{FaultCounts}
 use Rattle.line_world.proofs.OneEnd.Folders.{read-fault, read-fault-counts}
 use Rattle.line_world.proofs.one_end.single.Single.serve.Goals as goal
 

@@ -1,10 +1,4 @@
-use Rattle.std.proofs.Common.{Bool, None, refl, subst, arith, Ok, Err}
-use Rattle.std.specs.List.{concat}
-use Rattle.link_account.specs.Speak.{speak}
-use Rattle.link_run.specs.End.{deliveries}
-use Rattle.line_world.specs.Station.{SpeaksAs}
-use Rattle.line_world.specs.OneEnd.Peer.{Broken}
-use Rattle.line_world.specs.OneEnd.Mid.{served_with}
+use Rattle.line_world.proofs.Names.{Bool, None, refl, subst, arith, Ok, Err, concat, served_with, Broken, SpeaksAs, speak, deliveries}
 use Rattle.line_world.proofs.OneEnd.Turning.{silent-turn, spoke, finishes, said-well, gone, gone-part, broken, adds-line, adds-part}
 use Rattle.line_world.proofs.OneEnd.Turning.{ends-part}
 use Rattle.line_world.proofs.one_end.single.Single.speak.Goals as goal

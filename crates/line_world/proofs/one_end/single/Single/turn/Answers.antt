@@ -1,17 +1,10 @@
-use Rattle.std.proofs.Common.{◌≡◌, ◌+◌, ◌∙◌, [], ◌∷◌, sym, ap, subst, ◌<◌, ◌^◌}
-use Rattle.std.specs.List.{concat}
-use Rattle.outside_calls.proofs.Steps.{CountsStand-trans}
-use Rattle.outside_calls.proofs.Putting.{OnlyPuts-trans, OnlyPuts-reads, KeepsEach-reads, AddEach-kept}
-use Rattle.shared_terms.specs.declared.role.Role.{Role}
-use Rattle.link_run.specs.End.{deliveries}
-use Rattle.line_world.specs.Station.{IsCounted}
-use Rattle.line_world.specs.OneEnd.Peer.{Closed, after, over}
+use Rattle.line_world.proofs.Names.{◌≡◌, ◌+◌, ◌∙◌, [], ◌∷◌, sym, ap, subst, ◌<◌, ◌^◌, concat, handed, Closed, over, EndsBy, IsCounted}
+use Rattle.line_world.proofs.Names.{deliveries, OnlyPuts-trans, OnlyPuts-reads, KeepsEach-reads, AddEach-kept, CountsStand-trans, Role}
+use Rattle.line_world.specs.OneEnd.Peer.{after}
 use Rattle.line_world.specs.OneEnd.Single.{inputs_of, named, outputs_of}
-use Rattle.line_world.specs.OneEnd.Turn.{EndsBy}
 use Rattle.line_world.proofs.OneEnd.Folders.{got-only, trace-only, trace-counts, read-counts, counts-later, stays-known, others-known}
 use Rattle.line_world.proofs.OneEnd.Turning.{broke-off, hands-over, not-handed, not-read, writing-ends, reading-ends, made, stopped-so}
 use Rattle.line_world.proofs.OneEnd.Turning.{ended, gone-on, no-step, closed-no-step}
-use Rattle.line_world.specs.OneEnd.Mid.{handed}
 use Rattle.line_world.proofs.OneEnd.Folders.{got-counts}
 use Rattle.line_world.proofs.one_end.single.Single.turn.Goals as goal
 use Rattle.line_world.proofs.Linking.{counted-later}

@@ -1,6 +1,5 @@
-use Rattle.std.proofs.Common.{[], ◌∷◌, sym, subst}
+use Rattle.line_world.proofs.Names.{[], ◌∷◌, sym, subst, FaultCounts}
 use Rattle.line_world.specs.OneEnd.Mid.{IsWriting}
-use Rattle.line_world.specs.OneEnd.Turn.{FaultCounts}
 use Rattle.line_world.proofs.OneEnd.Folders.{write-fault, write-fault-counts}
 use Rattle.line_world.proofs.one_end.single.Single.write.Goals as goal
 

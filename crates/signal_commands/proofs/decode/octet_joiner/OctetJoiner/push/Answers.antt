@@ -1,6 +1,4 @@
-use Rattle.std.proofs.Common.{◌≡◌, ◌+◌, ◌-◌, ◌≤◌, ◌<◌, ◌^◌, ℕ, subst, sym, arith}
-use Rattle.signal_commands.specs.declared.decode.octet_joiner.Bits.{Bits}
-use Rattle.signal_commands.specs.Decoding.Octets.{OctetsJoined}
+use Rattle.signal_commands.proofs.Names.{◌≡◌, ◌+◌, ◌-◌, ◌≤◌, ◌<◌, ◌^◌, ℕ, subst, sym, arith, OctetsJoined, Bits}
 use Rattle.signal_commands.proofs.Decoding.Joined.{rest-small, joined-octet}
 use Rattle.signal_commands.proofs.decode.octet_joiner.OctetJoiner.push.Goals as goal
 

@@ -1,13 +1,9 @@
-use Rattle.std.proofs.Common.{◌++◌, List, ℕ, subst}
-use Rattle.scramblers.specs.Mode.{tap_of}
+use Rattle.signal_commands.proofs.Names.{◌++◌, List, ℕ, subst, demodulated, tap_of, ReadsAt, ReadToEnd, RateReader}
 use Rattle.line_coding.specs.Demodulates.{DemodulatorStands}
-use Rattle.line_coding.proofs.Standing.{demodulated}
 use Rattle.exact_decoder.specs.Surviving.V32.{at_beginning}
 use Rattle.rate_4800.specs.Demodulates.{DemodulatorStands as QuarterDemodulatorStands}
 use Rattle.rate_4800.proofs.Standing.{demodulated as quarters-demodulated}
 use Rattle.recordings.specs.declared.rate.Rate.TheVariants as rates
-use Rattle.signal_commands.specs.declared.decode.rate_reader.RateReader.{RateReader}
-use Rattle.signal_commands.specs.Decoding.Playing.{ReadsAt, ReadToEnd}
 use Rattle.signal_commands.proofs.Decoding.Finishing.{finishes}
 use Rattle.signal_commands.proofs.decode.playback.Playback.finish.Goals as goal
 

@@ -1,8 +1,4 @@
-use Rattle.std.proofs.Common.{◌≡◌, ◌≤◌, ◌+◌, ◌*◌, ◌++◌, ℕ, List, length}
-use Rattle.symbol_map.specs.declared.sample.Sample.{Sample}
-use Rattle.scramblers.specs.declared.mode.Mode.{Mode}
-use Rattle.recordings.specs.declared.rate.Rate.{Rate}
-use Rattle.signal_commands.specs.Decoding.Playing.{decoding_of, Hears}
+use Rattle.signal_commands.proofs.Names.{◌≡◌, ◌≤◌, ◌+◌, ◌*◌, ◌++◌, ℕ, List, length, Rate, Mode, decoding_of, Hears, Sample}
 use Rattle.signal_commands.proofs.decode.playback.Playback.take_octets.Given as goal
 
 abbrev pub invariant-loop-two : goal.invariant-loop-two

@@ -1,10 +1,7 @@
-use Rattle.std.proofs.Common.{◌∙◌, ◌++◌, Bool, List, length, drop, sym, ap, subst, arith, append-nil, refl, ℕ}
-use Rattle.outside_calls.specs.Folder.{FolderState}
-use Rattle.outside_calls.proofs.Steps.{GoesOn-refl, CountsStand-refl, CountsStand-trans}
-use Rattle.line_coding.specs.MiddleReading.{MiddleRead, bits_of_taken}
-use Rattle.exact_decoder.specs.Surviving.V32.{line_depth}
-use Rattle.command_base.proofs.Hearing.{says-trans}
-use Rattle.signal_commands.specs.PickingUp.Playing.{Playing, Plays}
+use Rattle.signal_commands.proofs.Names.{◌∙◌, ◌++◌, Bool, List, length, drop, sym, ap, subst, arith, append-nil, refl, ℕ, says-trans}
+use Rattle.signal_commands.proofs.Names.{line_depth, MiddleRead, GoesOn-refl, CountsStand-refl, CountsStand-trans, FolderState, Playing}
+use Rattle.signal_commands.proofs.Names.{Plays}
+use Rattle.line_coding.specs.MiddleReading.{bits_of_taken}
 use Rattle.signal_commands.proofs.PickingUp.Playings.{plays-taken, says-some}
 use Rattle.signal_commands.proofs.pickup.player.Player.hear_each.Goals as goal
 

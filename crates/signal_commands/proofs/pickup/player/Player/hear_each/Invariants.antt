@@ -1,8 +1,5 @@
-use Rattle.std.proofs.Common.{◌≡◌, ◌≤◌, ◌+◌, ◌*◌, List, length}
-use Rattle.scramblers.specs.declared.mode.Mode.{Mode}
-use Rattle.symbol_map.specs.declared.sample.Sample.{Sample}
-use Rattle.outside_calls.specs.Folder.{FolderState, OnlySays, CountsStand}
-use Rattle.signal_commands.specs.PickingUp.Playing.{Plays, playing_of}
+use Rattle.signal_commands.proofs.Names.{◌≡◌, ◌≤◌, ◌+◌, ◌*◌, List, length, FolderState, OnlySays, CountsStand, Mode, Plays, playing_of}
+use Rattle.signal_commands.proofs.Names.{Sample}
 use Rattle.signal_commands.proofs.pickup.player.Player.hear_each.Given as goal
 
 abbrev pub invariant-loop-taken : goal.invariant-loop-taken

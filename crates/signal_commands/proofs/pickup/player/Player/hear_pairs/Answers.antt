@@ -1,10 +1,5 @@
-use Rattle.std.proofs.Common.{◌∙◌, ◌++◌, length, sym, ap, subst, arith, refl}
-use Rattle.frame_check.specs.Bits.{octet_bits}
-use Rattle.outside_calls.specs.Folder.{FolderState}
-use Rattle.outside_calls.proofs.Steps.{GoesOn-refl, CountsStand-refl, CountsStand-trans}
-use Rattle.line_coding.specs.MiddleReading.{Middle}
-use Rattle.command_base.proofs.Hearing.{says-trans}
-use Rattle.signal_commands.specs.PickingUp.Playing.{Playing, playing_of, Plays}
+use Rattle.signal_commands.proofs.Names.{◌∙◌, ◌++◌, length, sym, ap, subst, arith, refl, says-trans, octet_bits, Middle, GoesOn-refl}
+use Rattle.signal_commands.proofs.Names.{CountsStand-refl, CountsStand-trans, FolderState, Playing, playing_of, Plays}
 use Rattle.signal_commands.proofs.PickingUp.Playings.{plays-taken, says-some}
 use Rattle.signal_commands.proofs.pickup.player.Player.hear_pairs.Goals as goal
 

@@ -1,8 +1,4 @@
-use Rattle.std.proofs.Common.{◌∙◌, ◌++◌, List, take, refl, sym, subst}
-use Rattle.symbol_map.specs.declared.sample.Sample.{Sample}
-use Rattle.outside_calls.specs.Folder.{FolderState}
-use Rattle.exact_decoder.specs.Batches.{heard_of}
-use Rattle.signal_commands.specs.PickingUp.Playing.{Playing, playing_of, Plays}
+use Rattle.signal_commands.proofs.Names.{◌∙◌, ◌++◌, List, take, refl, sym, subst, heard_of, FolderState, Playing, playing_of, Plays, Sample}
 use Rattle.signal_commands.proofs.PickingUp.Playings.{plays-pushed, says-all, loses-line}
 use Rattle.signal_commands.proofs.pickup.player.Player.push_some.Goals as goal
 

@@ -1,5 +1,4 @@
-use Rattle.std.proofs.Common.{◌≡◌, ◌+◌, ◌-◌, ◌%◌, ◌++◌, ◌∷◌, [], length, sym, ◌∙◌, ap}
-use Rattle.trellis_tables.specs.Differential.Turned.{before}
+use Rattle.trellis_tables.proofs.Names.{◌≡◌, ◌+◌, ◌-◌, ◌%◌, ◌++◌, ◌∷◌, [], length, sym, ◌∙◌, ap, before}
 use Rattle.trellis_tables.proofs.Turning.Places.{unturned-snoc, before-snoc}
 use Rattle.trellis_tables.proofs.differential.unturner.Unturner.decode.Goals as goal
 
