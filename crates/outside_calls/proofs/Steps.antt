@@ -53,8 +53,6 @@ Adds-kept a b c n xs g p k = elim p [
 pub PartlyAppended-none : (a b : FolderState) (n xs : List ℕ) → KeepsName a b n → PartlyAppended a b n xs
 PartlyAppended-none a b n xs k told = inl (k told)
 
-]
-
 -- what is appended in part behind a name that was kept is appended in part to what it held before
 pub kept-PartlyAppended : (a b c : FolderState) (n xs : List ℕ) → GoesOn a b → KeepsName a b n → PartlyAppended b c n xs
     → PartlyAppended a c n xs
