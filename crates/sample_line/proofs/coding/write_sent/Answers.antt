@@ -16,14 +16,14 @@ framed-requires-clause-room c =
     c.args.writer.now.phase s)
     c.in-Frame.is c.requires.codable in
     subst (λ (xs : List ℕ). length (opening c.args.writer.now.phase (Some xs)) ≤ 4 * (c.args.writer.now.symbols - TAIL))
-    (sym (octets-are _ _ _ _ _ _ c.as_slice.ensures.items c.as_slice-2.ensures.items c.check_parts-parts.ensures.octets)) fits.room
+    (sym (octets-are _ _ _ _ _ _ c.as_slice.ensures.items c.as_slice-in-Frame.ensures.items c.check_parts-parts.ensures.octets)) fits.room
 
 pub returns-in-Frame-clause-bits : goal.returns-in-Frame-clause-bits
 returns-in-Frame-clause-bits c =
     let size : ℕ = 4 * c.args.writer.now.symbols in
     c.framed.ensures.bits
     ∙ ap (λ xs. slot_bits size c.args.writer.now.phase (slot_of size (FlagSlot (Some xs))))
-    (octets-are _ _ _ _ _ _ c.as_slice.ensures.items c.as_slice-2.ensures.items c.check_parts-parts.ensures.octets)
+    (octets-are _ _ _ _ _ _ c.as_slice.ensures.items c.as_slice-in-Frame.ensures.items c.check_parts-parts.ensures.octets)
     ∙ ap (λ s. slot_bits size c.args.writer.now.phase
     (slot_of size (signal_of c.args.framing.check c.args.framing.sender c.args.framing.dlci s)))
     (sym c.in-Frame.is)
