@@ -1,7 +1,7 @@
 -- All that a role sent, one slot more, and its bits.
 use Rattle.std.proofs.Common.{◌≡◌, ◌∙◌, ◌*◌, List, [], ◌∷◌, ◌++◌, length, Some, ap}
-use Rattle.line_run.proofs.Names.{IsAlone, Role, Spoken, Turn, Wire, and_then, bits_behind, bits_of, of, signal_bits, signal_in, signal_of}
-use Rattle.line_run.proofs.Names.{signals, signals_before}
+use Rattle.line_run.proofs.Cited.{IsAlone, Role, Spoken, Turn, Wire, and_then, bits_behind, bits_of, of, signal_bits, signal_in, signal_of}
+use Rattle.line_run.proofs.Cited.{signals, signals_before}
 use Rattle.sample_line.proofs.Passing.{slot-added}
 
 pub signals-upto : (c : Wire) (role : Role) (ts : List Turn) (slot : Spoken) (t : Turn) → (of role t).sent ≡ Some slot

@@ -4,9 +4,9 @@ use Rattle.std.proofs.Common.{map, refl, sym, ap, arith, Some, None, ℤ, pos, n
 use Rattle.std.proofs.lemmas.Bool.{and_parts}
 use Rattle.std.proofs.lemmas.Int.{ints}
 use Rattle.std.proofs.lemmas.Nat.{mul-le}
-use Rattle.line_run.proofs.Names.{DisplacesNoneBefore, IsFaintBefore, Records, Role, Sample, ScriptValue, UndisplacedIsFaint, displaced}
-use Rattle.line_run.proofs.Names.{displaced_from, four-each, line_depth, line_trellis, lost-once, mode_of, offset_of, point_of, saturated}
-use Rattle.line_run.proofs.Names.{squares_from, squares_of, tap_of}
+use Rattle.line_run.proofs.Cited.{DisplacesNoneBefore, IsFaintBefore, Records, Role, Sample, ScriptValue, UndisplacedIsFaint, displaced}
+use Rattle.line_run.proofs.Cited.{displaced_from, four-each, line_depth, line_trellis, lost-once, mode_of, offset_of, point_of, saturated}
+use Rattle.line_run.proofs.Cited.{squares_from, squares_of, tap_of}
 use Rattle.symbol_map.specs.Distance.{distance_of}
 use Rattle.symbol_map.specs.Finite.{each_below, at_each}
 use Rattle.trellis_tables.specs.Laws.{far_from}

@@ -3,9 +3,9 @@ use Rattle.std.proofs.Common.{◌≡◌, ◌∙◌, ℕ, ◌+◌, ◌-◌, ◌*�
 use Rattle.std.proofs.Common.{length-append}
 use Rattle.std.proofs.Math.Nat.{mul-suc}
 use Rattle.std.proofs.lemmas.List.Elements.{All-append}
-use Rattle.line_run.proofs.Names.{AreFit, AreSlots, Check, Fits, FlagSlot, Frame, IsCodable, IsFrame, IsSendable, IsSlot, MarkSlot}
-use Rattle.line_run.proofs.Names.{OfOctets, PatternSlot, Role, Sent, Signal, bits_from, check_for, checked, flags, framed, information_of}
-use Rattle.line_run.proofs.Names.{next_phase, opening, phase_from, rest_of_flag, signal_of, slot_bits, slot_of, slots_of, spelled}
+use Rattle.line_run.proofs.Cited.{AreFit, AreSlots, Check, Fits, FlagSlot, Frame, IsCodable, IsFrame, IsSendable, IsSlot, MarkSlot}
+use Rattle.line_run.proofs.Cited.{OfOctets, PatternSlot, Role, Sent, Signal, bits_from, check_for, checked, flags, framed, information_of}
+use Rattle.line_run.proofs.Cited.{next_phase, opening, phase_from, rest_of_flag, signal_of, slot_bits, slot_of, slots_of, spelled}
 use Rattle.frame_check.specs.declared.check.Check.TheVariants.{Sixteen, ThirtyTwo}
 use Rattle.frame_check.specs.Division.{check_of, count_of}
 use Rattle.frame_check.proofs.Checks.{check_of-is, length-check_of}

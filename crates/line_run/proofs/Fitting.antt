@@ -1,8 +1,8 @@
 -- What the ends of a script's link send fits the slots of its line.
 use Rattle.std.proofs.Common.{◌≡◌, ℕ, ◌+◌, ◌-◌, ◌*◌, ◌/◌, ◌<◌, ◌≤◌, max, length, arith, refl, Some}
-use Rattle.line_run.proofs.Names.{Answerer, Check, FewOctetsBesidesInformation, Frame, IsCodable, IsSendable, Originator, Role, SendsShort}
-use Rattle.line_run.proofs.Names.{Sent, ShortIsCodable, SlotsAreCodable, SlotsHaveRoom, checked, delay_of, information_of, link_of}
-use Rattle.line_run.proofs.Names.{longest_of, of, slot_symbols}
+use Rattle.line_run.proofs.Cited.{Answerer, Check, FewOctetsBesidesInformation, Frame, IsCodable, IsSendable, Originator, Role, SendsShort}
+use Rattle.line_run.proofs.Cited.{Sent, ShortIsCodable, SlotsAreCodable, SlotsHaveRoom, checked, delay_of, information_of, link_of}
+use Rattle.line_run.proofs.Cited.{longest_of, of, slot_symbols}
 use Rattle.bit_stuffing.specs.declared.slot_writer.TheConstants.{TAIL}
 use Rattle.lapm_frames.specs.declared.sent.Sent.TheVariants as sent
 use Rattle.line_run.proofs.Sampling.{samples_are_carried, one_is_carried}

@@ -1,7 +1,7 @@
 -- What is heard of a line that a decoder follows.
 use Rattle.std.proofs.Common.{ℕ, ◌+◌, ◌*◌, ◌<◌, length, arith}
-use Rattle.line_run.proofs.Names.{DisplacesNoneBefore, HeardIsSentWhere, IsFaintBefore, NeverLostWhere, PassesUnhinderedWhere}
-use Rattle.line_run.proofs.Names.{ReceivedIsSentWhere, Role, ScriptValue, SentIsReceivedWhere, sender_of}
+use Rattle.line_run.proofs.Cited.{DisplacesNoneBefore, HeardIsSentWhere, IsFaintBefore, NeverLostWhere, PassesUnhinderedWhere}
+use Rattle.line_run.proofs.Cited.{ReceivedIsSentWhere, Role, ScriptValue, SentIsReceivedWhere, sender_of}
 use Rattle.line_run.proofs.Patterns.{AreSeen}
 use Rattle.line_run.proofs.Settled.{LeavesTime}
 use Rattle.line_run.proofs.Following.{Follows, none-within}

@@ -1,9 +1,9 @@
 -- However a run ends, what was given begins the other's file; done means whole.
 use Rattle.std.proofs.Common.{◌≡◌, ℕ, List, ◌∷◌, length, sym, ◌∙◌, subst}
-use Rattle.line_run.proofs.Names.{Accounts, ChanceMatch, DoneIsWhole, DoneLeavesWhole, EndsInTurn, EndsOnLine, Hears, HearsPrefixes}
-use Rattle.line_run.proofs.Names.{HearsWhatPassed, HoldPrefixes, IsDone, Leaves, Left, LineEnd, LineLost, LineRun, Link, LinkLost, MayRun}
-use Rattle.line_run.proofs.Names.{NotDetected, OneIsCarried, Role, RunsLeavePrefixes, RunsLeaveWhatPassed, RunsOver, SamplesAreCarried}
-use Rattle.line_run.proofs.Names.{TakesPrefixes, TakesWhatPassed, Turn, Wire, agreed_srej, delay_of, of, other}
+use Rattle.line_run.proofs.Cited.{Accounts, ChanceMatch, DoneIsWhole, DoneLeavesWhole, EndsInTurn, EndsOnLine, Hears, HearsPrefixes}
+use Rattle.line_run.proofs.Cited.{HearsWhatPassed, HoldPrefixes, IsDone, Leaves, Left, LineEnd, LineLost, LineRun, Link, LinkLost, MayRun}
+use Rattle.line_run.proofs.Cited.{NotDetected, OneIsCarried, Role, RunsLeavePrefixes, RunsLeaveWhatPassed, RunsOver, SamplesAreCarried}
+use Rattle.line_run.proofs.Cited.{TakesPrefixes, TakesWhatPassed, Turn, Wire, agreed_srej, delay_of, of, other}
 use Rattle.shared_terms.specs.Prefix.{IsPrefixOf}
 use Rattle.link_run.specs.Outcomes.{Outcome, Going, Done, Broken, TurnIs}
 use Rattle.link_run.specs.Taken.{taken_octets}

@@ -1,4 +1,4 @@
-mod Names
+mod Cited
 mod Sampling
 pub mod Leaving
 pub mod Resulting

@@ -1,7 +1,7 @@
 -- The bits of a slot tell what was sent in it.
 use Rattle.std.proofs.Common.{◌≡◌, ℕ, ◌*◌, List, [], Some, None, refl, ap, subst, arith}
-use Rattle.line_run.proofs.Names.{Check, FlagSlot, IsSendable, MarkSlot, PatternSlot, Role, Sent, Signal, SlotsTellWhatWasSent, SpellsFrame}
-use Rattle.line_run.proofs.Names.{checked, signal_of}
+use Rattle.line_run.proofs.Cited.{Check, FlagSlot, IsSendable, MarkSlot, PatternSlot, Role, Sent, Signal, SlotsTellWhatWasSent, SpellsFrame}
+use Rattle.line_run.proofs.Cited.{checked, signal_of}
 use Rattle.lapm_frames.proofs.Checking.{spells, spells-one}
 use Rattle.lapm_frames.specs.declared.sent.Sent.TheVariants as sent
 use Rattle.detection.proofs.OneSignal.{one-signal}

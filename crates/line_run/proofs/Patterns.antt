@@ -1,6 +1,6 @@
 -- The laws of pattern slots that the lemmas here are handed.
 use Rattle.std.proofs.Common.{◌≡◌, ℕ, ◌<◌, Bool, List, [], ◌∷◌, ◌++◌, length, refl}
-use Rattle.line_run.proofs.Names.{AreSlots, IsPlain, Seen, Sight, SightsAdded, Signal, pattern_bits, seen_in, signal_bits, slots_of}
+use Rattle.line_run.proofs.Cited.{AreSlots, IsPlain, Seen, Sight, SightsAdded, Signal, pattern_bits, seen_in, signal_bits, slots_of}
 use Rattle.detection.specs.Patterns.{ones}
 use Rattle.detection.specs.Sights.{sights_of}
 

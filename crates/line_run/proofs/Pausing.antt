@@ -1,7 +1,7 @@
 -- How many lines of a script are a role's.
 use Rattle.std.proofs.Common.{◌≡◌, ◌+◌, Bool, true, false, cond, List, [], ◌∷◌, map, filter, length, arith, refl}
 use Rattle.std.specs.List.{AllByRecursion}
-use Rattle.line_run.proofs.Names.{Answerer, IsShort, Originator, Pause, Role, busy_line, same_role}
+use Rattle.line_run.proofs.Cited.{Answerer, IsShort, Originator, Pause, Role, busy_line, same_role}
 use Rattle.turn_bound.specs.Limits as limits
 
 -- those of both roles together

@@ -5,10 +5,10 @@ use Rattle.std.proofs.Math.Nat.{mul_assoc, mul-suc}
 use Rattle.std.proofs.Math.Seq.{take-append_seam, drop-append_seam}
 use Rattle.std.proofs.lemmas.List.{take-append-drop, length-drop}
 use Rattle.std.proofs.lemmas.List.Elements.{All-replicate}
-use Rattle.line_run.proofs.Names.{AreFit, Check, ChecksAgree, Frame, IsReleased, IsSendable, Kept, Passes, PassesSlot, Records, Role}
-use Rattle.line_run.proofs.Names.{Sample, ScriptValue, Seen, Sent, Sight, Signal, SpellsFrame, bits_behind, check_for, checked, first-stay}
-use Rattle.line_run.proofs.Names.{four-each, line_trellis, mode_of, octets_in, patterns_in, phase_after, seen_in, sender_of, sights_of}
-use Rattle.line_run.proofs.Names.{signal_bits, signal_of, size_of, slot_bits, slot_of, slots_of, spelled, tap_of, unhindered}
+use Rattle.line_run.proofs.Cited.{AreFit, Check, ChecksAgree, Frame, IsReleased, IsSendable, Kept, Passes, PassesSlot, Records, Role}
+use Rattle.line_run.proofs.Cited.{Sample, ScriptValue, Seen, Sent, Sight, Signal, SpellsFrame, bits_behind, check_for, checked, first-stay}
+use Rattle.line_run.proofs.Cited.{four-each, line_trellis, mode_of, octets_in, patterns_in, phase_after, seen_in, sender_of, sights_of}
+use Rattle.line_run.proofs.Cited.{signal_bits, signal_of, size_of, slot_bits, slot_of, slots_of, spelled, tap_of, unhindered}
 use Rattle.scramblers.proofs.Readings.{Descrambles_once}
 use Rattle.exact_decoder.proofs.Surviving.Least.{some-released}
 use Rattle.exact_decoder.specs.declared.decoder.Lost.{Lost}

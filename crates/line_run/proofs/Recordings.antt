@@ -7,8 +7,8 @@ use Rattle.std.proofs.lemmas.List.Elements.{All-nil, All-cons, All-head, All-tai
 use Rattle.frame_check.specs.Bits.{low_bits, number}
 use Rattle.trellis_tables.specs.Differential.Turned.{turned}
 use Rattle.trellis_tables.proofs.Turning.Places.{turned-snoc}
-use Rattle.line_run.proofs.Names.{Answerer, AreFit, LosesAt, LosesWithin, LostIs, Originator, Records, Role, Sample, ScriptValue, Signal}
-use Rattle.line_run.proofs.Names.{displaced_from, line_depth, line_trellis, lost-stays, mode_of, point_of, signal_bits, tap_of}
+use Rattle.line_run.proofs.Cited.{Answerer, AreFit, LosesAt, LosesWithin, LostIs, Originator, Records, Role, Sample, ScriptValue, Signal}
+use Rattle.line_run.proofs.Cited.{displaced_from, line_depth, line_trellis, lost-stays, mode_of, point_of, signal_bits, tap_of}
 use Rattle.scramblers.specs.Scrambles.{Scrambles}
 use Rattle.scramblers.specs.Stream.{earlier}
 use Rattle.frame_check.specs.Xor.{xor}

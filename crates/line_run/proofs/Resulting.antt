@@ -1,9 +1,9 @@
 -- A script and two users have one result at most.
 use Rattle.std.proofs.Common.{◌≡◌, ◌≢◌, ◌⊎◌, inl, inr, ℕ, zero, suc, ◌<◌, List, [], ◌∷◌, ◌++◌, length, arith, refl, sym, ◌∙◌, ap, subst}
-use Rattle.line_run.proofs.Names.{Accounts, Answerer, ChanceMatch, EndsBy, EndsInTurn, EndsLine, EndsOrGoesOn, GoingTurn, HeardIn}
-use Rattle.line_run.proofs.Names.{HeardOnce, Hears, IsDone, IsHeardOf, IsHeardOver, Leaves, Left, LineEnd, LineLost, LineRun, Link}
-use Rattle.line_run.proofs.Names.{LinkLost, OneLineEnd, OneLineRun, OneOutcome, OneResult, Originator, Role, RunEnd, RunOf, RunsTo, Turn}
-use Rattle.line_run.proofs.Names.{Wire, heard_in, of, other}
+use Rattle.line_run.proofs.Cited.{Accounts, Answerer, ChanceMatch, EndsBy, EndsInTurn, EndsLine, EndsOrGoesOn, GoingTurn, HeardIn}
+use Rattle.line_run.proofs.Cited.{HeardOnce, Hears, IsDone, IsHeardOf, IsHeardOver, Leaves, Left, LineEnd, LineLost, LineRun, Link}
+use Rattle.line_run.proofs.Cited.{LinkLost, OneLineEnd, OneLineRun, OneOutcome, OneResult, Originator, Role, RunEnd, RunOf, RunsTo, Turn}
+use Rattle.line_run.proofs.Cited.{Wire, heard_in, of, other}
 use Rattle.shared_terms.specs.declared.fault.LinkFault.{LinkFault}
 use Rattle.shared_terms.specs.declared.fault.LinkFault.TheVariants.{NotDetected, Spent}
 use Rattle.link_run.specs.Outcomes.{Outcome, Going, Done, Broken, TurnIs}

@@ -3,10 +3,10 @@ use Rattle.std.proofs.Common.{◌≡◌, ◌≢◌, ℕ, ◌-◌, Bool, true, fa
 use Rattle.std.proofs.Common.{Option, Some, None}
 use Rattle.std.specs.Prelude.{is_some, unwrap_or}
 use Rattle.std.proofs.lemmas.Bool.{false≢true}
-use Rattle.line_run.proofs.Names.{Accounts, Answerer, ArrivesAs, Check, Crosses, EndsOrGoesOn, EndsOrIsHeard, HeardIn, HeardOnce, Hears}
-use Rattle.line_run.proofs.Names.{IsHeardOf, IsHeardOver, IsHeardWell, Link, LosesLine, LostIs, OneIsCarried, OneLineEnd, OneLineEndBy}
-use Rattle.line_run.proofs.Names.{OneLineRun, OneRun, Originator, Role, RunOf, SamplesAreCarried, Seen, Sent, Spoken, Turn, Wire}
-use Rattle.line_run.proofs.Names.{bits_before, bits_of, delay_of, has_message, heard_in, line_depth, line_trellis, of, other, sent_ago}
+use Rattle.line_run.proofs.Cited.{Accounts, Answerer, ArrivesAs, Check, Crosses, EndsOrGoesOn, EndsOrIsHeard, HeardIn, HeardOnce, Hears}
+use Rattle.line_run.proofs.Cited.{IsHeardOf, IsHeardOver, IsHeardWell, Link, LosesLine, LostIs, OneIsCarried, OneLineEnd, OneLineEndBy}
+use Rattle.line_run.proofs.Cited.{OneLineRun, OneRun, Originator, Role, RunOf, SamplesAreCarried, Seen, Sent, Spoken, Turn, Wire}
+use Rattle.line_run.proofs.Cited.{bits_before, bits_of, delay_of, has_message, heard_in, line_depth, line_trellis, of, other, sent_ago}
 use Rattle.exact_decoder.specs.Surviving.Laws.{LostOnce}
 use Rattle.lapm_frames.specs.declared.sent.Sent.TheVariants as sent
 use Rattle.lapm_frames.specs.declared.heard.Heard.{Heard}

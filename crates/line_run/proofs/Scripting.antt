@@ -2,8 +2,8 @@
 use Rattle.std.proofs.Common.{◌≡◌, ℕ, zero, suc, ◌&&◌, ◌||◌, Bool, true, false, cond, List, [], ◌∷◌, map, filter, refl, ap, slice_get}
 use Rattle.std.specs.List.{list_any}
 use Rattle.std.specs.Option.{option_map}
-use Rattle.line_run.proofs.Names.{Answerer, BreaksAreTheScripts, Originator, Pause, PausesAreTheScripts, Role, ScriptsHaveDelays}
-use Rattle.line_run.proofs.Names.{ScriptsMayPlay, break_line, busy_line, same_role}
+use Rattle.line_run.proofs.Cited.{Answerer, BreaksAreTheScripts, Originator, Pause, PausesAreTheScripts, Role, ScriptsHaveDelays}
+use Rattle.line_run.proofs.Cited.{ScriptsMayPlay, break_line, busy_line, same_role}
 use Rattle.noise_script.specs.declared.entry.Break.{Break}
 use Rattle.noise_script.specs.Offsets.{covers}
 use Rattle.link_run.specs.End.{BreakLine, is_busy}

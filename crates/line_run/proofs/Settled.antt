@@ -8,8 +8,8 @@ use Rattle.bit_stuffing.specs.declared.piece.Piece.{Piece}
 use Rattle.bit_stuffing.specs.declared.piece.Piece.TheVariants.{Whole, Ragged, Aborted, TooLong, TooShort}
 use Rattle.bit_stuffing.specs.Found.{Found, pieces_of}
 use Rattle.bit_stuffing.specs.Sent.{FoundIn, aborted_at, octets_if_whole, whole_at, wholes}
-use Rattle.line_run.proofs.Names.{AreFit, AreSlots, Fits, FlagSlot, MarkSlot, PatternSlot, Seen, Sight, Signal, Slot, flags_behind, opening}
-use Rattle.line_run.proofs.Names.{phase_after, seen_in, sent_bits, sights_from, sights_of, signal_bits, slot_bits, slot_of, slots_of}
+use Rattle.line_run.proofs.Cited.{AreFit, AreSlots, Fits, FlagSlot, MarkSlot, PatternSlot, Seen, Sight, Signal, Slot, flags_behind, opening}
+use Rattle.line_run.proofs.Cited.{phase_after, seen_in, sent_bits, sights_from, sights_of, signal_bits, slot_bits, slot_of, slots_of}
 use Rattle.bit_stuffing.proofs.Found.{pieces-none}
 use Rattle.bit_stuffing.proofs.Sent.{found-is-sent, pieces-stay}
 use Rattle.bit_stuffing.proofs.Sizes.{length-slot_bits}

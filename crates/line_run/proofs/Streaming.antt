@@ -5,8 +5,8 @@ use Rattle.std.specs.Prelude.{slice_get, is_some}
 use Rattle.std.proofs.lemmas.Bool.{false≢true}
 use Rattle.std.proofs.lemmas.List.{map-append, length-drop}
 use Rattle.std.proofs.Math.Seq.{take-append_seam, drop-append_seam}
-use Rattle.line_run.proofs.Names.{Accounts, IsAlone, Link, LoneSlotsAreCounted, LoneSlotsAreDue, Role, RunOf, Spoken, Turn, Wire, and_then}
-use Rattle.line_run.proofs.Names.{delay_of, of, sent_ago, sent_in, signal_in, signals, signals_before}
+use Rattle.line_run.proofs.Cited.{Accounts, IsAlone, Link, LoneSlotsAreCounted, LoneSlotsAreDue, Role, RunOf, Spoken, Turn, Wire, and_then}
+use Rattle.line_run.proofs.Cited.{delay_of, of, sent_ago, sent_in, signal_in, signals, signals_before}
 use Rattle.line_run.specs.Stream.{Carried, carried_signal, carry, sent_by, AreSent}
 
 -- one slot is carried

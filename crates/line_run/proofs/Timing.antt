@@ -1,8 +1,8 @@
 -- What the laws of all runs say of a script's.
 use Rattle.std.proofs.Common.{◌≡◌, ℕ, ◌≤◌, List, [], ◌++◌, map, filter, length, arith, refl, ap}
 use Rattle.std.specs.List.{AllByRecursion}
-use Rattle.line_run.proofs.Names.{Accounts, Answerer, Both, IsCarried, IsInLimits, Originator, Pause, Role, SamplesAreCarried, ScriptValue}
-use Rattle.line_run.proofs.Names.{break_line, busy_line, delay_of, link_of, of, period_of, same_role}
+use Rattle.line_run.proofs.Cited.{Accounts, Answerer, Both, IsCarried, IsInLimits, Originator, Pause, Role, SamplesAreCarried, ScriptValue}
+use Rattle.line_run.proofs.Cited.{break_line, busy_line, delay_of, link_of, of, period_of, same_role}
 use Rattle.noise_script.specs.declared.entry.Break.{Break}
 use Rattle.turn_bound.specs.Time.{IsTimed}
 use Rattle.turn_bound.specs.Bound.{EndsSoon, EndsSoonByFiles, EndsSoonByOctets}

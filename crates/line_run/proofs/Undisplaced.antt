@@ -4,8 +4,8 @@ use Rattle.std.proofs.Common.{length, map, refl, ap, arith, Some, None}
 use Rattle.std.proofs.lemmas.Bool.Decides.{nat_tests}
 use Rattle.std.proofs.lemmas.List.Elements.{All-head, All-nil, All-same, All-tail}
 use Rattle.std.specs.Prelude.{ℤ, pos, ◌*ℤ◌, slice_index_or}
-use Rattle.line_run.proofs.Names.{DisplacesNoneBefore, LosesAt, Records, Role, Sample, ScriptValue, comes-back, displaced, displaced_from}
-use Rattle.line_run.proofs.Names.{four-each, line_depth, line_trellis, lost-once, map_points, mode_of, plus, point_of, same_role, tap_of}
+use Rattle.line_run.proofs.Cited.{DisplacesNoneBefore, LosesAt, Records, Role, Sample, ScriptValue, comes-back, displaced, displaced_from}
+use Rattle.line_run.proofs.Cited.{four-each, line_depth, line_trellis, lost-once, map_points, mode_of, plus, point_of, same_role, tap_of}
 use Rattle.noise_bound.specs.Noiseless.{IsNoiseless}
 use Rattle.noise_bound.proofs.NoiselessCosts.{length-points}
 use Rattle.noise_bound.proofs.Followed.{few-unreleased_at, never-lost, released-sent_at}

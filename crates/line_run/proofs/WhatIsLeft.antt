@@ -1,7 +1,7 @@
 -- What a run leaves is told by its ends and its text.
 use Rattle.std.proofs.Common.{◌≡◌, ◌∙◌, ℕ, List, refl, ap}
 use Rattle.std.specs.List.{concat}
-use Rattle.line_run.proofs.Names.{Accounts, Answerer, Leaves, Left, Originator, Role, of}
+use Rattle.line_run.proofs.Cited.{Accounts, Answerer, Leaves, Left, Originator, Role, of}
 
 abbrev pub left_of : Accounts → List ℕ → Left
 left_of ends text = record { got = record { orig = concat ends.orig.incoming.taken; answ = concat ends.answ.incoming.taken }; trace = text }

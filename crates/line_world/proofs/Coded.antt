@@ -1,7 +1,7 @@
 -- A slot that a coder has coded behind others.
-use Rattle.line_world.proofs.Names.{arith, ◌≡◌, ℕ, ◌*◌, List, [], ◌∷◌, ◌++◌, map, sym, ◌∙◌, ap, subst, map-append, line_bits, Signal, Check}
-use Rattle.line_world.proofs.Names.{Sent, Wire, Carried, carried_signal, LinesWait, Lines, IsCodedAs, bits_behind, signal_of, Both, of}
-use Rattle.line_world.proofs.Names.{Role, Originator, Answerer}
+use Rattle.line_world.proofs.Cited.{arith, ◌≡◌, ℕ, ◌*◌, List, [], ◌∷◌, ◌++◌, map, sym, ◌∙◌, ap, subst, map-append, line_bits, Signal, Check}
+use Rattle.line_world.proofs.Cited.{Sent, Wire, Carried, carried_signal, LinesWait, Lines, IsCodedAs, bits_behind, signal_of, Both, of}
+use Rattle.line_world.proofs.Cited.{Role, Originator, Answerer}
 use Rattle.std.proofs.lemmas.List.{same_from_push}
 use Rattle.sample_line.specs.Coder.{Coding, CoderStands, bits_in}
 use Rattle.line_world.specs.declared.end_coder.EndCoder.{EndCoder}

@@ -1,9 +1,9 @@
 -- What the steps of a turn leave of the folder, in a row.
-use Rattle.line_world.proofs.Names.{◌≡◌, ℕ, List, [], ◌++◌, take, IsTrue, refl, sym, ◌∙◌, ap, subst, Written, inputs_of, outputs_of}
-use Rattle.line_world.proofs.Names.{received_of, RunFault, AreWithin, ReadsBoth, file_at, FaultCountsOver, IsWriting, StayKnown, KnowsFiles}
-use Rattle.line_world.proofs.Names.{Accounts, OnlyPuts-one, SomeRose-earlier, inputs-kept, told_later, octets-kept, FaultsStand-trans}
-use Rattle.line_world.proofs.Names.{CountsStand-trans, FolderState, KeepsName, GoesOn, OnlyWrites, CountsStand, Rose, KeepsEach}
-use Rattle.line_world.proofs.Names.{AreApartFrom, OnlyPuts, Both, file_limit}
+use Rattle.line_world.proofs.Cited.{◌≡◌, ℕ, List, [], ◌++◌, take, IsTrue, refl, sym, ◌∙◌, ap, subst, Written, inputs_of, outputs_of}
+use Rattle.line_world.proofs.Cited.{received_of, RunFault, AreWithin, ReadsBoth, file_at, FaultCountsOver, IsWriting, StayKnown, KnowsFiles}
+use Rattle.line_world.proofs.Cited.{Accounts, OnlyPuts-one, SomeRose-earlier, inputs-kept, told_later, octets-kept, FaultsStand-trans}
+use Rattle.line_world.proofs.Cited.{CountsStand-trans, FolderState, KeepsName, GoesOn, OnlyWrites, CountsStand, Rose, KeepsEach}
+use Rattle.line_world.proofs.Cited.{AreApartFrom, OnlyPuts, Both, file_limit}
 use Rattle.line_run.specs.declared.fault.RunFault.TheVariants as run_faults
 use Rattle.line_world.specs.Turn.{FaultCounts}
 use Rattle.line_world.proofs.Several.{rose-front, rose-behind}

@@ -1,9 +1,9 @@
 -- Segments that an end hands over, one after another.
-use Rattle.line_world.proofs.Names.{◌≡◌, ◌⊎◌, inl, inr, ℕ, zero, suc, ◌+◌, ◌≤◌, ◌<◌, Bool, true, false, cond, nat_lt, IsTrue, List, [], ◌∷◌}
-use Rattle.line_world.proofs.Names.{◌++◌, length, drop, arith, refl, sym, ◌∙◌, ap, subst, Option, Some, None, false≢true, nat_tests}
-use Rattle.line_world.proofs.Names.{concat-append, concat, is_some, StandsFor, AnyEnd, Stands, Station, Account, is_connected, deliveries}
-use Rattle.line_world.proofs.Names.{delivered, IsOffered, GoesOn-refl, told_later, octets-kept, FolderState, octets_at, GoesOn, OnlyWrites}
-use Rattle.line_world.proofs.Names.{Appended, PartlyAppended, Adds}
+use Rattle.line_world.proofs.Cited.{◌≡◌, ◌⊎◌, inl, inr, ℕ, zero, suc, ◌+◌, ◌≤◌, ◌<◌, Bool, true, false, cond, nat_lt, IsTrue, List, [], ◌∷◌}
+use Rattle.line_world.proofs.Cited.{◌++◌, length, drop, arith, refl, sym, ◌∙◌, ap, subst, Option, Some, None, false≢true, nat_tests}
+use Rattle.line_world.proofs.Cited.{concat-append, concat, is_some, StandsFor, AnyEnd, Stands, Station, Account, is_connected, deliveries}
+use Rattle.line_world.proofs.Cited.{delivered, IsOffered, GoesOn-refl, told_later, octets-kept, FolderState, octets_at, GoesOn, OnlyWrites}
+use Rattle.line_world.proofs.Cited.{Appended, PartlyAppended, Adds}
 use Rattle.std.proofs.lemmas.List.{append-nil, append_assoc}
 use Rattle.std.specs.Prelude.{slice_index_or}
 use Rattle.std.proofs.lemmas.List.{drop_all}

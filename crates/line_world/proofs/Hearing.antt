@@ -1,11 +1,11 @@
 -- What both ends hear in a turn, and are then.
-use Rattle.line_world.proofs.Names.{◌≡◌, ◌≢◌, ℕ, ◌<◌, ◌≤◌, ◌+◌, ◌^◌, true, false, is_ok, List, [], length, arith, refl, sym, ◌∙◌, subst}
-use Rattle.line_world.proofs.Names.{Option, None, Ok, Check, Heard, Chance, SamplesAreCarried, OneIsCarried, Wire, HeardIn, IsHeardOf}
-use Rattle.line_world.proofs.Names.{LineRun, EndsLine, wire_at, link_of, ScriptsMayPlay, ScriptsHaveDelays, NoLineRunIsLong, Carried}
-use Rattle.line_world.proofs.Names.{end_of, ArrivesBoth, HaveArrived, LinkStands, AreIdle, AreCounted, HearsWell, Overhears, TalliesHeard}
-use Rattle.line_world.proofs.Names.{turn_in, AreKept, AreReady, ModemsAfter, Tallies, LineEnd, Lines, Modems, Counts, check_of, hear}
-use Rattle.line_world.proofs.Names.{lost_in, Accounts, Spoken, Turn, arrival, start, ScriptValue, IsInLimits, delay_of, Both, of, other}
-use Rattle.line_world.proofs.Names.{Role, Originator, Answerer, file_limit}
+use Rattle.line_world.proofs.Cited.{◌≡◌, ◌≢◌, ℕ, ◌<◌, ◌≤◌, ◌+◌, ◌^◌, true, false, is_ok, List, [], length, arith, refl, sym, ◌∙◌, subst}
+use Rattle.line_world.proofs.Cited.{Option, None, Ok, Check, Heard, Chance, SamplesAreCarried, OneIsCarried, Wire, HeardIn, IsHeardOf}
+use Rattle.line_world.proofs.Cited.{LineRun, EndsLine, wire_at, link_of, ScriptsMayPlay, ScriptsHaveDelays, NoLineRunIsLong, Carried}
+use Rattle.line_world.proofs.Cited.{end_of, ArrivesBoth, HaveArrived, LinkStands, AreIdle, AreCounted, HearsWell, Overhears, TalliesHeard}
+use Rattle.line_world.proofs.Cited.{turn_in, AreKept, AreReady, ModemsAfter, Tallies, LineEnd, Lines, Modems, Counts, check_of, hear}
+use Rattle.line_world.proofs.Cited.{lost_in, Accounts, Spoken, Turn, arrival, start, ScriptValue, IsInLimits, delay_of, Both, of, other}
+use Rattle.line_world.proofs.Cited.{Role, Originator, Answerer, file_limit}
 use Rattle.link_run.specs.Laws.{RunsOver, HearingsAreWell}
 use Rattle.line_run.specs.Sampled.{EndsLineBy}
 use Rattle.line_world.specs.Link.{HearsBoth}

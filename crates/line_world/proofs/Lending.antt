@@ -1,10 +1,10 @@
 -- The line that a world lends its link's turns, on which that is alone.
-use Rattle.line_world.proofs.Names.{◌≡◌, ℕ, ◌-◌, ◌*◌, ◌<◌, ◌≤◌, ◌^◌, List, [], ◌∷◌, ◌++◌, length, map, take, arith, refl, sym, ◌∙◌, ap}
-use Rattle.line_world.proofs.Names.{subst, Option, Some, None, false≢true, is_some, line_bits, BitSlot, Signal, LineRun, wire_at, wire_of}
-use Rattle.line_world.proofs.Names.{link_of, ScriptsHaveDelays, NoLineRunIsLong, Carried, IsDue, carried_signal, both_sent_by, AreDue}
-use Rattle.line_world.proofs.Names.{LinesWait, HaveArrived, AreKept, AreReady, ModemsAfter, IsOver, IsReady, WorldAfter, HasSent}
-use Rattle.line_world.proofs.Names.{DelayedLine, Lines, World, Accounts, Spoken, Turn, start, ScriptValue, IsInLimits, delay_of, Kept}
-use Rattle.line_world.proofs.Names.{LineStands, bits_behind, signal_of, Both, of, Role, Originator, Answerer, file_limit}
+use Rattle.line_world.proofs.Cited.{◌≡◌, ℕ, ◌-◌, ◌*◌, ◌<◌, ◌≤◌, ◌^◌, List, [], ◌∷◌, ◌++◌, length, map, take, arith, refl, sym, ◌∙◌, ap}
+use Rattle.line_world.proofs.Cited.{subst, Option, Some, None, false≢true, is_some, line_bits, BitSlot, Signal, LineRun, wire_at, wire_of}
+use Rattle.line_world.proofs.Cited.{link_of, ScriptsHaveDelays, NoLineRunIsLong, Carried, IsDue, carried_signal, both_sent_by, AreDue}
+use Rattle.line_world.proofs.Cited.{LinesWait, HaveArrived, AreKept, AreReady, ModemsAfter, IsOver, IsReady, WorldAfter, HasSent}
+use Rattle.line_world.proofs.Cited.{DelayedLine, Lines, World, Accounts, Spoken, Turn, start, ScriptValue, IsInLimits, delay_of, Kept}
+use Rattle.line_world.proofs.Cited.{LineStands, bits_behind, signal_of, Both, of, Role, Originator, Answerer, file_limit}
 use Rattle.std.specs.Prelude.{true}
 use Rattle.line_run.specs.LineLaws.{RunsSendSlots, LoneSlotsAreDue, LoneSlotsAreCounted}
 use Rattle.line_run.specs.Stream.{carry, sent_by}

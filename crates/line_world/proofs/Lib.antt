@@ -1,4 +1,4 @@
-mod Names
+mod Cited
 pub mod Several
 pub mod Hearing
 pub mod Serving

@@ -1,8 +1,8 @@
 -- Parts of a turn of both ends.
-use Rattle.line_world.proofs.Names.{◌≡◌, ℕ, ◌+◌, Bool, true, false, is_ok, List, length, take, arith, refl, sym, ◌∙◌, ap, Option, Result}
-use Rattle.line_world.proofs.Names.{Ok, Err, false≢true, option_map, Arrived, Sent, breaks_of, busy_of, HearsOn, Stands, HearsAs, SpeaksAs}
-use Rattle.line_world.proofs.Names.{ReadsOn, IsCounted, Station, Account, after_busy, hear, Said, asked, asked_at, is_busy, ScriptValue}
-use Rattle.line_world.proofs.Names.{told_later, octets-kept, FolderState, OnlyReads, LinkFault, Role}
+use Rattle.line_world.proofs.Cited.{◌≡◌, ℕ, ◌+◌, Bool, true, false, is_ok, List, length, take, arith, refl, sym, ◌∙◌, ap, Option, Result}
+use Rattle.line_world.proofs.Cited.{Ok, Err, false≢true, option_map, Arrived, Sent, breaks_of, busy_of, HearsOn, Stands, HearsAs, SpeaksAs}
+use Rattle.line_world.proofs.Cited.{ReadsOn, IsCounted, Station, Account, after_busy, hear, Said, asked, asked_at, is_busy, ScriptValue}
+use Rattle.line_world.proofs.Cited.{told_later, octets-kept, FolderState, OnlyReads, LinkFault, Role}
 use Rattle.std.proofs.Common.{slice_get}
 use Rattle.noise_script.specs.Script.{break_of}
 use Rattle.noise_script.specs.Script as script

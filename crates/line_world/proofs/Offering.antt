@@ -1,9 +1,9 @@
 -- Segments that are read and offered, one after another.
-use Rattle.line_world.proofs.Names.{◌≡◌, ◌⊎◌, inl, inr, ℕ, ◌+◌, ◌-◌, ◌*◌, ◌≤◌, ◌<◌, Bool, true, false, cond, nat_lt, IsTrue, List, [], ◌++◌}
-use Rattle.line_world.proofs.Names.{length, take, drop, arith, length-append, refl, sym, ◌∙◌, ap, subst, Some, None, Err, take-append_seam}
-use Rattle.line_world.proofs.Names.{cases_lt, nat_tests, take_all, length-take, length-take-le, length-drop, IsErrOf, StandsFor, Outgoing}
-use Rattle.line_world.proofs.Names.{Stands, file_at, Supplies, Supplying, Station, Account, wants, piece_at, offered_at, offered, SameSoFar}
-use Rattle.line_world.proofs.Names.{FolderState, FolderFault}
+use Rattle.line_world.proofs.Cited.{◌≡◌, ◌⊎◌, inl, inr, ℕ, ◌+◌, ◌-◌, ◌*◌, ◌≤◌, ◌<◌, Bool, true, false, cond, nat_lt, IsTrue, List, [], ◌++◌}
+use Rattle.line_world.proofs.Cited.{length, take, drop, arith, length-append, refl, sym, ◌∙◌, ap, subst, Some, None, Err, take-append_seam}
+use Rattle.line_world.proofs.Cited.{cases_lt, nat_tests, take_all, length-take, length-take-le, length-drop, IsErrOf, StandsFor, Outgoing}
+use Rattle.line_world.proofs.Cited.{Stands, file_at, Supplies, Supplying, Station, Account, wants, piece_at, offered_at, offered, SameSoFar}
+use Rattle.line_world.proofs.Cited.{FolderState, FolderFault}
 use Rattle.std.proofs.lemmas.List.{append_assoc, take-take, drop-take}
 use Rattle.std.specs.Prelude.{min, Result, Ok}
 use Rattle.std.proofs.Math.Seq.{take-length}

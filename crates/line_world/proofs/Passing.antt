@@ -1,9 +1,9 @@
 -- Slots that pass, and slots that are put on the line.
-use Rattle.line_world.proofs.Names.{◌≡◌, ℕ, suc, ◌-◌, ◌*◌, ◌<◌, Bool, true, false, List, [], ◌∷◌, ◌++◌, length, map, drop, arith}
-use Rattle.line_world.proofs.Names.{length-append, refl, sym, ◌∙◌, ap, subst, Option, Some, None, Ok, Err, append-nil, append_assoc}
-use Rattle.line_world.proofs.Names.{slice_get, Signal, signal_bits, Lost, Check, IsSendable, Heard, Seen, Sent, Carried, carried_signal}
-use Rattle.line_world.proofs.Names.{AreOnWay, CodesNext, HeardBehind, PassesOldest, DelayedLine, SentSlot, IsNumbered, arrival, ScriptValue}
-use Rattle.line_world.proofs.Names.{loses, IsCodedAs, Kept, LineStands, size_of, bits_behind, IsOutcome, LosesAt, Records, Role, Sample}
+use Rattle.line_world.proofs.Cited.{◌≡◌, ℕ, suc, ◌-◌, ◌*◌, ◌<◌, Bool, true, false, List, [], ◌∷◌, ◌++◌, length, map, drop, arith}
+use Rattle.line_world.proofs.Cited.{length-append, refl, sym, ◌∙◌, ap, subst, Option, Some, None, Ok, Err, append-nil, append_assoc}
+use Rattle.line_world.proofs.Cited.{slice_get, Signal, signal_bits, Lost, Check, IsSendable, Heard, Seen, Sent, Carried, carried_signal}
+use Rattle.line_world.proofs.Cited.{AreOnWay, CodesNext, HeardBehind, PassesOldest, DelayedLine, SentSlot, IsNumbered, arrival, ScriptValue}
+use Rattle.line_world.proofs.Cited.{loses, IsCodedAs, Kept, LineStands, size_of, bits_behind, IsOutcome, LosesAt, Records, Role, Sample}
 use Rattle.std.proofs.Common.{◌%◌}
 use Rattle.std.specs.Prelude.{Result, IfOk}
 use Rattle.exact_decoder.specs.Surviving.Survivors.{LostIs}

@@ -1,10 +1,10 @@
 -- What happens to both ends between hearing and speaking.
-use Rattle.line_world.proofs.Names.{arith, ◌≡◌, ℕ, zero, suc, Bool, true, false, cond, List, length, refl, sym, ◌∙◌, ap, subst, Option}
-use Rattle.line_world.proofs.Names.{Some, None, Err, inl, inr, Heard, Written, inputs_of, outputs_of, Wire, link_of, breaks_of, busy_of}
-use Rattle.line_world.proofs.Names.{RunFault, fault_of, Overhears, ReadsBoth, served, turn_in, IsWriting, Account, after_busy, after_given}
-use Rattle.line_world.proofs.Names.{given_break, wants, asked, delivered, is_busy, is_released, offered, offered_at, SameSoFar, Accounts}
-use Rattle.line_world.proofs.Names.{Spoken, Turn, Hears, ScriptValue, IsInLimits, FolderState, FaultsStand, HasCause, FolderFault, Both, of}
-use Rattle.line_world.proofs.Names.{Role, Originator, Answerer, IsAllowed}
+use Rattle.line_world.proofs.Cited.{arith, ◌≡◌, ℕ, zero, suc, Bool, true, false, cond, List, length, refl, sym, ◌∙◌, ap, subst, Option}
+use Rattle.line_world.proofs.Cited.{Some, None, Err, inl, inr, Heard, Written, inputs_of, outputs_of, Wire, link_of, breaks_of, busy_of}
+use Rattle.line_world.proofs.Cited.{RunFault, fault_of, Overhears, ReadsBoth, served, turn_in, IsWriting, Account, after_busy, after_given}
+use Rattle.line_world.proofs.Cited.{given_break, wants, asked, delivered, is_busy, is_released, offered, offered_at, SameSoFar, Accounts}
+use Rattle.line_world.proofs.Cited.{Spoken, Turn, Hears, ScriptValue, IsInLimits, FolderState, FaultsStand, HasCause, FolderFault, Both, of}
+use Rattle.line_world.proofs.Cited.{Role, Originator, Answerer, IsAllowed}
 use Rattle.std.proofs.Common.{IsErrOf}
 use Rattle.outside_calls.specs.declared.folder.FolderFault.TheVariants.{Failed, NoMemory}
 use Rattle.link_run.specs.End.{offered_times, room_for}

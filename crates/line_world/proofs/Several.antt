@@ -1,5 +1,5 @@
 -- What is touched where some names stand behind others.
-use Rattle.line_world.proofs.Names.{inl, inr, ℕ, List, [], ◌∷◌, ◌++◌, sym, FolderState, AreApart, OnlyPuts, KeepsEach}
+use Rattle.line_world.proofs.Cited.{inl, inr, ℕ, List, [], ◌∷◌, ◌++◌, sym, FolderState, AreApart, OnlyPuts, KeepsEach}
 use Rattle.outside_calls.specs.Outputs.{IsNoneOf, AreNoneOf, SomeRose}
 
 none-front : (name : List ℕ) (front behind : List (List ℕ)) → IsNoneOf name (front ++ behind) → IsNoneOf name front

@@ -1,12 +1,12 @@
 -- Both ends speak, and a turn is made.
-use Rattle.line_world.proofs.Names.{◌≡◌, ◌≢◌, ℕ, ◌+◌, true, List, ◌∷◌, ◌++◌, length, arith, refl, sym, ◌∙◌, subst, Option, Some, None, Ok}
-use Rattle.line_world.proofs.Names.{option_map, Check, IsSendable, Heard, Chance, Sent, SamplesAreCarried, OneIsCarried, Written, Wire}
-use Rattle.line_world.proofs.Names.{HeardIn, link_of, longest_of, slot_symbols, ScriptsMayPlay, ScriptsHaveDelays, Carried, RunFault}
-use Rattle.line_world.proofs.Names.{line_of, trace_line, LinesWait, HaveArrived, ArePut, and_more, LinkStands, HearsThese, Overhears}
-use Rattle.line_world.proofs.Names.{TalliesHeard, HasGone, AddsPart, SpeaksLast, served, turn_in, Tallies, IsWriting, Lines, Modems, Counts}
-use Rattle.line_world.proofs.Names.{given_break, check_of, Said, is_closed, Outcome, TurnIs, Accounts, Spoken, Turn, LastTurn, spoken}
-use Rattle.line_world.proofs.Names.{turn_text, IsInLimits, ScriptValue, delay_of, FolderState, Appended, PartlyAppended, CountsStand, Both}
-use Rattle.line_world.proofs.Names.{of, LinkFault, Role, Originator, Answerer}
+use Rattle.line_world.proofs.Cited.{◌≡◌, ◌≢◌, ℕ, ◌+◌, true, List, ◌∷◌, ◌++◌, length, arith, refl, sym, ◌∙◌, subst, Option, Some, None, Ok}
+use Rattle.line_world.proofs.Cited.{option_map, Check, IsSendable, Heard, Chance, Sent, SamplesAreCarried, OneIsCarried, Written, Wire}
+use Rattle.line_world.proofs.Cited.{HeardIn, link_of, longest_of, slot_symbols, ScriptsMayPlay, ScriptsHaveDelays, Carried, RunFault}
+use Rattle.line_world.proofs.Cited.{line_of, trace_line, LinesWait, HaveArrived, ArePut, and_more, LinkStands, HearsThese, Overhears}
+use Rattle.line_world.proofs.Cited.{TalliesHeard, HasGone, AddsPart, SpeaksLast, served, turn_in, Tallies, IsWriting, Lines, Modems, Counts}
+use Rattle.line_world.proofs.Cited.{given_break, check_of, Said, is_closed, Outcome, TurnIs, Accounts, Spoken, Turn, LastTurn, spoken}
+use Rattle.line_world.proofs.Cited.{turn_text, IsInLimits, ScriptValue, delay_of, FolderState, Appended, PartlyAppended, CountsStand, Both}
+use Rattle.line_world.proofs.Cited.{of, LinkFault, Role, Originator, Answerer}
 use Rattle.sample_line.specs.Signals.{IsCodable}
 use Rattle.shared_terms.specs.declared.fault.LinkFault.TheVariants as faults
 use Rattle.link_run.specs.Run.{Side, GoingTurn, BrokenTurn, IsBroken, BreaksAt, SpeaksAt, says_at}

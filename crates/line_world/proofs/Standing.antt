@@ -1,7 +1,7 @@
 -- What a station stands for once its end has heard or spoken, or was asked for a break.
-use Rattle.line_world.proofs.Names.{◌≡◌, ℕ, ◌+◌, Bool, List, length, arith, refl, sym, ◌∙◌, ap, subst, Ok, Err, Result, IfOk, OnOk, OnErr}
-use Rattle.line_world.proofs.Names.{◌≤◌, false≢true, Arrived, Sent, StandsFor, TakesNothing, taken_of, AnyEnd, Stands, HearsAs, SpeaksAs}
-use Rattle.line_world.proofs.Names.{IsCounted, Station, Account, hear, Said, speak, IsOffered, LinkFault}
+use Rattle.line_world.proofs.Cited.{◌≡◌, ℕ, ◌+◌, Bool, List, length, arith, refl, sym, ◌∙◌, ap, subst, Ok, Err, Result, IfOk, OnOk, OnErr}
+use Rattle.line_world.proofs.Cited.{◌≤◌, false≢true, Arrived, Sent, StandsFor, TakesNothing, taken_of, AnyEnd, Stands, HearsAs, SpeaksAs}
+use Rattle.line_world.proofs.Cited.{IsCounted, Station, Account, hear, Said, speak, IsOffered, LinkFault}
 use Rattle.lapm_link.specs.declared.any_end.AnyEnd.TheVariants as ends
 use Rattle.lapm_link.specs.declared.closed.Broken.{Broken}
 use Rattle.lapm_link.specs.Stands.{IsOver, Hears, Speaks, given_up}

@@ -1,9 +1,9 @@
 -- What tapes hold, as turns are recorded and as others are written.
-use Rattle.line_world.proofs.Names.{◌≡◌, inr, ◌∙◌, ℕ, ◌+◌, ◌<◌, Bool, List, [], ◌∷◌, ◌++◌, length, take, Option, Some, None, Result, Ok}
-use Rattle.line_world.proofs.Names.{Err, refl, sym, ap, subst, append-nil, append_assoc, take_more, line_bits, BitSlot, low_bits, Tapes}
-use Rattle.line_world.proofs.Names.{tapes_of, Wire, wire_of, RunFault, HoldTapes, RecordsBits, KeepTapes, tape_names, HasSent, Turn}
-use Rattle.line_world.proofs.Names.{ScriptValue, Holds-kept, Holds-more, HoldsPart-more, FolderState, GoesOn, KeepsName, OnlyWrites}
-use Rattle.line_world.proofs.Names.{Appended, PartlyAppended, Holds, KeepsEach, mode_of, Mode, Both, Role, Originator, Answerer, Sample}
+use Rattle.line_world.proofs.Cited.{◌≡◌, inr, ◌∙◌, ℕ, ◌+◌, ◌<◌, Bool, List, [], ◌∷◌, ◌++◌, length, take, Option, Some, None, Result, Ok}
+use Rattle.line_world.proofs.Cited.{Err, refl, sym, ap, subst, append-nil, append_assoc, take_more, line_bits, BitSlot, low_bits, Tapes}
+use Rattle.line_world.proofs.Cited.{tapes_of, Wire, wire_of, RunFault, HoldTapes, RecordsBits, KeepTapes, tape_names, HasSent, Turn}
+use Rattle.line_world.proofs.Cited.{ScriptValue, Holds-kept, Holds-more, HoldsPart-more, FolderState, GoesOn, KeepsName, OnlyWrites}
+use Rattle.line_world.proofs.Cited.{Appended, PartlyAppended, Holds, KeepsEach, mode_of, Mode, Both, Role, Originator, Answerer, Sample}
 use Rattle.std.proofs.Common.{slice_index_or}
 use Rattle.std.proofs.lemmas.Grind.{flat_map-append}
 use Rattle.line_coding.specs.declared.modulator.Modulator.{Modulator}

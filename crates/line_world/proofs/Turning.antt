@@ -1,12 +1,12 @@
 -- A whole turn.
-use Rattle.line_world.proofs.Names.{arith, ◌≡◌, inl, inr, ℕ, ◌+◌, ◌<◌, List, [], ◌∷◌, length, refl, sym, ◌∙◌, ap, subst, Result, Ok, Err}
-use Rattle.line_world.proofs.Names.{Heard, hearing-in, SamplesAreCarried, OneIsCarried, Written, outputs_of, received_of, Wire, HeardIn}
-use Rattle.line_world.proofs.Names.{IsHeardOf, link_of, ScriptsMayPlay, ScriptsHaveDelays, Carried, RunFault, HaveArrived, AreCounted}
-use Rattle.line_world.proofs.Names.{AreIdle, AreWithin, octets_of, Overhears, HasGone, HearsThese, AddsPart, SpeaksLast, turn_in, AreKept}
-use Rattle.line_world.proofs.Names.{Stops, StopsReading, EndsInTurn, GoesOnBy, IsWriting, added, StayKnown, Lines, Modems, Step, Counts}
-use Rattle.line_world.proofs.Names.{Account, check_of, hear, lost_in, Outcome, TurnIs, Accounts, Turn, Hears, arrival, turn_text}
-use Rattle.line_world.proofs.Names.{IsInLimits, delay_of, AddEach-next, AddPart-next, AddPart-none, AddPart-longer, FolderState, OnlyWrites}
-use Rattle.line_world.proofs.Names.{OnlyPuts, AddEach, Both, of, other, LinkFault, Role, Originator, Answerer}
+use Rattle.line_world.proofs.Cited.{arith, ◌≡◌, inl, inr, ℕ, ◌+◌, ◌<◌, List, [], ◌∷◌, length, refl, sym, ◌∙◌, ap, subst, Result, Ok, Err}
+use Rattle.line_world.proofs.Cited.{Heard, hearing-in, SamplesAreCarried, OneIsCarried, Written, outputs_of, received_of, Wire, HeardIn}
+use Rattle.line_world.proofs.Cited.{IsHeardOf, link_of, ScriptsMayPlay, ScriptsHaveDelays, Carried, RunFault, HaveArrived, AreCounted}
+use Rattle.line_world.proofs.Cited.{AreIdle, AreWithin, octets_of, Overhears, HasGone, HearsThese, AddsPart, SpeaksLast, turn_in, AreKept}
+use Rattle.line_world.proofs.Cited.{Stops, StopsReading, EndsInTurn, GoesOnBy, IsWriting, added, StayKnown, Lines, Modems, Step, Counts}
+use Rattle.line_world.proofs.Cited.{Account, check_of, hear, lost_in, Outcome, TurnIs, Accounts, Turn, Hears, arrival, turn_text}
+use Rattle.line_world.proofs.Cited.{IsInLimits, delay_of, AddEach-next, AddPart-next, AddPart-none, AddPart-longer, FolderState, OnlyWrites}
+use Rattle.line_world.proofs.Cited.{OnlyPuts, AddEach, Both, of, other, LinkFault, Role, Originator, Answerer}
 use Rattle.outside_calls.specs.Outputs.{AddPart}
 use Rattle.shared_terms.specs.declared.fault.LinkFault.TheVariants as faults
 use Rattle.link_run.specs.Laws.{EachTurnIsMade, MakesTurn as MakesAny}

@@ -1,10 +1,10 @@
 -- What arrives of a stream is what a link's channel has.
-use Rattle.line_world.proofs.Names.{◌≡◌, ◌≢◌, ℕ, zero, suc, ◌-◌, ◌*◌, ◌<◌, ◌≤◌, List, [], ◌∷◌, ◌++◌, length, map, take, drop, arith}
-use Rattle.line_world.proofs.Names.{length-append, refl, sym, ◌∙◌, ap, subst, Some, Ok, Err, map-append, length-drop, length-take}
-use Rattle.line_world.proofs.Names.{take-append-le, is_some, Signal, signal_bits, Lost, Check, Heard, Chance, Wire, IsHeardOf, Carried}
-use Rattle.line_world.proofs.Names.{carried_signal, IsDue, ArrivesBoth, HaveRoom, and_more, none_sent, CodesNext, HeardBehind, PassesOldest}
-use Rattle.line_world.proofs.Names.{Early, Due, IsOver, DelayedLine, LineEnd, Spoken, Turn, ScriptValue, delay_of, loses, IsCodedAs}
-use Rattle.line_world.proofs.Names.{size_of, IsOutcome, LosesAt, Records, Both, of, other, Role, Originator, Answerer}
+use Rattle.line_world.proofs.Cited.{◌≡◌, ◌≢◌, ℕ, zero, suc, ◌-◌, ◌*◌, ◌<◌, ◌≤◌, List, [], ◌∷◌, ◌++◌, length, map, take, drop, arith}
+use Rattle.line_world.proofs.Cited.{length-append, refl, sym, ◌∙◌, ap, subst, Some, Ok, Err, map-append, length-drop, length-take}
+use Rattle.line_world.proofs.Cited.{take-append-le, is_some, Signal, signal_bits, Lost, Check, Heard, Chance, Wire, IsHeardOf, Carried}
+use Rattle.line_world.proofs.Cited.{carried_signal, IsDue, ArrivesBoth, HaveRoom, and_more, none_sent, CodesNext, HeardBehind, PassesOldest}
+use Rattle.line_world.proofs.Cited.{Early, Due, IsOver, DelayedLine, LineEnd, Spoken, Turn, ScriptValue, delay_of, loses, IsCodedAs}
+use Rattle.line_world.proofs.Cited.{size_of, IsOutcome, LosesAt, Records, Both, of, other, Role, Originator, Answerer}
 use Rattle.std.specs.Prelude.{Result}
 use Rattle.std.proofs.lemmas.List.{length-map, take-append-drop}
 use Rattle.std.proofs.Math.Nat.{one-le-mul}

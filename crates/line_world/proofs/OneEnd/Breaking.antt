@@ -1,7 +1,7 @@
 -- As an end hears it gives its link up for its peer's faults alone, and as it is to speak for none of these.
-use Rattle.line_world.proofs.Names.{arith, ◌≡◌, ◌&&◌, ℕ, Bool, true, false, nat_eq, Option, Result, Ok, Err, subst, option_map, Arrived}
-use Rattle.line_world.proofs.Names.{Frame, Outgoing, IsPeers, Account, hear, Said, speak, is_originator, LinkFault, Role, Originator}
-use Rattle.line_world.proofs.Names.{Answerer}
+use Rattle.line_world.proofs.Cited.{arith, ◌≡◌, ◌&&◌, ℕ, Bool, true, false, nat_eq, Option, Result, Ok, Err, subst, option_map, Arrived}
+use Rattle.line_world.proofs.Cited.{Frame, Outgoing, IsPeers, Account, hear, Said, speak, is_originator, LinkFault, Role, Originator}
+use Rattle.line_world.proofs.Cited.{Answerer}
 use Rattle.std.proofs.Common.{if◌then◌else◌, nat_le}
 use Rattle.lapm_frames.specs.declared.frame.Frame.TheVariants.{I, Rr, Rnr, Rej, Srej, Sabme, Disc, Xid}
 use Rattle.xid_params.specs.Offers.{written}

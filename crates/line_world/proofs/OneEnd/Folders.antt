@@ -1,9 +1,9 @@
 -- What the steps of a turn leave of the folder, in a row.
-use Rattle.line_world.proofs.Names.{arith, ◌≡◌, ℕ, ◌≤◌, List, [], ◌∷◌, length, take, IsTrue, sym, ◌∙◌, ap, subst, Result, Err, IsErrOf}
-use Rattle.line_world.proofs.Names.{fault_of, IsReading, PeerNames, StaysKnown, FaultCounts, file_at, ReadsOn, SingleFault, Account}
-use Rattle.line_world.proofs.Names.{OnlyPuts-one, SomeRose-earlier, told_later, octets-kept, FaultsStand-trans, CountsStand-trans}
-use Rattle.line_world.proofs.Names.{FolderState, KeepsName, OnlyWrites, FaultsStand, CountsStand, HasCause, Rose, AreApartFrom, OnlyPuts}
-use Rattle.line_world.proofs.Names.{FolderFault}
+use Rattle.line_world.proofs.Cited.{arith, ◌≡◌, ℕ, ◌≤◌, List, [], ◌∷◌, length, take, IsTrue, sym, ◌∙◌, ap, subst, Result, Err, IsErrOf}
+use Rattle.line_world.proofs.Cited.{fault_of, IsReading, PeerNames, StaysKnown, FaultCounts, file_at, ReadsOn, SingleFault, Account}
+use Rattle.line_world.proofs.Cited.{OnlyPuts-one, SomeRose-earlier, told_later, octets-kept, FaultsStand-trans, CountsStand-trans}
+use Rattle.line_world.proofs.Cited.{FolderState, KeepsName, OnlyWrites, FaultsStand, CountsStand, HasCause, Rose, AreApartFrom, OnlyPuts}
+use Rattle.line_world.proofs.Cited.{FolderFault}
 use Rattle.outside_calls.specs.declared.folder.FolderFault.TheVariants as folder
 use Rattle.line_world.specs.declared.one_end.step.SingleFault.TheVariants as faults
 use Rattle.line_world.specs.OneEnd.Single.{file_limit, inputs_of, outputs_of}

@@ -1,9 +1,9 @@
 -- What is heard, one more bit at a time.
-use Rattle.line_world.proofs.Names.{◌≡◌, inl, inr, ◌∙◌, ℕ, ◌+◌, ◌-◌, ◌^◌, ◌<◌, ◌≤◌, Bool, false, List, [], ◌∷◌, ◌++◌, length, take, get_or}
-use Rattle.line_world.proofs.Names.{nat_eq, Option, None, refl, sym, ap, subst, arith, append_assoc, append-nil, length-append, cases_lt}
-use Rattle.line_world.proofs.Names.{take_more, take_all, take-append-le, length-replicate, lent_of, IsLent, EndsPattern, octet_bits}
-use Rattle.line_world.proofs.Names.{bits_of, Sixteen, SpellsFrame, Arrived, Frame, Seen, EndsWith, IsQuiet, AreQuiet, IsFirst, IsHeard}
-use Rattle.line_world.proofs.Names.{filled, slot_octets, Role}
+use Rattle.line_world.proofs.Cited.{◌≡◌, inl, inr, ◌∙◌, ℕ, ◌+◌, ◌-◌, ◌^◌, ◌<◌, ◌≤◌, Bool, false, List, [], ◌∷◌, ◌++◌, length, take, get_or}
+use Rattle.line_world.proofs.Cited.{nat_eq, Option, None, refl, sym, ap, subst, arith, append_assoc, append-nil, length-append, cases_lt}
+use Rattle.line_world.proofs.Cited.{take_more, take_all, take-append-le, length-replicate, lent_of, IsLent, EndsPattern, octet_bits}
+use Rattle.line_world.proofs.Cited.{bits_of, Sixteen, SpellsFrame, Arrived, Frame, Seen, EndsWith, IsQuiet, AreQuiet, IsFirst, IsHeard}
+use Rattle.line_world.proofs.Cited.{filled, slot_octets, Role}
 use Rattle.std.proofs.Common.{◌/◌}
 use Rattle.std.proofs.Common.{bit_and}
 use Rattle.std.proofs.Common.{replicate}

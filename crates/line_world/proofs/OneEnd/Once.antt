@@ -1,11 +1,11 @@
 -- One thing is heard in bits, and one run is made of it.
-use Rattle.line_world.proofs.Names.{◌≡◌, ◌∙◌, inl, inr, ℕ, ◌+◌, ◌-◌, ◌<◌, Bool, true, false, List, [], ◌∷◌, ◌++◌, length, map, take, get_or}
-use Rattle.line_world.proofs.Names.{Option, Some, None, Result, Ok, Err, refl, sym, ap, subst, arith, append_assoc, length-append}
-use Rattle.line_world.proofs.Names.{take-append_seam, false≢true, cases_lt, take-append-le, length-replicate, concat, lent_of, IsLent}
-use Rattle.line_world.proofs.Names.{EndsPattern, Check, Sixteen, SpellsFrame, Arrived, Frame, Seen, EndsWith, IsQuiet, AreQuiet, IsFirst}
-use Rattle.line_world.proofs.Names.{stream, slot_bits, IsPeers, Past, Going, Closed, Broken, party_of, Account, given_break, hear, Said}
-use Rattle.line_world.proofs.Names.{LoneTurn, hangs_up, lone_served, deliveries, speaks_alone, has_finished, Spoken, spoken, other}
-use Rattle.line_world.proofs.Names.{LinkFault, Role}
+use Rattle.line_world.proofs.Cited.{◌≡◌, ◌∙◌, inl, inr, ℕ, ◌+◌, ◌-◌, ◌<◌, Bool, true, false, List, [], ◌∷◌, ◌++◌, length, map, take, get_or}
+use Rattle.line_world.proofs.Cited.{Option, Some, None, Result, Ok, Err, refl, sym, ap, subst, arith, append_assoc, length-append}
+use Rattle.line_world.proofs.Cited.{take-append_seam, false≢true, cases_lt, take-append-le, length-replicate, concat, lent_of, IsLent}
+use Rattle.line_world.proofs.Cited.{EndsPattern, Check, Sixteen, SpellsFrame, Arrived, Frame, Seen, EndsWith, IsQuiet, AreQuiet, IsFirst}
+use Rattle.line_world.proofs.Cited.{stream, slot_bits, IsPeers, Past, Going, Closed, Broken, party_of, Account, given_break, hear, Said}
+use Rattle.line_world.proofs.Cited.{LoneTurn, hangs_up, lone_served, deliveries, speaks_alone, has_finished, Spoken, spoken, other}
+use Rattle.line_world.proofs.Cited.{LinkFault, Role}
 use Rattle.std.proofs.lemmas.List.{get_or-append_right}
 use Rattle.bit_stuffing.specs.Flags.{FlagEndsAt}
 use Rattle.bit_stuffing.specs.Pieces.{EndsWhole}

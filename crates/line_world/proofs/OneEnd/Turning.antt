@@ -1,14 +1,14 @@
 -- The steps of a turn.
-use Rattle.line_world.proofs.Names.{◌≡◌, inl, inr, ◌∙◌, ℕ, zero, suc, ◌+◌, ◌≤◌, Bool, true, false, cond, not, ◌&&◌, ◌||◌, List, [], ◌∷◌}
-use Rattle.line_world.proofs.Names.{length, refl, sym, ap, subst, arith, Option, Some, None, Result, Ok, Err, false≢true, concat}
-use Rattle.line_world.proofs.Names.{option_map, slice_get, HasHeard, Arrived, Sent, trace_line, IsHeard, stream, slot_bits, IsReading}
-use Rattle.line_world.proofs.Names.{handed, served_with, Past, Going, Closed, Broken, party_of, over, PeerNames, StaysKnown, EndsBy, Stands}
-use Rattle.line_world.proofs.Names.{HearsAs, SpeaksAs, Supplies, SingleFault, Station, Account, is_connected, is_done, break_waits}
-use Rattle.line_world.proofs.Names.{given_break, after_given, hear, Said, speak, Setup, LoneTurn, hangs_up, lone_served, BreakLine}
-use Rattle.line_world.proofs.Names.{deliveries, asked_at, is_closed, is_ready, has_finished, speaks_alone, spoken, KeepsEach-refl}
-use Rattle.line_world.proofs.Names.{AddEach-next, AddPart-next, AddPart-none, GoesOn-refl, FolderState, GoesOn, OnlyWrites, Adds, Appended}
-use Rattle.line_world.proofs.Names.{PartlyAppended, OnlyPuts, AddEach, is_originator, other, LinkFault, Role, Originator, Answerer}
-use Rattle.line_world.proofs.Names.{IsAllowed}
+use Rattle.line_world.proofs.Cited.{◌≡◌, inl, inr, ◌∙◌, ℕ, zero, suc, ◌+◌, ◌≤◌, Bool, true, false, cond, not, ◌&&◌, ◌||◌, List, [], ◌∷◌}
+use Rattle.line_world.proofs.Cited.{length, refl, sym, ap, subst, arith, Option, Some, None, Result, Ok, Err, false≢true, concat}
+use Rattle.line_world.proofs.Cited.{option_map, slice_get, HasHeard, Arrived, Sent, trace_line, IsHeard, stream, slot_bits, IsReading}
+use Rattle.line_world.proofs.Cited.{handed, served_with, Past, Going, Closed, Broken, party_of, over, PeerNames, StaysKnown, EndsBy, Stands}
+use Rattle.line_world.proofs.Cited.{HearsAs, SpeaksAs, Supplies, SingleFault, Station, Account, is_connected, is_done, break_waits}
+use Rattle.line_world.proofs.Cited.{given_break, after_given, hear, Said, speak, Setup, LoneTurn, hangs_up, lone_served, BreakLine}
+use Rattle.line_world.proofs.Cited.{deliveries, asked_at, is_closed, is_ready, has_finished, speaks_alone, spoken, KeepsEach-refl}
+use Rattle.line_world.proofs.Cited.{AddEach-next, AddPart-next, AddPart-none, GoesOn-refl, FolderState, GoesOn, OnlyWrites, Adds, Appended}
+use Rattle.line_world.proofs.Cited.{PartlyAppended, OnlyPuts, AddEach, is_originator, other, LinkFault, Role, Originator, Answerer}
+use Rattle.line_world.proofs.Cited.{IsAllowed}
 use Rattle.std.specs.Prelude.{is_ok}
 use Rattle.xid_params.specs.Terms.{default_offer}
 use Rattle.link_run.specs.Alone.{LoneGoing, LoneNext, Goes_on, Is_last, Is_faulty, Is_broken}

@@ -1,4 +1,4 @@
-use Rattle.line_run.proofs.Names.{IsFaintBefore}
+use Rattle.line_run.proofs.Cited.{IsFaintBefore}
 use Rattle.line_run.proofs.Faint.{faint-followed, undisplaced-is-faint}
 use Rattle.line_run.proofs.Heard.{never-lost-where}
 use Rattle.line_run.proofs.direction.faint_lines_are_never_lost.Goals as goal

@@ -1,4 +1,4 @@
-use Rattle.line_run.proofs.Names.{DisplacesNoneBefore}
+use Rattle.line_run.proofs.Cited.{DisplacesNoneBefore}
 use Rattle.line_run.proofs.Patterns.{AreSeen}
 use Rattle.line_run.proofs.Received.{never-chance}
 use Rattle.line_run.proofs.Heard.{heard-where, passes-where, undisplaced}

@@ -1,4 +1,4 @@
-use Rattle.line_run.proofs.Names.{DisplacesNoneBefore}
+use Rattle.line_run.proofs.Cited.{DisplacesNoneBefore}
 use Rattle.line_run.proofs.Patterns.{AreSeen}
 use Rattle.line_run.proofs.Heard.{received-where, sent-where, undisplaced}
 use Rattle.line_run.proofs.direction.received_is_sent.Goals as goal

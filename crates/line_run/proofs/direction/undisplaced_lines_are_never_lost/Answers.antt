@@ -1,4 +1,4 @@
-use Rattle.line_run.proofs.Names.{DisplacesNoneBefore}
+use Rattle.line_run.proofs.Cited.{DisplacesNoneBefore}
 use Rattle.line_run.proofs.Undisplaced.{undisplaced-followed}
 use Rattle.line_run.proofs.Heard.{never-lost-where}
 use Rattle.line_run.proofs.direction.undisplaced_lines_are_never_lost.Goals as goal

@@ -1,4 +1,4 @@
-use Rattle.line_run.proofs.Names.{IsFaintBefore}
+use Rattle.line_run.proofs.Cited.{IsFaintBefore}
 use Rattle.line_run.proofs.Patterns.{AreSeen}
 use Rattle.line_run.proofs.Heard.{received-where, sent-where, heard-where, passes-where, faint}
 use Rattle.line_run.proofs.direction.what_is_received_of_faint_lines_is_sent.Goals as goal

@@ -1,4 +1,4 @@
-use Rattle.line_world.proofs.Names.{not, ◌&&◌, ◌||◌, length, ap, ◌∙◌, Option, is_done, break_waits, BreakLine, is_ready}
+use Rattle.line_world.proofs.Cited.{not, ◌&&◌, ◌||◌, length, ap, ◌∙◌, Option, is_done, break_waits, BreakLine, is_ready}
 use Rattle.line_world.proofs.Linking.{next-is}
 use Rattle.line_world.proofs.link.is_finished.Goals as goal
 

@@ -1,4 +1,4 @@
-use Rattle.line_world.proofs.Names.{◌+◌, subst, Stands, Account, after_busy}
+use Rattle.line_world.proofs.Cited.{◌+◌, subst, Stands, Account, after_busy}
 use Rattle.line_world.proofs.Linking.{asks-so, asks-none, counted-later}
 use Rattle.line_world.proofs.link.serve.Goals as goal
 

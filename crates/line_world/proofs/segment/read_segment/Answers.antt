@@ -1,5 +1,5 @@
-use Rattle.line_world.proofs.Names.{◌≡◌, ◌⊎◌, inl, inr, ◌-◌, ◌*◌, ◌≤◌, ℕ, IsTrue, ◌++◌, length, take, drop, arith, ap, ◌∙◌, Result, Ok, Err}
-use Rattle.line_world.proofs.Names.{IfOk, length-take-le, file_at, piece_at, octets_at, FolderFault}
+use Rattle.line_world.proofs.Cited.{◌≡◌, ◌⊎◌, inl, inr, ◌-◌, ◌*◌, ◌≤◌, ℕ, IsTrue, ◌++◌, length, take, drop, arith, ap, ◌∙◌, Result, Ok, Err}
+use Rattle.line_world.proofs.Cited.{IfOk, length-take-le, file_at, piece_at, octets_at, FolderFault}
 use Rattle.outside_calls.specs.Folder.{ReadsFront}
 use Rattle.line_world.proofs.Offering.{read-segment}
 use Rattle.line_world.proofs.segment.read_segment.Goals.{then-left-from, else-left-from}

@@ -1,4 +1,4 @@
-use Rattle.line_world.proofs.Names.{inl, ◌∷◌, ◌∙◌, sym, [], wire_of, script_of, OnlyPuts-one, OnlyPuts-trans, Originator, Answerer}
+use Rattle.line_world.proofs.Cited.{inl, ◌∷◌, ◌∙◌, sym, [], wire_of, script_of, OnlyPuts-one, OnlyPuts-trans, Originator, Answerer}
 use Rattle.line_world.proofs.Taping.{keeps-holds, keeps-later, both-take}
 use Rattle.line_world.proofs.Folders.{counts-front}
 use Rattle.line_world.proofs.tape.record_both.Goals as goal

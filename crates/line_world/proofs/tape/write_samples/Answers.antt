@@ -1,5 +1,5 @@
-use Rattle.line_world.proofs.Names.{◌≡◌, ◌++◌, ◌+◌, ◌∙◌, ℕ, Bool, List, length, take, sym, ap, subst, arith, length-append, append-nil}
-use Rattle.line_world.proofs.Names.{take_all, line_bits, low_bits, RecordsBits}
+use Rattle.line_world.proofs.Cited.{◌≡◌, ◌++◌, ◌+◌, ◌∙◌, ℕ, Bool, List, length, take, sym, ap, subst, arith, length-append, append-nil}
+use Rattle.line_world.proofs.Cited.{take_all, line_bits, low_bits, RecordsBits}
 use Rattle.line_world.proofs.Taping.{records-more, quads-more}
 use Rattle.line_world.proofs.tape.write_samples.Goals as goal
 

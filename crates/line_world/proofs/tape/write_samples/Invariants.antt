@@ -1,4 +1,4 @@
-use Rattle.line_world.proofs.Names.{◌≡◌, ◌*◌, ◌++◌, ℕ, Bool, List, length, take, line_bits, RecordsBits, Mode}
+use Rattle.line_world.proofs.Cited.{◌≡◌, ◌*◌, ◌++◌, ℕ, Bool, List, length, take, line_bits, RecordsBits, Mode}
 use Rattle.line_world.proofs.tape.write_samples.Given as goal
 
 abbrev pub invariant-loop-place : goal.invariant-loop-place

@@ -1,4 +1,4 @@
-use Rattle.line_world.proofs.Names.{OnOk, OnErr, ◌∙◌, subst, Appended, PartlyAppended}
+use Rattle.line_world.proofs.Cited.{OnOk, OnErr, ◌∙◌, subst, Appended, PartlyAppended}
 use Rattle.line_world.proofs.trace.append_line.Goals as goal
 
 pub returns-clause-ok : goal.returns-clause-ok

@@ -1,5 +1,5 @@
-use Rattle.line_world.proofs.Names.{◌≡◌, ℕ, List, [], ◌++◌, OnOk, OnErr, ap, ◌∙◌, subst, option_map, line_of, Appended, PartlyAppended, of}
-use Rattle.line_world.proofs.Names.{Originator, Answerer}
+use Rattle.line_world.proofs.Cited.{◌≡◌, ℕ, List, [], ◌++◌, OnOk, OnErr, ap, ◌∙◌, subst, option_map, line_of, Appended, PartlyAppended, of}
+use Rattle.line_world.proofs.Cited.{Originator, Answerer}
 use Rattle.line_world.proofs.trace.append_turn.Given.{Over}
 use Rattle.line_world.proofs.trace.append_turn.Goals.{After-append}
 use Rattle.line_world.proofs.trace.append_turn.Goals as goal

@@ -1,6 +1,6 @@
-use Rattle.line_world.proofs.Names.{◌∙◌, [], ◌∷◌, ◌++◌, sym, refl, subst, rules, Written, inputs_of, outputs_of, written, Tapes, tapes_of}
-use Rattle.line_world.proofs.Names.{wire_of, HoldTapes, HoldTapesPartly, KeepTapes, tape_names, FaultCountsOver, script_of, ScriptValue}
-use Rattle.line_world.proofs.Names.{OnlyPuts-trans, CountsStand-trans, FolderState, AreApart, KeepsEach, OnlyPuts}
+use Rattle.line_world.proofs.Cited.{◌∙◌, [], ◌∷◌, ◌++◌, sym, refl, subst, rules, Written, inputs_of, outputs_of, written, Tapes, tapes_of}
+use Rattle.line_world.proofs.Cited.{wire_of, HoldTapes, HoldTapesPartly, KeepTapes, tape_names, FaultCountsOver, script_of, ScriptValue}
+use Rattle.line_world.proofs.Cited.{OnlyPuts-trans, CountsStand-trans, FolderState, AreApart, KeepsEach, OnlyPuts}
 use Rattle.line_world.proofs.Reached.{reached-start, reached-going, reached-put, reached-taping, reached-done, reached-counts}
 use Rattle.line_world.proofs.Reached.{reached-fault, nearer, next-turn, tapes-kept, apart-outputs}
 use Rattle.line_world.proofs.Several.{puts-front, puts-behind, apart-behind}

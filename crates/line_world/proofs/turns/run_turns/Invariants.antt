@@ -1,4 +1,4 @@
-use Rattle.line_world.proofs.Names.{◌≡◌, ◌-◌, ◌^◌, written, wire_of, KeepTapes, tape_names, IsReady, script_of, turn_of}
+use Rattle.line_world.proofs.Cited.{◌≡◌, ◌-◌, ◌^◌, written, wire_of, KeepTapes, tape_names, IsReady, script_of, turn_of}
 use Rattle.line_world.proofs.Reached.{Reached}
 use Rattle.line_world.proofs.turns.run_turns.Given as goal
 

@@ -1,5 +1,5 @@
-use Rattle.line_world.proofs.Names.{◌-◌, ◌<◌, ◌≤◌, length, drop, arith, refl, ◌∙◌, ap, subst, AreOnWay, Early, Due, DelayedLine, loses}
-use Rattle.line_world.proofs.Names.{size_of}
+use Rattle.line_world.proofs.Cited.{◌-◌, ◌<◌, ◌≤◌, length, drop, arith, refl, ◌∙◌, ap, subst, AreOnWay, Early, Due, DelayedLine, loses}
+use Rattle.line_world.proofs.Cited.{size_of}
 use Rattle.line_world.proofs.Passing.{same-count, Oldest, oldest, first-of, PassesAll, passes-oldest, numbered-by}
 use Rattle.line_world.proofs.direction.DelayedLine.arrive.Goals as goal
 

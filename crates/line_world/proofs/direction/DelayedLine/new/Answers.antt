@@ -1,4 +1,4 @@
-use Rattle.line_world.proofs.Names.{ap, ◌∙◌, ◌*◌, DelayedLine}
+use Rattle.line_world.proofs.Cited.{ap, ◌∙◌, ◌*◌, DelayedLine}
 use Rattle.line_world.proofs.Passing.{starts}
 use Rattle.line_world.proofs.direction.DelayedLine.new.Goals as goal
 

@@ -1,4 +1,4 @@
-use Rattle.line_world.proofs.Names.{◌<◌, length, arith, refl, sym, ◌∙◌, ap, subst, IsSendable, DelayedLine, SentSlot}
+use Rattle.line_world.proofs.Cited.{◌<◌, length, arith, refl, sym, ◌∙◌, ap, subst, IsSendable, DelayedLine, SentSlot}
 use Rattle.line_world.proofs.Passing.{puts-so, all-kept}
 use Rattle.line_world.proofs.direction.DelayedLine.put.Goals as goal
 

@@ -1,4 +1,4 @@
-use Rattle.line_world.proofs.Names.{subst, Ok, Err, Heard, IsHeardOf, HaveRoom, Originator, Answerer}
+use Rattle.line_world.proofs.Cited.{subst, Ok, Err, Heard, IsHeardOf, HaveRoom, Originator, Answerer}
 use Rattle.line_world.proofs.Waiting.{Moved, role-hears, late-of, stands-of, hears-both, room-both}
 use Rattle.line_world.proofs.directions.Directions.arrive.Goals.{After-arrive, After-arrive-2}
 use Rattle.line_world.proofs.directions.Directions.arrive.Goals as goal

@@ -1,4 +1,4 @@
-use Rattle.line_world.proofs.Names.{◌*◌, sym, ◌∙◌, ap, wire_at, Originator, Answerer}
+use Rattle.line_world.proofs.Cited.{◌*◌, sym, ◌∙◌, ap, wire_at, Originator, Answerer}
 use Rattle.line_world.proofs.Waiting.{waits-first, waits-none}
 use Rattle.line_world.proofs.directions.Directions.new.Goals as goal
 

@@ -1,4 +1,4 @@
-use Rattle.line_world.proofs.Names.{HaveArrived, HaveRoom, Lines, Originator, Answerer}
+use Rattle.line_world.proofs.Cited.{HaveArrived, HaveRoom, Lines, Originator, Answerer}
 use Rattle.line_world.proofs.Waiting.{arrives-left}
 use Rattle.line_world.proofs.Coded.{both-coded}
 use Rattle.line_world.proofs.lines.Lines.arrive.Goals as goal

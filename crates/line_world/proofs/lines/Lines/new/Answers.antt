@@ -1,4 +1,4 @@
-use Rattle.line_world.proofs.Names.{sym, wire_at, none_sent, Lines}
+use Rattle.line_world.proofs.Cited.{sym, wire_at, none_sent, Lines}
 use Rattle.line_world.proofs.Coded.{both-coded}
 use Rattle.line_world.proofs.lines.Lines.new.Goals as goal
 

@@ -1,4 +1,4 @@
-use Rattle.line_world.proofs.Names.{◌-◌, ap, and_more, Lines, Kept, Originator, Answerer}
+use Rattle.line_world.proofs.Cited.{◌-◌, ap, and_more, Lines, Kept, Originator, Answerer}
 use Rattle.line_world.proofs.Waiting.{room-of, sends-behind, waits-both, codes-next}
 use Rattle.line_world.proofs.Coded.{both-coded}
 use Rattle.line_world.proofs.lines.Lines.send.Goals as goal

@@ -1,4 +1,4 @@
-use Rattle.line_world.proofs.Names.{Bool, ◌&&◌, ap, sym, ◌∙◌, link_of, has_finished}
+use Rattle.line_world.proofs.Cited.{Bool, ◌&&◌, ap, sym, ◌∙◌, link_of, has_finished}
 use Rattle.line_world.proofs.link.Link.are_finished.Goals as goal
 
 pub returns-then-is_finished : goal.returns-then-is_finished

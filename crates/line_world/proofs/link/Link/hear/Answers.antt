@@ -1,4 +1,4 @@
-use Rattle.line_world.proofs.Names.{HearsOn, arrival}
+use Rattle.line_world.proofs.Cited.{HearsOn, arrival}
 use Rattle.line_world.proofs.link.Link.hear.Goals as goal
 
 pub returns-clause-hears : goal.returns-clause-hears

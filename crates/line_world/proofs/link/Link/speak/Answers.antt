@@ -1,4 +1,4 @@
-use Rattle.line_world.proofs.Names.{◌≡◌, Bool, false, is_ok, ap, sym, ◌∙◌, link_of, speak}
+use Rattle.line_world.proofs.Cited.{◌≡◌, Bool, false, is_ok, ap, sym, ◌∙◌, link_of, speak}
 use Rattle.link_run.specs.Run.{both_finished}
 use Rattle.line_world.proofs.Linking.{Says, broken-so, said-so}
 use Rattle.line_world.proofs.link.Link.speak.Goals as goal

@@ -1,5 +1,5 @@
-use Rattle.line_world.proofs.Names.{inl, inr, subst, rules, arith, written, Supplies, OnlyReads-trans, CountsStand-trans, FaultsStand-trans}
-use Rattle.line_world.proofs.Names.{Rose, file_limit}
+use Rattle.line_world.proofs.Cited.{inl, inr, subst, rules, arith, written, Supplies, OnlyReads-trans, CountsStand-trans, FaultsStand-trans}
+use Rattle.line_world.proofs.Cited.{Rose, file_limit}
 use Rattle.line_world.proofs.Linking.{reads-later}
 use Rattle.line_world.proofs.Offering.{no-fault}
 use Rattle.line_world.proofs.link.Link.supply.Goals as goal

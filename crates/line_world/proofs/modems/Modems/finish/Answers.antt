@@ -1,4 +1,4 @@
-use Rattle.line_world.proofs.Names.{refl, subst, None, written, turn_in, Done, Appended, PartlyAppended, Originator, Answerer}
+use Rattle.line_world.proofs.Cited.{refl, subst, None, written, turn_in, Done, Appended, PartlyAppended, Originator, Answerer}
 use Rattle.line_world.proofs.Hearing.{heard-in, none-sent}
 use Rattle.line_world.proofs.Speaking.{hears-these, last-turn, text-is, adds-part}
 use Rattle.line_world.proofs.modems.Modems.finish.Goals as goal

@@ -1,4 +1,4 @@
-use Rattle.line_world.proofs.Names.{◌∙◌, written, delivered}
+use Rattle.line_world.proofs.Cited.{◌∙◌, written, delivered}
 use Rattle.line_world.specs.Link.{both_ends}
 use Rattle.line_world.proofs.Serving.{given-delivered, writing-fault, writing-counts}
 use Rattle.line_world.proofs.modems.Modems.hand_over.Goals as goal

@@ -1,4 +1,4 @@
-use Rattle.line_world.proofs.Names.{arith, refl, sym, subst, wire_at, ArrivesBoth, HaveArrived, HearsWell, arrival, IsInLimits}
+use Rattle.line_world.proofs.Cited.{arith, refl, sym, subst, wire_at, ArrivesBoth, HaveArrived, HearsWell, arrival, IsInLimits}
 use Rattle.line_world.proofs.Hearing.{HearingLaws, IsHeardBy, few-turns, early-turns, heard-by, hears-well, has-heard, tallies-heard}
 use Rattle.line_world.proofs.Hearing.{lost-so}
 use Rattle.line_world.proofs.modems.Modems.hear.Goals as goal

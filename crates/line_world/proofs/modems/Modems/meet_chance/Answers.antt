@@ -1,4 +1,4 @@
-use Rattle.line_world.proofs.Names.{inr, subst, written, chance_line, Appended, PartlyAppended}
+use Rattle.line_world.proofs.Cited.{inr, subst, written, chance_line, Appended, PartlyAppended}
 use Rattle.line_world.proofs.Folders.{receives-none}
 use Rattle.line_world.proofs.Turning.{writing-ends}
 use Rattle.line_world.proofs.modems.Modems.meet_chance.Goals as goal

@@ -1,6 +1,6 @@
-use Rattle.line_world.proofs.Names.{◌≡◌, ◌+◌, ◌<◌, length, refl, sym, ◌∙◌, ap, subst, outputs_of, written, EndsLine, wire_at, end_of}
-use Rattle.line_world.proofs.Names.{HaveArrived, AreCounted, octets_of, served, LineEnd, is_closed, Done, OnlyPuts-trans, OnlyPuts-reads}
-use Rattle.line_world.proofs.Names.{KeepsEach-refl, KeepsEach-reads, AddEach-kept, OnlyPuts-refl, CountsStand-trans, CountsStand-refl}
+use Rattle.line_world.proofs.Cited.{◌≡◌, ◌+◌, ◌<◌, length, refl, sym, ◌∙◌, ap, subst, outputs_of, written, EndsLine, wire_at, end_of}
+use Rattle.line_world.proofs.Cited.{HaveArrived, AreCounted, octets_of, served, LineEnd, is_closed, Done, OnlyPuts-trans, OnlyPuts-reads}
+use Rattle.line_world.proofs.Cited.{KeepsEach-refl, KeepsEach-reads, AddEach-kept, OnlyPuts-refl, CountsStand-trans, CountsStand-refl}
 use Rattle.line_world.specs.Mid.{handed}
 use Rattle.line_world.proofs.Hearing.{early-turns}
 use Rattle.line_world.proofs.Serving.{phase-delivered}

@@ -1,4 +1,4 @@
-use Rattle.line_world.proofs.Names.{[], ◌∷◌, ◌++◌, subst, Arrived, IsHeard}
+use Rattle.line_world.proofs.Cited.{[], ◌∷◌, ◌++◌, subst, Arrived, IsHeard}
 use Rattle.lapm_frames.specs.declared.arrived.Arrived.TheVariants as arrivals
 use Rattle.line_world.proofs.OneEnd.Hearing.{first-now, frame-ends, heard-before, heard-still, nothing-ends}
 use Rattle.line_world.proofs.one_end.ear.hear_bit.Goals as goal

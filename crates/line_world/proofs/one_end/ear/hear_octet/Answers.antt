@@ -1,4 +1,4 @@
-use Rattle.line_world.proofs.Names.{Bool, List, ◌++◌, take, subst, arith, HasHeard, octet_bits, IsHeard}
+use Rattle.line_world.proofs.Cited.{Bool, List, ◌++◌, take, subst, arith, HasHeard, octet_bits, IsHeard}
 use Rattle.line_world.proofs.OneEnd.Hearing.{append-again, bit-more, heard-quiet}
 use Rattle.line_world.proofs.one_end.ear.hear_octet.Goals as goal
 

@@ -1,4 +1,4 @@
-use Rattle.line_world.proofs.Names.{Bool, List, ◌++◌, take, HasHeard, octet_bits, IsHeard, IsNumbered}
+use Rattle.line_world.proofs.Cited.{Bool, List, ◌++◌, take, HasHeard, octet_bits, IsHeard, IsNumbered}
 use Rattle.line_world.proofs.one_end.ear.hear_octet.Given as goal
 
 abbrev pub invariant-loop-place : goal.invariant-loop-place

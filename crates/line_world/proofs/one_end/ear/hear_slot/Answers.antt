@@ -1,5 +1,5 @@
-use Rattle.line_world.proofs.Names.{ℕ, Bool, List, ◌++◌, take, ap, sym, ◌∙◌, subst, arith, append-nil, ◌≡◌, HasHeard, octet_bits, bits_of}
-use Rattle.line_world.proofs.Names.{IsHeard, filled, slot_octets}
+use Rattle.line_world.proofs.Cited.{ℕ, Bool, List, ◌++◌, take, ap, sym, ◌∙◌, subst, arith, append-nil, ◌≡◌, HasHeard, octet_bits, bits_of}
+use Rattle.line_world.proofs.Cited.{IsHeard, filled, slot_octets}
 use Rattle.line_world.proofs.OneEnd.Hearing.{append-again, slot-more, slot-whole}
 use Rattle.line_world.proofs.one_end.ear.hear_slot.Goals as goal
 

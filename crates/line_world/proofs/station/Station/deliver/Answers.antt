@@ -1,5 +1,5 @@
-use Rattle.line_world.proofs.Names.{ℕ, List, arith, refl, sym, subst, Station, CountsStand-refl, CountsStand-trans, FaultsStand-trans}
-use Rattle.line_world.proofs.Names.{FolderState, Appended, PartlyAppended, Rose}
+use Rattle.line_world.proofs.Cited.{ℕ, List, arith, refl, sym, subst, Station, CountsStand-refl, CountsStand-trans, FaultsStand-trans}
+use Rattle.line_world.proofs.Cited.{FolderState, Appended, PartlyAppended, Rose}
 use Rattle.line_world.proofs.Handing.{handing-starts, handing-next, handing-ends, handing-stops, handed-segment, writes-on, writes-none}
 use Rattle.line_world.proofs.Standing.{takes-on}
 use Rattle.line_world.proofs.Offering.{no-fault}

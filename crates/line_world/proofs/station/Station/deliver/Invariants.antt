@@ -1,4 +1,4 @@
-use Rattle.line_world.proofs.Names.{◌≡◌, ℕ, List, TakesNothing, Stands, Account, OnlyWrites, CountsStand}
+use Rattle.line_world.proofs.Cited.{◌≡◌, ℕ, List, TakesNothing, Stands, Account, OnlyWrites, CountsStand}
 use Rattle.lapm_link.specs.Stands.{undelivered_of}
 use Rattle.line_world.proofs.Handing.{Handing}
 use Rattle.line_world.proofs.station.Station.deliver.Given as goal

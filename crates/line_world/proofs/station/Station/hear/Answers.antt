@@ -1,4 +1,4 @@
-use Rattle.line_world.proofs.Names.{◌+◌, ◌≤◌, IfOk, subst, sym, ◌∙◌, StandsFor, taken_of}
+use Rattle.line_world.proofs.Cited.{◌+◌, ◌≤◌, IfOk, subst, sym, ◌∙◌, StandsFor, taken_of}
 use Rattle.line_world.proofs.Standing.{kept-heard, kept-counted, heard-gives-up}
 use Rattle.line_world.proofs.station.Station.hear.Goals as goal
 

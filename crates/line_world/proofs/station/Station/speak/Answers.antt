@@ -1,4 +1,4 @@
-use Rattle.line_world.proofs.Names.{IfOk, subst, sym, ◌∙◌, IsSendable, StandsFor, TakesNothing}
+use Rattle.line_world.proofs.Cited.{IfOk, subst, sym, ◌∙◌, IsSendable, StandsFor, TakesNothing}
 use Rattle.line_world.proofs.Standing.{kept-spoken, kept-idle, kept-counts, kept-sendable, kept-fault, spoken-gives-up}
 use Rattle.line_world.proofs.station.Station.speak.Goals as goal
 

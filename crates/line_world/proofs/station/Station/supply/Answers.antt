@@ -1,6 +1,6 @@
-use Rattle.line_world.proofs.Names.{◌≡◌, ◌<◌, ◌^◌, ℕ, List, length, take, arith, refl, sym, ap, subst, ◌∙◌, Option, rules, length-take-le}
-use Rattle.line_world.proofs.Names.{piece_at, OnlyReads-trans, CountsStand-refl, CountsStand-trans, FaultsStand-trans, told_later}
-use Rattle.line_world.proofs.Names.{octets-kept, FolderState, Rose}
+use Rattle.line_world.proofs.Cited.{◌≡◌, ◌<◌, ◌^◌, ℕ, List, length, take, arith, refl, sym, ap, subst, ◌∙◌, Option, rules, length-take-le}
+use Rattle.line_world.proofs.Cited.{piece_at, OnlyReads-trans, CountsStand-refl, CountsStand-trans, FaultsStand-trans, told_later}
+use Rattle.line_world.proofs.Cited.{octets-kept, FolderState, Rose}
 use Rattle.std.specs.Option.{IsSomeAnd}
 use Rattle.outside_calls.proofs.Steps.{OnlyReads-refl}
 use Rattle.line_world.proofs.Offering.{supplying-starts, supplying-next, supplying-ends, wants-within, as-err, no-fault}

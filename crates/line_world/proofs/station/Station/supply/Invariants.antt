@@ -1,4 +1,4 @@
-use Rattle.line_world.proofs.Names.{◌≡◌, ◌≤◌, ℕ, List, length, TakesNothing, Stands, Supplying, Account, OnlyReads, CountsStand}
+use Rattle.line_world.proofs.Cited.{◌≡◌, ◌≤◌, ℕ, List, length, TakesNothing, Stands, Supplying, Account, OnlyReads, CountsStand}
 use Rattle.frame_check.specs.declared.sizes.TheConstants.{INFO}
 use Rattle.lapm_link.specs.Stands.{room_of}
 use Rattle.line_world.proofs.station.Station.supply.Given as goal

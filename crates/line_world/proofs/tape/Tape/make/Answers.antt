@@ -1,4 +1,4 @@
-use Rattle.line_world.proofs.Names.{subst, wire_of, HasSent, mode_of}
+use Rattle.line_world.proofs.Cited.{subst, wire_of, HasSent, mode_of}
 use Rattle.std.proofs.Common.{option_copied}
 use Rattle.line_run.specs.Sampled.{bits_of}
 use Rattle.line_world.proofs.Taping.{slot-recorded}

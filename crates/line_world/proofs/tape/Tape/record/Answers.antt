@@ -1,4 +1,4 @@
-use Rattle.line_world.proofs.Names.{ℕ, List, subst, wire_of, FolderState, Appended, PartlyAppended}
+use Rattle.line_world.proofs.Cited.{ℕ, List, subst, wire_of, FolderState, Appended, PartlyAppended}
 use Rattle.line_world.proofs.Taping.{takes-slot, takes-part}
 use Rattle.line_world.proofs.tape.Tape.record.Goals as goal
 

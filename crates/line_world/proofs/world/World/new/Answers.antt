@@ -1,4 +1,4 @@
-use Rattle.line_world.proofs.Names.{refl, None, wire_of}
+use Rattle.line_world.proofs.Cited.{refl, None, wire_of}
 use Rattle.line_world.proofs.Lending.{ready-first}
 use Rattle.line_world.proofs.world.World.new.Goals as goal
 

@@ -1,4 +1,4 @@
-use Rattle.line_world.proofs.Names.{◌∷◌, wire_of, link_of, both_sent_by}
+use Rattle.line_world.proofs.Cited.{◌∷◌, wire_of, link_of, both_sent_by}
 use Rattle.line_world.proofs.Lending.{sent-so}
 use Rattle.line_world.proofs.world.World.sent.Goals as goal
 

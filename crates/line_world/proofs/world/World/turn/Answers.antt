@@ -1,5 +1,5 @@
-use Rattle.line_world.proofs.Names.{◌∷◌, sym, ◌∙◌, subst, Result, written, wire_at, wire_of, both_sent_by, RunFault, AreDue, LinesWait}
-use Rattle.line_world.proofs.Names.{ModemsAfter, GoesOnBy, Step}
+use Rattle.line_world.proofs.Cited.{◌∷◌, sym, ◌∙◌, subst, Result, written, wire_at, wire_of, both_sent_by, RunFault, AreDue, LinesWait}
+use Rattle.line_world.proofs.Cited.{ModemsAfter, GoesOnBy, Step}
 use Rattle.line_world.specs.Turn.{TurnAnswers}
 use Rattle.line_world.proofs.Lending.{LoneLaws, alone, are-due, lends}
 use Rattle.line_world.proofs.world.World.turn.Goals as goal

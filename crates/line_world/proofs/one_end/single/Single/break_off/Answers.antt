@@ -1,4 +1,4 @@
-use Rattle.line_world.proofs.Names.{[], None, refl, Broken}
+use Rattle.line_world.proofs.Cited.{[], None, refl, Broken}
 use Rattle.line_world.proofs.OneEnd.Turning.{silent-turn, breaking-off, adds-line, adds-part, ends-part}
 use Rattle.line_world.proofs.one_end.single.Single.break_off.Goals as goal
 

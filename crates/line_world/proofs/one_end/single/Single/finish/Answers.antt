@@ -1,4 +1,4 @@
-use Rattle.line_world.proofs.Names.{None, refl, concat, handed, Closed, deliveries}
+use Rattle.line_world.proofs.Cited.{None, refl, concat, handed, Closed, deliveries}
 use Rattle.line_world.proofs.OneEnd.Turning.{silent-turn, closing, adds-line, adds-part}
 use Rattle.line_world.proofs.one_end.single.Single.finish.Goals as goal
 

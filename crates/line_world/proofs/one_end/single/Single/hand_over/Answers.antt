@@ -1,4 +1,4 @@
-use Rattle.line_world.proofs.Names.{arith, ◌∙◌, sym, subst, [], ◌∷◌, FaultCounts, delivered}
+use Rattle.line_world.proofs.Cited.{arith, ◌∙◌, sym, subst, [], ◌∷◌, FaultCounts, delivered}
 use Rattle.line_world.specs.OneEnd.Mid.{IsWriting}
 use Rattle.line_world.proofs.Serving.{given-delivered}
 use Rattle.line_world.proofs.OneEnd.Folders.{write-fault, write-fault-counts}

@@ -1,4 +1,4 @@
-use Rattle.line_world.proofs.Names.{◌∙◌, ap, handed, is_closed}
+use Rattle.line_world.proofs.Cited.{◌∙◌, ap, handed, is_closed}
 use Rattle.line_world.proofs.OneEnd.Turning.{hangs-originator, hangs-answerer}
 use Rattle.line_world.proofs.one_end.single.Single.hangs_up.Goals as goal
 

@@ -1,4 +1,4 @@
-use Rattle.line_world.proofs.Names.{◌≡◌, subst, Ok, IsHeard, slot_bits, stream, hear}
+use Rattle.line_world.proofs.Cited.{◌≡◌, subst, Ok, IsHeard, slot_bits, stream, hear}
 use Rattle.line_world.proofs.OneEnd.Turning.{heard-well}
 use Rattle.line_world.proofs.one_end.single.Single.hear.Goals as goal
 

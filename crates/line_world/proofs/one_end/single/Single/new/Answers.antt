@@ -1,4 +1,4 @@
-use Rattle.line_world.proofs.Names.{[], refl, subst, arith, Stands, fresh}
+use Rattle.line_world.proofs.Cited.{[], refl, subst, arith, Stands, fresh}
 use Rattle.line_world.specs.OneEnd.Peer.{setup_of}
 use Rattle.line_world.proofs.one_end.single.Single.new.Goals as goal
 

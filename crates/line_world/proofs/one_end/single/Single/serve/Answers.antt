@@ -1,4 +1,4 @@
-use Rattle.line_world.proofs.Names.{refl, sym, subst, arith, [], ◌∷◌, handed, IsReading, FaultCounts, offered}
+use Rattle.line_world.proofs.Cited.{refl, sym, subst, arith, [], ◌∷◌, handed, IsReading, FaultCounts, offered}
 use Rattle.line_world.proofs.OneEnd.Turning.{reads-on}
 use Rattle.line_world.proofs.OneEnd.Folders.{read-fault, read-fault-counts}
 use Rattle.line_world.proofs.one_end.single.Single.serve.Goals as goal

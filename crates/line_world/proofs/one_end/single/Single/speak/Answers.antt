@@ -1,4 +1,4 @@
-use Rattle.line_world.proofs.Names.{Bool, None, refl, subst, arith, Ok, Err, concat, served_with, Broken, SpeaksAs, speak, deliveries}
+use Rattle.line_world.proofs.Cited.{Bool, None, refl, subst, arith, Ok, Err, concat, served_with, Broken, SpeaksAs, speak, deliveries}
 use Rattle.line_world.proofs.OneEnd.Turning.{silent-turn, spoke, finishes, said-well, gone, gone-part, broken, adds-line, adds-part}
 use Rattle.line_world.proofs.OneEnd.Turning.{ends-part}
 use Rattle.line_world.proofs.one_end.single.Single.speak.Goals as goal

@@ -1,5 +1,5 @@
-use Rattle.line_world.proofs.Names.{◌≡◌, ◌+◌, ◌∙◌, [], ◌∷◌, sym, ap, subst, ◌<◌, ◌^◌, concat, handed, Closed, over, EndsBy, IsCounted}
-use Rattle.line_world.proofs.Names.{deliveries, OnlyPuts-trans, OnlyPuts-reads, KeepsEach-reads, AddEach-kept, CountsStand-trans, Role}
+use Rattle.line_world.proofs.Cited.{◌≡◌, ◌+◌, ◌∙◌, [], ◌∷◌, sym, ap, subst, ◌<◌, ◌^◌, concat, handed, Closed, over, EndsBy, IsCounted}
+use Rattle.line_world.proofs.Cited.{deliveries, OnlyPuts-trans, OnlyPuts-reads, KeepsEach-reads, AddEach-kept, CountsStand-trans, Role}
 use Rattle.line_world.specs.OneEnd.Peer.{after}
 use Rattle.line_world.specs.OneEnd.Single.{inputs_of, named, outputs_of}
 use Rattle.line_world.proofs.OneEnd.Folders.{got-only, trace-only, trace-counts, read-counts, counts-later, stays-known, others-known}

@@ -1,4 +1,4 @@
-use Rattle.line_world.proofs.Names.{[], ◌∷◌, sym, subst, FaultCounts}
+use Rattle.line_world.proofs.Cited.{[], ◌∷◌, sym, subst, FaultCounts}
 use Rattle.line_world.specs.OneEnd.Mid.{IsWriting}
 use Rattle.line_world.proofs.OneEnd.Folders.{write-fault, write-fault-counts}
 use Rattle.line_world.proofs.one_end.single.Single.write.Goals as goal
