@@ -32,11 +32,13 @@ extern "C" {
 /* ---- codes ---- */
 
 /* What a call returns: 0 it is done, above 0 something to look at, below 0 a mistake of the caller's, or no memory. A call that returns a code below 0
- * leaves the handle as it was. Where more than one would do, that of the handle comes first, then that of the arguments, then that of the room. */
+ * leaves the handle as it was. Where more than one would do, that of the handle comes first (but for modem_deframer_set_check, whose argument does), then that
+ * of the arguments, then that of the room. MODEM_ORDER comes behind these; MODEM_LATE of a deframer behind that of the room, of a decoder before all but that of
+ * the handle. */
 enum modem_code {
     MODEM_DONE = 0,
     MODEM_NOTHING = 1,      /* there is nothing to give */
-    MODEM_FULL = 2,         /* there is no room: use what was written, and call again */
+    MODEM_FULL = 2,         /* there is no room: use what was written, and call again, with more room where nothing was written */
     MODEM_LOST = 3,         /* the line is lost, and stays so: more than 128 symbols are undecided */
     MODEM_BROKEN = 4,       /* the link broke; the end goes on as a closed one */
     MODEM_NO_MEMORY = -1,
@@ -87,13 +89,14 @@ typedef struct modem_progress {
 int32_t modem_decoder_new(modem_decoder *decoder, uint8_t line, uint8_t mode) MODEM_CALL;
 
 /* Samples more: `parts` has real and imaginary parts by turns, and `count` says how many parts; 2048 is one unit of the map of V.32, so that coordinates of
- * points go from -8192 to 8192. Bits come as they are decided, with a delay of up to 128 symbols: none to 516 of them a sample.
+ * points go from -8192 to 8192. An odd part at the end isn't read. Bits come as they are decided, with a delay of up to 128 symbols: none to 516 of them a sample.
  * MODEM_DONE: all samples are read, and no bit waits. MODEM_FULL: bits wait, and fewer than four places are left; call again with the samples behind
  * progress->read. MODEM_LOST: all that was decided before is given, and no more samples are read, now and later. */
 int32_t modem_decoder_push(modem_decoder *decoder, const int16_t *parts, size_t count, uint8_t *bits, size_t room, modem_progress *progress) MODEM_CALL;
 
 /* The bits that still waited, at the line's end; of a line from its middle there are none. MODEM_FULL where bits wait that `push` is to give first, or the
- * room is less than MODEM_LAST_BITS. Once it returned MODEM_DONE the decoder is finished. */
+ * room is less than MODEM_LAST_BITS; MODEM_LOST where the line is lost. Look at progress->written with MODEM_DONE alone. Once it returned that, the decoder is
+ * finished. */
 #define MODEM_LAST_BITS 512
 int32_t modem_decoder_finish(modem_decoder *decoder, uint8_t *bits, size_t room, modem_progress *progress) MODEM_CALL;
 
@@ -110,7 +113,8 @@ int32_t modem_encoder_push(modem_encoder *encoder, const uint8_t *bits, size_t c
 typedef struct modem_reading {
     uint64_t cost;    /* the squared distances between the samples and what the bits become, in squares of 1/2048 of a unit */
     uint64_t symbols; /* of so many samples */
-    uint8_t sure;     /* 1 where that is so little (below 2.5 squares of a unit in all) that the bits are known to be those that were sent */
+    uint8_t sure;     /* 1 where that is below 2.5 squares of a unit in all: what a decoder of this mode gives then begins these bits, at most 126 symbols
+                         behind. It doesn't say that they were sent: other bits may be as near at the end, and a wrong mode is sure too */
 } modem_reading;
 
 /* A meter of a line at 9600 bit/s from its first symbol on. */
@@ -148,7 +152,7 @@ typedef struct modem_frame {
 
 typedef struct modem_found {
     size_t read;       /* bits of this call that were read: up to and with the one at which the piece ended */
-    uint64_t ended;    /* bits received in all, with these */
+    uint64_t ended;    /* bits received in all, with these; 0 with MODEM_FULL */
     size_t info;       /* octets of information that were written */
     uint8_t piece;     /* enum modem_piece */
     uint8_t fault;     /* of MODEM_REFUSED: 1 the address, 2 the control octet, 3 too short, 4 too long */
@@ -175,7 +179,8 @@ int32_t modem_deframer_octets(modem_deframer *deframer, uint8_t *octets, size_t 
 int32_t modem_detector_new(modem_detector *detector) MODEM_CALL;
 int32_t modem_detector_push(modem_detector *detector, const uint8_t *bits, size_t count, size_t *read, uint32_t *kind) MODEM_CALL;
 
-/* A frame's octets with its check; room for MODEM_WHOLE, else MODEM_FULL. MODEM_BAD_ARGUMENT where no frame has these fields and this information. */
+/* A frame's octets with its check. MODEM_FULL where the room is too small; MODEM_WHOLE is always enough. MODEM_BAD_ARGUMENT where no frame has these fields and
+ * this information. */
 int32_t modem_frame_write(const modem_frame *frame, const uint8_t *info, size_t info_count, uint8_t sender, uint8_t check32,
                           uint8_t *octets, size_t room, size_t *count) MODEM_CALL;
 
@@ -199,7 +204,8 @@ int32_t modem_frame_bits(const uint8_t *octets, size_t count, uint8_t *bits, siz
 int32_t modem_framer_new(modem_framer *framer, uint16_t symbols) MODEM_CALL;
 
 /* The bits of the next slot: four times its symbols. Behind a frame there are flags for 128 symbols at least, since a receiver may be so far behind. A frame
- * of n octets with 47 + 8n + 8n/5 bits or more than the slot has before these is MODEM_BAD_ARGUMENT, as if each fifth bit had to be stuffed. */
+ * of n octets fits where 47 + 8n + 8n/5 (rounded down, as if each fifth bit had to be stuffed) is at most 4 times (symbols - 128), and n is 4 to 1031; else
+ * MODEM_BAD_ARGUMENT. With fewer than 150 symbols none fits. */
 int32_t modem_framer_slot(modem_framer *framer, uint32_t kind, const uint8_t *octets, size_t count, uint8_t *bits, size_t room, size_t *written) MODEM_CALL;
 
 /* ---- XID ---- */
@@ -225,8 +231,11 @@ typedef struct modem_xid_fault {
     uint8_t cause; /* 0 it is one, 1 its format, 2 a second group of parameters, 3 a length, 4 a value below its least, 5 a parameter that stands again */
 } modem_xid_fault;
 
-#define MODEM_XID_OCTETS 23 /* what modem_xid_write writes */
+/* MODEM_BAD_ARGUMENT where the field is no offer: `fault` says why, and `offer` stays. */
 int32_t modem_xid_read(const uint8_t *info, size_t count, modem_offer *offer, modem_xid_fault *fault) MODEM_CALL;
+
+#define MODEM_XID_OCTETS 23 /* what modem_xid_write writes */
+/* Lengths and windows are taken as they are; MODEM_BAD_ARGUMENT where srej or check32 is neither 0 nor 1. */
 int32_t modem_xid_write(const modem_offer *offer, uint8_t *info, size_t room, size_t *count) MODEM_CALL;
 int32_t modem_xid_agree(const modem_offer *originator, const modem_offer *answerer, modem_terms *terms) MODEM_CALL;
 
@@ -242,7 +251,7 @@ typedef struct modem_setup {
 /* Why a link broke. */
 typedef struct modem_fault {
     uint32_t cause;        /* 0 it didn't, 1 no pattern of the answerer's was seen, 2 all tries are spent, 3 an acknowledgement of what wasn't sent,
-                              4 the other end began anew, 5 it refused or hung up */
+                              4 the other end began anew, or sent FRMR, 5 it refused or hung up */
     uint8_t nr, low, high; /* of 3: the N(R), and the numbers between which it should have been */
     uint64_t acknowledged; /* of 2 and 4: segments that are acknowledged */
     uint64_t taken;        /* of 4: segments that were taken */
@@ -258,31 +267,34 @@ enum modem_phase { MODEM_DETECTING, MODEM_NEGOTIATING, MODEM_ESTABLISHING, MODEM
 
 typedef struct modem_standing {
     uint32_t phase;   /* enum modem_phase */
-    uint32_t whole;   /* 1 where its file has ended, and all of it is acknowledged */
+    uint32_t whole;   /* 1 while it is connected, its file has ended, and all of it is acknowledged */
     uint32_t check32; /* 1 where I and S frames have a check of 32 bits now */
 } modem_standing;
 
 int32_t modem_link_new(modem_link *link, const modem_setup *setup) MODEM_CALL;
 
 /* In each turn: receive; deliver until MODEM_NOTHING; offer while it wants; send. `kind` is enum modem_slot; octets that are no frame of the other end's are
- * nothing. `given` is the length of the other end's break in units of 10 ms, or -1. */
+ * nothing. `given` is the length of the other end's break in units of 10 ms, or -1. MODEM_ORDER where this turn was received already, or `deliver` hasn't said
+ * MODEM_NOTHING. After MODEM_BROKEN the turn still ends by `send`. */
 int32_t modem_link_receive(modem_link *link, uint32_t kind, const uint8_t *octets, size_t count, int32_t *given, modem_fault *why) MODEM_CALL;
 
 /* The next segment in order; room for MODEM_INFO. */
 int32_t modem_link_deliver(modem_link *link, uint8_t *octets, size_t room, size_t *count) MODEM_CALL;
 
-/* How long a piece it takes next, or MODEM_NOTHING. A shorter one ends the file, and an empty one ends it without a segment. */
+/* How long a piece it takes next, or MODEM_NOTHING. A shorter one ends the file, and an empty one ends it without a segment. MODEM_BAD_ARGUMENT where it wants
+ * none, or none that long. */
 int32_t modem_link_wants(modem_link *link, size_t *count) MODEM_CALL;
 int32_t modem_link_offer(modem_link *link, const uint8_t *piece, size_t count) MODEM_CALL;
 
 /* A break of this length, in units of 10 ms; MODEM_NOTHING where it isn't connected, one waits, or eight turns of rest aren't over. */
 int32_t modem_link_ask_break(modem_link *link, uint8_t length) MODEM_CALL;
 
-/* 1: its user asks for a pause from now on; 0: no more. */
+/* 1: its user asks for a pause from now on; 0: no more. Before it is connected that is forgotten. */
 int32_t modem_link_set_busy(modem_link *link, uint8_t busy) MODEM_CALL;
 int32_t modem_link_standing(modem_link *link, modem_standing *standing) MODEM_CALL;
 
-/* What it transmits in this turn, with which the turn ends; room for MODEM_WHOLE. `release` of 1 tells a connected originator to take the link down. */
+/* What it transmits in this turn, with which the turn ends; room for MODEM_WHOLE. Deliver first: what isn't delivered is gone where the link breaks or is released
+ * in this call. `release` of 1 tells a connected originator to take the link down. MODEM_ORDER where this turn wasn't received. */
 int32_t modem_link_send(modem_link *link, uint8_t release, uint8_t *octets, size_t room, modem_sent *sent, modem_fault *why) MODEM_CALL;
 
 #ifdef __cplusplus
