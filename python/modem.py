@@ -9,7 +9,7 @@
 
 Bits are bytes of 0 and 1, the lowest bit of an octet first. Samples are complex numbers in units of V.32's map, whose 32 points reach from -4 to 4; a numpy array
 of them, or an array of 16-bit integers (real and imaginary part by turns, 2048 a unit), is taken as it is. Samples that come out are a numpy array where
-numpy is installed, else a list of complex numbers.
+numpy is installed, else a list of complex numbers. A number that its place in the library doesn't hold raises ModemError. Call an object from one thread at a time.
 
 The shared library is found by the variable MODEM_LIBRARY, beside this file, where pip installed it, in the folder that `make library` or the archive has it in, or
 where the system's loader finds libmodem.so.1.
@@ -185,11 +185,11 @@ class LineLost(ModemError):
 
 
 class LinkBroken(ModemError):
-    """The link broke; `fault` says why. The end goes on as a closed one."""
+    """The link broke; `fault` says why. The end goes on as a closed one. `delivered` is what a whole turn had delivered before."""
 
     def __init__(self, fault):
         super().__init__(BROKEN, f"link broken: {fault.cause}")
-        self.fault = fault
+        self.fault, self.delivered = fault, b""
 
 
 class XidError(ModemError):
@@ -233,6 +233,8 @@ def octets_of(bits):
 
 def _octets(data):
     """Octets as C takes them, and how many."""
+    if getattr(data, "itemsize", 1) != 1:
+        data = data.tolist()  # an array of wider numbers, not the octets of which they are made
     data = bytes(data)
     return (c_uint8 * max(1, len(data))).from_buffer_copy(data or b"\0"), len(data)
 
@@ -247,14 +249,36 @@ def _parts(samples):
                 raise ValueError("a sample is no number")
             samples = numpy.clip(numpy.rint(pairs * UNIT), -32768, 32767).astype(numpy.int16)
         data = numpy.ascontiguousarray(samples).reshape(-1)
+        _even(data)
         return data.ctypes.data_as(_PARTS), len(data), data
     if isinstance(samples, array) and samples.typecode == "h":
         data = samples
+        _even(data)
     else:
         clip = lambda part: max(-32768, min(32767, round(part * UNIT)))  # noqa: E731
         data = array("h", (clip(part) for sample in samples for part in (complex(sample).real, complex(sample).imag)))
     kept = (c_int16 * max(1, len(data))).from_buffer_copy(data.tobytes() or b"\0\0")
     return kept, len(data), kept
+
+
+def _even(parts):
+    if len(parts) % 2:
+        raise ValueError("a sample has two parts")
+
+
+def _filled(kind, *values):
+    """A structure of these numbers. What its field doesn't hold is refused: C would take it without its high bits."""
+    filled = kind(*values)
+    for (name, _), value in zip(kind._fields_, values):
+        if not isinstance(value, Structure) and getattr(filled, name) != value:
+            raise ModemError(BAD_ARGUMENT, f"{name} is out of its range: {value}")
+    return filled
+
+
+def _within(value, most, name):
+    if not 0 <= value <= most:
+        raise ModemError(BAD_ARGUMENT, f"{name} is out of its range: {value}")
+    return value
 
 
 def _samples(parts, count):
@@ -365,7 +389,7 @@ class Meter(_Owner):
 
     @property
     def is_sure(self):
-        """Whether the noise is so little that the bits are known to be those that were sent."""
+        """Whether the noise is below 2.5 squares of a unit in all: what a decoder of this mode gives then begins these bits. A wrong mode is sure too."""
         return bool(self._reading().sure)
 
     def _reading(self):
@@ -396,7 +420,9 @@ class Deframer(_Owner):
             self._check(code)
             at += found.read
             whole = b""
-            if _library.modem_deframer_octets(self._handle, octets, WHOLE, size) == DONE:
+            code = _library.modem_deframer_octets(self._handle, octets, WHOLE, size)
+            if code != NOTHING:
+                self._check(code)
                 whole = bytes(octets[: size.value])
             what = PIECES[found.piece]
             frame = _frame_of(found.frame, bytes(info[: found.info])) if what == "frame" else None
@@ -431,7 +457,7 @@ def _frame_of(fields, info):
 def write_frame(frame, sender, check32=False):
     """The octets of a frame with its check, as that end sends it."""
     number = lambda it: NO_NUMBER if it is None else it  # noqa: E731
-    fields = _Frame(KINDS[frame.kind], frame.command, frame.pf, number(frame.ns), number(frame.nr))
+    fields = _filled(_Frame, KINDS[frame.kind], frame.command, frame.pf, number(frame.ns), number(frame.nr))
     info, many = _octets(frame.info)
     room, size = (c_uint8 * WHOLE)(), c_size_t()
     _Owner._check(_library.modem_frame_write(fields, info, many, ROLES[sender], int(check32), room, WHOLE, size))
@@ -450,7 +476,7 @@ class Framer(_Owner):
     """Writes slots of so many symbols of four bits, 139 to 2615, one after another."""
 
     def __init__(self, symbols=464):
-        super().__init__("framer", symbols)
+        super().__init__("framer", _within(symbols, 65535, "symbols"))
         self._symbols = symbols
 
     def push(self, slot):
@@ -473,14 +499,14 @@ def read_offer(info):
 def write_offer(offer):
     """The XID information field of an offer."""
     room, size = (c_uint8 * INFO)(), c_size_t()
-    _Owner._check(_library.modem_xid_write(_Offer(*offer), room, INFO, size))
+    _Owner._check(_library.modem_xid_write(_filled(_Offer, *offer), room, INFO, size))
     return bytes(room[: size.value])
 
 
 def agree(originator, answerer):
     """What two ends agree on by their offers."""
     terms = _Terms()
-    _Owner._check(_library.modem_xid_agree(_Offer(*originator), _Offer(*answerer), terms))
+    _Owner._check(_library.modem_xid_agree(_filled(_Offer, *originator), _filled(_Offer, *answerer), terms))
     return Terms(
         terms.originator_length, terms.answerer_length, terms.originator_window, terms.answerer_window, bool(terms.srej), bool(terms.check32)
     )  # fmt: skip
@@ -493,7 +519,8 @@ class Link(_Owner):
     """
 
     def __init__(self, setup):
-        super().__init__("link", _Setup(_Offer(*setup.offer), setup.period, setup.tries, ROLES[setup.role]))
+        super().__init__("link", _filled(_Setup, _filled(_Offer, *setup.offer), setup.period, setup.tries, ROLES[setup.role]))
+        self.given = None
 
     def _checked(self, code, why):
         if code == BROKEN:
@@ -504,8 +531,10 @@ class Link(_Owner):
         """What came in this turn: the length of the other end's break in units of 10 ms, where one is given, else None."""
         data, count = _octets(slot.octets)
         given, why = c_int32(), _Fault()
+        self.given = None
         self._checked(_library.modem_link_receive(self._handle, SLOTS.index(slot.kind), data, count, given, why), why)
-        return None if given.value < 0 else given.value
+        self.given = None if given.value < 0 else given.value
+        return self.given
 
     def delivered(self):
         """The octets that came in order since the last turn."""
@@ -532,13 +561,13 @@ class Link(_Owner):
 
     def ask_break(self, length):
         """A break of so many units of 10 ms: whether it is taken."""
-        code = _library.modem_link_ask_break(self._handle, length)
+        code = _library.modem_link_ask_break(self._handle, _within(length, 255, "length"))
         if code not in (DONE, NOTHING):
             raise ModemError(code)
         return code == DONE
 
     def set_busy(self, busy):
-        """Whether its user asks for a pause from now on."""
+        """Whether its user asks for a pause from now on. Before it is connected that is forgotten."""
         self._check(_library.modem_link_set_busy(self._handle, int(busy)))
 
     def send(self, release=False):
@@ -548,12 +577,25 @@ class Link(_Owner):
         return Slot(SLOTS[sent.kind], bytes(room[: sent.octets]))
 
     def turn(self, slot, read, release=False):
-        """A whole turn: what came, and a function that reads so many octets of the file: what goes out, and what was delivered."""
-        self.receive(slot)
-        delivered = self.delivered()
-        while (count := self.wants()) is not None:
-            self.offer(read(count))
-        return self.send(release), delivered
+        """A whole turn: what came, and a function that reads so many octets of the file: what goes out, and what was delivered. A break that came is `given`
+        then. Of a link that breaks the LinkBroken has what was delivered before as `delivered`, and the turn has ended."""
+        delivered, broken = b"", None
+        try:
+            try:
+                self.receive(slot)
+            except LinkBroken as fault:
+                broken = fault
+            delivered = self.delivered()
+            while (count := self.wants()) is not None:
+                self.offer(read(count))
+            sent = self.send(release)
+        except LinkBroken as fault:
+            fault.delivered = delivered
+            raise
+        if broken:
+            broken.delivered = delivered
+            raise broken
+        return sent, delivered
 
     @property
     def phase(self):
@@ -562,7 +604,7 @@ class Link(_Owner):
 
     @property
     def is_whole(self):
-        """Whether its file has ended, and all of it is acknowledged."""
+        """Whether it is connected, its file has ended, and all of it is acknowledged."""
         return bool(self._standing().whole)
 
     @property
