@@ -48,7 +48,8 @@ int main(int argc, char **argv)
     }
     if (code == MODEM_DONE) {
         code = modem_decoder_finish(&decoder, last, sizeof last, &progress);
-        write_bits(out, last, progress.written);
+        if (code == MODEM_DONE)
+            write_bits(out, last, progress.written);
     }
     modem_free(&decoder);
 
