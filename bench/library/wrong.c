@@ -18,6 +18,7 @@ static modem_terms terms;
 static modem_xid_fault xid_fault;
 static int32_t given;
 static size_t count;
+static uint32_t kind;
 static const modem_setup usual = {.offer = {128, 128, 15, 15, 1, 1}, .period = 20, .tries = 8, .role = MODEM_ORIGINATOR};
 
 static void empty_handles(void)
@@ -26,6 +27,7 @@ static void empty_handles(void)
     modem_encoder encoder = MODEM_NONE;
     modem_meter meter = MODEM_NONE;
     modem_deframer deframer = MODEM_NONE;
+    modem_detector detector = MODEM_NONE;
     modem_framer framer = MODEM_NONE;
     modem_link link = MODEM_NONE;
     modem_free(&decoder);
@@ -37,6 +39,7 @@ static void empty_handles(void)
     assert(modem_deframer_push(&deframer, bits, 8, room, sizeof room, &found) == MODEM_EMPTY);
     assert(modem_deframer_octets(&deframer, room, sizeof room, &count) == MODEM_EMPTY);
     assert(modem_deframer_set_check(&deframer, 1) == MODEM_EMPTY);
+    assert(modem_detector_push(&detector, bits, 8, &count, &kind) == MODEM_EMPTY);
     assert(modem_framer_slot(&framer, MODEM_FLAGS, room, 0, bits, sizeof bits, &count) == MODEM_EMPTY);
     assert(modem_link_receive(&link, MODEM_ONES, room, 0, &given, &why) == MODEM_EMPTY);
     assert(modem_link_deliver(&link, room, sizeof room, &count) == MODEM_EMPTY);
@@ -163,6 +166,33 @@ static void frames(void)
     modem_free(&deframer);
 }
 
+/* A frame fits a slot as if each fifth bit had to be stuffed, with 128 symbols left behind it; what no frame's octets are doesn't. */
+static void slots(void)
+{
+    modem_framer framer = MODEM_NONE;
+    memset(room, 0xff, sizeof room);
+    assert(modem_framer_new(&framer, 464) == MODEM_DONE);
+    assert(modem_framer_slot(&framer, MODEM_OCTETS, room, 135, bits, sizeof bits, &count) == MODEM_DONE && count == 4 * 464);
+    assert(modem_framer_slot(&framer, MODEM_OCTETS, room, 136, bits, sizeof bits, &count) == MODEM_BAD_ARGUMENT);
+    assert(modem_framer_slot(&framer, MODEM_OCTETS, room, 3, bits, sizeof bits, &count) == MODEM_BAD_ARGUMENT);
+    assert(modem_framer_slot(&framer, MODEM_ODP, room, 0, bits, 4 * 464 - 1, &count) == MODEM_FULL);
+    modem_free(&framer);
+}
+
+/* The pattern of a slot is seen once, at the eighth one behind two whole ones. */
+static void patterns(void)
+{
+    modem_framer framer = MODEM_NONE;
+    modem_detector detector = MODEM_NONE;
+    size_t read;
+    assert(modem_framer_new(&framer, 464) == MODEM_DONE && modem_detector_new(&detector) == MODEM_DONE);
+    assert(modem_framer_slot(&framer, MODEM_ADP, room, 0, bits, sizeof bits, &count) == MODEM_DONE);
+    assert(modem_detector_push(&detector, bits, count, &read, &kind) == MODEM_DONE && kind == MODEM_ADP && read == 71);
+    assert(modem_detector_push(&detector, bits, 0, &read, &kind) == MODEM_NOTHING && read == 0);
+    modem_free(&framer);
+    modem_free(&detector);
+}
+
 /* No octet that is written for a bit is anything but 0 or 1. */
 static void bits_alone(size_t written)
 {
@@ -185,7 +215,7 @@ static void random_calls(long calls)
         const size_t a = (size_t)rand() % 2001, b = (size_t)rand() % 4097, c = rand() % 3 ? sizeof room : (size_t)rand() % (sizeof room + 1);
         int32_t code = MODEM_DONE;
         modem_frame frame = {room[0], room[1] % 3, room[2] % 2, room[3], room[4]};
-        switch (rand() % 28) {
+        switch (rand() % 32) {
         case 0: code = modem_decoder_new(any, (uint8_t)(rand() % 4), (uint8_t)(rand() % 3)); break;
         case 1: code = modem_deframer_new(any, (uint8_t)(rand() % 3), (uint8_t)(rand() % 3)); break;
         case 2:
@@ -229,6 +259,10 @@ static void random_calls(long calls)
         case 24: code = modem_link_send(link, rand() % 40 == 0, room, c, &sent, &why); assert(sent.octets <= c); break;
         case 25: code = modem_link_offer(link, bits, (size_t)rand() % 200); break;
         case 26: code = modem_link_ask_break(link, (uint8_t)rand()); break;
+        case 27: code = modem_link_wants(link, &count); break;
+        case 28: code = modem_link_set_busy(link, (uint8_t)(rand() % 3)); break;
+        case 29: code = modem_detector_new(any); break;
+        case 30: code = modem_detector_push(any, bits, b, &count, &kind); break;
         default:
             if (rand() % 50 == 0)
                 modem_free(any);
@@ -249,6 +283,8 @@ int main(int argc, char **argv)
     lines();
     turns();
     frames();
+    slots();
+    patterns();
     random_calls(argc > 1 ? atol(argv[1]) : 300000);
     puts("all as wanted");
     return 0;
