@@ -1,7 +1,7 @@
 -- Whether one of finitely many does something can be told, where it can be told of each. Numbers, octets, and the frames that can be sent
 -- are finitely many.
-use Rattle.line_tap.proofs.Names.{inl, inr, ℕ, zero, suc, ◌<◌, ◌≤◌, Bool, true, false, List, [], ◌∷◌, length, arith, All-nil, All-cons}
-use Rattle.line_tap.proofs.Names.{All-head, All-tail, AreOctets, IsSendable, Frame, I, Ui, Decided}
+use Rattle.line_tap.proofs.Cited.{inl, inr, ℕ, zero, suc, ◌<◌, ◌≤◌, Bool, true, false, List, [], ◌∷◌, length, arith, All-nil, All-cons}
+use Rattle.line_tap.proofs.Cited.{All-head, All-tail, AreOctets, IsSendable, Frame, I, Ui, Decided}
 use Rattle.frame_check.specs.declared.sizes.TheConstants.{INFO}
 use Rattle.lapm_frames.specs.declared.frame.Frame.TheVariants.{Rr, Rnr, Rej, Srej, Sabme, Disc, Ua, Dm, Frmr, Xid, Test}
 use Rattle.lapm_frames.specs.declared.sent.Sent.TheVariants as sent

@@ -1,7 +1,7 @@
 -- A tap before its first turn.
-use Rattle.line_tap.proofs.Names.{◌≡◌, ℕ, ◌*◌, ◌≤◌, Bool, true, [], length, arith, refl, sym, ◌∙◌, ap, subst, min, both_sent_by, ReadsOn}
-use Rattle.line_tap.proofs.Names.{TapAfter, Tapping, tapping, line_of, terms_of, no_octets, Tap, AreWaiting, check_by, Originator, Answerer}
-use Rattle.line_tap.proofs.Names.{agree, Terms}
+use Rattle.line_tap.proofs.Cited.{◌≡◌, ℕ, ◌*◌, ◌≤◌, Bool, true, [], length, arith, refl, sym, ◌∙◌, ap, subst, min, both_sent_by, ReadsOn}
+use Rattle.line_tap.proofs.Cited.{TapAfter, Tapping, tapping, line_of, terms_of, no_octets, Tap, AreWaiting, check_by, Originator, Answerer}
+use Rattle.line_tap.proofs.Cited.{agree, Terms}
 use Rattle.xid_params.specs.declared.offer.Offer.{Offer}
 use Rattle.xid_params.specs.Offers.{IsAllowed}
 use Rattle.xid_params.specs.Terms.{lowered}

@@ -1,8 +1,8 @@
 -- Bits and the samples that they become: each tells the other, the first of one the first of the other; and samples as octets.
-use Rattle.line_tap.proofs.Names.{◌≡◌, ◌∙◌, ◌*◌, ◌<◌, ◌≤◌, ℕ, suc, Bool, true, false, nat_eq, List, [], ◌∷◌, ◌++◌, length, take, map, refl}
-use Rattle.line_tap.proofs.Names.{sym, ap, subst, arith, All, length-append, take-append_seam, eqb-true, All-head, All-tail, Demodulates}
-use Rattle.line_tap.proofs.Names.{Modulates, samples_in, carried, Descrambles_once, each_below, at_each, PointsDiffer, NoDistanceIsEqual}
-use Rattle.line_tap.proofs.Names.{point_of, Sample, next_state}
+use Rattle.line_tap.proofs.Cited.{◌≡◌, ◌∙◌, ◌*◌, ◌<◌, ◌≤◌, ℕ, suc, Bool, true, false, nat_eq, List, [], ◌∷◌, ◌++◌, length, take, map, refl}
+use Rattle.line_tap.proofs.Cited.{sym, ap, subst, arith, All, length-append, take-append_seam, eqb-true, All-head, All-tail, Demodulates}
+use Rattle.line_tap.proofs.Cited.{Modulates, samples_in, carried, Descrambles_once, each_below, at_each, PointsDiffer, NoDistanceIsEqual}
+use Rattle.line_tap.proofs.Cited.{point_of, Sample, next_state}
 use Rattle.std.proofs.Common.{◌&&◌}
 use Rattle.std.specs.List.{flat_map}
 use Rattle.symbol_map.specs.Distance.{distance_of}

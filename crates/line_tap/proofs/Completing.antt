@@ -1,9 +1,9 @@
 -- From every answer to that which right inputs have.
-use Rattle.line_tap.proofs.Names.{◌≡◌, ◌⊎◌, inl, inr, ℕ, ◌≤◌, ◌<◌, true, nat_eq, List, [], ◌++◌, length, take, drop, IsTrue, Result, sym}
-use Rattle.line_tap.proofs.Names.{◌∙◌, ap, subst, arith, false≢true, nat_tests, last-only, Answers, turns_line, Status, Stop, Left, TapEnd}
-use Rattle.line_tap.proofs.Names.{IsNotHeader, HasNoHeader, TellsOnce, TapNames, outputs_of, recordings_of, IsRefused, Tapped, Ends}
-use Rattle.line_tap.proofs.Names.{tap_job, tapping, held_of, ScriptValue, IsInLimits, HoldEach-kept, FolderState, octets_at, HoldEach}
-use Rattle.line_tap.proofs.Names.{OnlyOutputs, header_of, RefusesOwn, Mode, Call, Answer, Both, Originator, Answerer}
+use Rattle.line_tap.proofs.Cited.{◌≡◌, ◌⊎◌, inl, inr, ℕ, ◌≤◌, ◌<◌, true, nat_eq, List, [], ◌++◌, length, take, drop, IsTrue, Result, sym}
+use Rattle.line_tap.proofs.Cited.{◌∙◌, ap, subst, arith, false≢true, nat_tests, last-only, Answers, turns_line, Status, Stop, Left, TapEnd}
+use Rattle.line_tap.proofs.Cited.{IsNotHeader, HasNoHeader, TellsOnce, TapNames, outputs_of, recordings_of, IsRefused, Tapped, Ends}
+use Rattle.line_tap.proofs.Cited.{tap_job, tapping, held_of, ScriptValue, IsInLimits, HoldEach-kept, FolderState, octets_at, HoldEach}
+use Rattle.line_tap.proofs.Cited.{OnlyOutputs, header_of, RefusesOwn, Mode, Call, Answer, Both, Originator, Answerer}
 use Rattle.std.specs.Prelude.{slice_index}
 use Rattle.noise_script.specs.Laws.{ScriptsAreOne, NoFaultInScripts}
 use Rattle.line_tap.specs.Ends.{TapOf}

@@ -1,11 +1,11 @@
 -- What is found in a slot of flags is what was sent in it.
-use Rattle.line_tap.proofs.Names.{◌≡◌, ◌∙◌, inl, inr, ℕ, zero, suc, ◌+◌, ◌-◌, ◌*◌, ◌/◌, ◌%◌, ◌<◌, ◌≤◌, Bool, true, false, nat_eq, List, []}
-use Rattle.line_tap.proofs.Names.{◌∷◌, ◌++◌, All, length, take, drop, map, slice_index, Option, Some, None, refl, sym, ap, subst, arith}
-use Rattle.line_tap.proofs.Names.{append-nil, length-append, drop-append_seam, false≢true, append_assoc, length-take-le, take-append-drop}
-use Rattle.line_tap.proofs.Names.{IfSome, pieces-none, line_bits, Kept, bit_of, Found, lent_of, pieces_of, wholes, rest_of_flag, opening}
-use Rattle.line_tap.proofs.Names.{slot_bits, stuffed, HEAD, TAIL, low_bits, Check, SpellsFrame, checked, address_of, control_octet}
-use Rattle.line_tap.proofs.Names.{tail_octets, spelled, parts_of, Frame, CodableFits, CodableIsSendable, SpelledInOctets, flagged}
-use Rattle.line_tap.proofs.Names.{AreBitsOf, EndsFirst, FindsSent, IsAt, part, Seeker, IsCodable, Role}
+use Rattle.line_tap.proofs.Cited.{◌≡◌, ◌∙◌, inl, inr, ℕ, zero, suc, ◌+◌, ◌-◌, ◌*◌, ◌/◌, ◌%◌, ◌<◌, ◌≤◌, Bool, true, false, nat_eq, List, []}
+use Rattle.line_tap.proofs.Cited.{◌∷◌, ◌++◌, All, length, take, drop, map, slice_index, Option, Some, None, refl, sym, ap, subst, arith}
+use Rattle.line_tap.proofs.Cited.{append-nil, length-append, drop-append_seam, false≢true, append_assoc, length-take-le, take-append-drop}
+use Rattle.line_tap.proofs.Cited.{IfSome, pieces-none, line_bits, Kept, bit_of, Found, lent_of, pieces_of, wholes, rest_of_flag, opening}
+use Rattle.line_tap.proofs.Cited.{slot_bits, stuffed, HEAD, TAIL, low_bits, Check, SpellsFrame, checked, address_of, control_octet}
+use Rattle.line_tap.proofs.Cited.{tail_octets, spelled, parts_of, Frame, CodableFits, CodableIsSendable, SpelledInOctets, flagged}
+use Rattle.line_tap.proofs.Cited.{AreBitsOf, EndsFirst, FindsSent, IsAt, part, Seeker, IsCodable, Role}
 use Rattle.std.proofs.lemmas.List.{drop-drop, get_or-append-add, get_or_append_left}
 use Rattle.frame_check.specs.Bits.{bits_of}
 use Rattle.frame_check.specs.Division.{check_of}

@@ -1,6 +1,6 @@
 -- Whether a frame fits a slot, by where it ends.
-use Rattle.line_tap.proofs.Names.{◌≡◌, ◌∙◌, ℕ, ◌-◌, ◌*◌, ◌%◌, ◌≤◌, Option, Some, None, sym, ap, subst, arith, IfSome, IfNone, next_phase}
-use Rattle.line_tap.proofs.Names.{TAIL, slot_of, Check, IsSendable, Frame, Sent, EndsAt, signal_of, IsCodable, Role}
+use Rattle.line_tap.proofs.Cited.{◌≡◌, ◌∙◌, ℕ, ◌-◌, ◌*◌, ◌%◌, ◌≤◌, Option, Some, None, sym, ap, subst, arith, IfSome, IfNone, next_phase}
+use Rattle.line_tap.proofs.Cited.{TAIL, slot_of, Check, IsSendable, Frame, Sent, EndsAt, signal_of, IsCodable, Role}
 use Rattle.lapm_frames.specs.declared.sent.Sent.TheVariants as sent
 use Rattle.line_tap.specs.Seeking.{EndsBy}
 

@@ -1,9 +1,9 @@
 -- Slots that were read go on the line, and the reading goes on.
-use Rattle.line_tap.proofs.Names.{◌≡◌, ℕ, suc, ◌+◌, ◌-◌, ◌*◌, Option, List, [], ◌∷◌, ◌++◌, length, map, arith, refl, sym, ◌∙◌, ap, subst}
-use Rattle.line_tap.proofs.Names.{Signal, Check, Heard, Sent, HeardAt, sent_by, both_sent_by, Slot, TapAfter, ReadsToo, HearsThese, IsToGo}
-use Rattle.line_tap.proofs.Names.{turn_in, going_in, Tapping, line_of, terms_of, octets_of, Hears, Sends, GoesOn, told, SlotReader, Hearing}
-use Rattle.line_tap.proofs.Names.{Tap, AreWaiting, check_by, judged_by, given_to, Spoken, Turn, ScriptValue, IsCodedAs, signal_of, Both, of}
-use Rattle.line_tap.proofs.Names.{other, Role, Originator, Answerer}
+use Rattle.line_tap.proofs.Cited.{◌≡◌, ℕ, suc, ◌+◌, ◌-◌, ◌*◌, Option, List, [], ◌∷◌, ◌++◌, length, map, arith, refl, sym, ◌∙◌, ap, subst}
+use Rattle.line_tap.proofs.Cited.{Signal, Check, Heard, Sent, HeardAt, sent_by, both_sent_by, Slot, TapAfter, ReadsToo, HearsThese, IsToGo}
+use Rattle.line_tap.proofs.Cited.{turn_in, going_in, Tapping, line_of, terms_of, octets_of, Hears, Sends, GoesOn, told, SlotReader, Hearing}
+use Rattle.line_tap.proofs.Cited.{Tap, AreWaiting, check_by, judged_by, given_to, Spoken, Turn, ScriptValue, IsCodedAs, signal_of, Both, of}
+use Rattle.line_tap.proofs.Cited.{other, Role, Originator, Answerer}
 use Rattle.sample_line.specs.Line.{Kept}
 use Rattle.line_run.specs.Stream.{Carried, carried_signal}
 use Rattle.line_run.proofs.Streaming.{lone-signals}

@@ -1,9 +1,9 @@
 -- The bits that are read of a slot's samples are its bits, and what is taken for what was sent in it is what was sent.
-use Rattle.line_tap.proofs.Names.{◌≡◌, ◌∙◌, ◌⊎◌, inl, inr, ℕ, ◌+◌, ◌*◌, ◌<◌, Bool, true, List, ◌++◌, map, Option, Some, None, refl, sym, ap}
-use Rattle.line_tap.proofs.Names.{subst, arith, map-append, All-append, phase-low, slot_bits, phase_after, HEAD, TAIL, Signal, slot_of}
-use Rattle.line_tap.proofs.Names.{slots_of, Check, Frame, Sent, Demodulates, Modulates, SlotsTellWhatWasSent, AreLabels, is_plain}
-use Rattle.line_tap.proofs.Names.{plain_bits, flagged, IsGuess, FindsSent, carried, bits_behind, signal_of, IsCodable, Descrambles_once}
-use Rattle.line_tap.proofs.Names.{Role, PointsDiffer, point_of, Sample}
+use Rattle.line_tap.proofs.Cited.{◌≡◌, ◌∙◌, ◌⊎◌, inl, inr, ℕ, ◌+◌, ◌*◌, ◌<◌, Bool, true, List, ◌++◌, map, Option, Some, None, refl, sym, ap}
+use Rattle.line_tap.proofs.Cited.{subst, arith, map-append, All-append, phase-low, slot_bits, phase_after, HEAD, TAIL, Signal, slot_of}
+use Rattle.line_tap.proofs.Cited.{slots_of, Check, Frame, Sent, Demodulates, Modulates, SlotsTellWhatWasSent, AreLabels, is_plain}
+use Rattle.line_tap.proofs.Cited.{plain_bits, flagged, IsGuess, FindsSent, carried, bits_behind, signal_of, IsCodable, Descrambles_once}
+use Rattle.line_tap.proofs.Cited.{Role, PointsDiffer, point_of, Sample}
 use Rattle.lapm_frames.specs.declared.sent.Sent.TheVariants as sent
 use Rattle.line_coding.specs.Demodulates.{line_of}
 use Rattle.line_tap.proofs.Coding.{small, points-tell}

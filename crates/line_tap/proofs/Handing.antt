@@ -1,7 +1,7 @@
 -- Segments that a receiver hands over, one after another.
-use Rattle.line_tap.proofs.Names.{◌≡◌, inl, inr, ℕ, zero, suc, ◌+◌, ◌≤◌, ◌<◌, Bool, true, false, cond, List, [], ◌∷◌, ◌++◌, length, drop}
-use Rattle.line_tap.proofs.Names.{arith, refl, sym, ◌∙◌, ap, subst, Some, None, false≢true, nat_tests, append_assoc, concat-append, concat}
-use Rattle.line_tap.proofs.Names.{is_some, Incoming, Taking, StandsIn, FolderState, Appended, PartlyAppended}
+use Rattle.line_tap.proofs.Cited.{◌≡◌, inl, inr, ℕ, zero, suc, ◌+◌, ◌≤◌, ◌<◌, Bool, true, false, cond, List, [], ◌∷◌, ◌++◌, length, drop}
+use Rattle.line_tap.proofs.Cited.{arith, refl, sym, ◌∙◌, ap, subst, Some, None, false≢true, nat_tests, append_assoc, concat-append, concat}
+use Rattle.line_tap.proofs.Cited.{is_some, Incoming, Taking, StandsIn, FolderState, Appended, PartlyAppended}
 use Rattle.std.proofs.Common.{nat_lt}
 use Rattle.std.proofs.lemmas.List.{append-nil}
 use Rattle.std.specs.Prelude.{slice_index_or}

@@ -1,7 +1,7 @@
 -- What is read of a recording to look at its header.
-use Rattle.line_tap.proofs.Names.{◌≡◌, ◌∙◌, inl, inr, ℕ, ◌+◌, ◌≤◌, ◌<◌, List, [], ◌∷◌, IsTrue, length, take, sym, ap, arith, cases_lt}
-use Rattle.line_tap.proofs.Names.{take_all, ReadTo, Stop, Own, Read, TapNames, recordings_of, IsRefused, AreReadTo, no_octets, ScriptValue}
-use Rattle.line_tap.proofs.Names.{FolderState, octets_at, SomeRose, header_of, Limits, Mode, Call, Answer}
+use Rattle.line_tap.proofs.Cited.{◌≡◌, ◌∙◌, inl, inr, ℕ, ◌+◌, ◌≤◌, ◌<◌, List, [], ◌∷◌, IsTrue, length, take, sym, ap, arith, cases_lt}
+use Rattle.line_tap.proofs.Cited.{take_all, ReadTo, Stop, Own, Read, TapNames, recordings_of, IsRefused, AreReadTo, no_octets, ScriptValue}
+use Rattle.line_tap.proofs.Cited.{FolderState, octets_at, SomeRose, header_of, Limits, Mode, Call, Answer}
 use Rattle.command_base.specs.Stops.{StopCounts}
 use Rattle.run_inputs.specs.Inputs.{Opens, Refuses}
 use Rattle.line_tap.specs.declared.limits.TheConstants.{TAP_LIMIT}

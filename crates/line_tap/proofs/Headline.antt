@@ -1,8 +1,8 @@
 -- From every answer to the headline, and to the answer that right inputs have.
-use Rattle.line_tap.proofs.Names.{◌≡◌, ◌⊎◌, inl, inr, ℕ, Bool, true, List, [], ◌∷◌, ◌++◌, refl, ◌∙◌, ap, subst, option_map, last-only}
-use Rattle.line_tap.proofs.Names.{Answers, turns_line, Status, LineLost, ChanceMatch, BadTap, TapEnd, HasNoHeader, TapNames, outputs_of}
-use Rattle.line_tap.proofs.Names.{recordings_of, IsRefused, Tapped, Ends, tap_job, held_of, HoldEach-kept, FolderState, KeepsAll, KeepsEach}
-use Rattle.line_tap.proofs.Names.{OnlyOutputs, RefusesOwn, Mode, Call, Answer}
+use Rattle.line_tap.proofs.Cited.{◌≡◌, ◌⊎◌, inl, inr, ℕ, Bool, true, List, [], ◌∷◌, ◌++◌, refl, ◌∙◌, ap, subst, option_map, last-only}
+use Rattle.line_tap.proofs.Cited.{Answers, turns_line, Status, LineLost, ChanceMatch, BadTap, TapEnd, HasNoHeader, TapNames, outputs_of}
+use Rattle.line_tap.proofs.Cited.{recordings_of, IsRefused, Tapped, Ends, tap_job, held_of, HoldEach-kept, FolderState, KeepsAll, KeepsEach}
+use Rattle.line_tap.proofs.Cited.{OnlyOutputs, RefusesOwn, Mode, Call, Answer}
 use Rattle.std.proofs.Common.{is_some}
 use Rattle.line_tap.specs.Answers.{stop_by}
 use Rattle.line_tap.specs.Ends as ends

@@ -1,9 +1,9 @@
 -- Both ends hear in a turn of a tap, and what they took is delivered.
-use Rattle.line_tap.proofs.Names.{◌≡◌, ℕ, ◌*◌, ◌<◌, ◌≤◌, ◌^◌, List, [], ◌∷◌, ◌++◌, length, arith, refl, sym, ◌∙◌, ap, subst, is_some, Check}
-use Rattle.line_tap.proofs.Names.{I, Heard, Passed, Chance, Incoming, Wire, IsHeardOf, IsHeardWell, LineEnd, ScriptsHaveDelays, sent_by}
-use Rattle.line_tap.proofs.Names.{both_sent_by, Listens, Overhears, delivered, IsBehind, TapAfter, IsReady, HearsThese, Tapping, line_of}
-use Rattle.line_tap.proofs.Names.{terms_of, Tells, EndListener, Tap, given_in, given_breaks, judged_by, received, taking_in, given_to}
-use Rattle.line_tap.proofs.Names.{has_passed, is_xid, opens, Turn, IsInLimits, delay_of, Both, of, other, Role, Originator, Answerer, Terms}
+use Rattle.line_tap.proofs.Cited.{◌≡◌, ℕ, ◌*◌, ◌<◌, ◌≤◌, ◌^◌, List, [], ◌∷◌, ◌++◌, length, arith, refl, sym, ◌∙◌, ap, subst, is_some, Check}
+use Rattle.line_tap.proofs.Cited.{I, Heard, Passed, Chance, Incoming, Wire, IsHeardOf, IsHeardWell, LineEnd, ScriptsHaveDelays, sent_by}
+use Rattle.line_tap.proofs.Cited.{both_sent_by, Listens, Overhears, delivered, IsBehind, TapAfter, IsReady, HearsThese, Tapping, line_of}
+use Rattle.line_tap.proofs.Cited.{terms_of, Tells, EndListener, Tap, given_in, given_breaks, judged_by, received, taking_in, given_to}
+use Rattle.line_tap.proofs.Cited.{has_passed, is_xid, opens, Turn, IsInLimits, delay_of, Both, of, other, Role, Originator, Answerer, Terms}
 use Rattle.lapm_frames.specs.declared.sent.Sent.TheVariants as slots
 use Rattle.lapm_receiver.specs.declared.took.Took.{Took}
 use Rattle.lapm_receiver.specs.Incoming.{after_kind, kind_of, offset}

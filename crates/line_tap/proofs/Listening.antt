@@ -1,7 +1,7 @@
 -- What an end is given by what it hears, and hands over.
-use Rattle.line_tap.proofs.Names.{arith, ◌≡◌, ℕ, ◌*◌, ◌≤◌, Bool, true, false, List, ◌++◌, length, refl, sym, subst, Option, Some, None}
-use Rattle.line_tap.proofs.Names.{append-nil, ◌||◌, I, Ui, Passed, Incoming, Taking, StandsIn, Listens, IsIdle, delivered, EndListener}
-use Rattle.line_tap.proofs.Names.{given_in, given_by, opens, Role, Terms}
+use Rattle.line_tap.proofs.Cited.{arith, ◌≡◌, ℕ, ◌*◌, ◌≤◌, Bool, true, false, List, ◌++◌, length, refl, sym, subst, Option, Some, None}
+use Rattle.line_tap.proofs.Cited.{append-nil, ◌||◌, I, Ui, Passed, Incoming, Taking, StandsIn, Listens, IsIdle, delivered, EndListener}
+use Rattle.line_tap.proofs.Cited.{given_in, given_by, opens, Role, Terms}
 use Rattle.lapm_frames.specs.declared.sent.Sent.TheVariants as slots
 use Rattle.break_signals.specs.Breaks.{with_given}
 use Rattle.line_tap.specs.EndListener.{HasTaken}

@@ -1,9 +1,9 @@
 -- What more octets of the recordings leave as it was.
-use Rattle.line_tap.proofs.Names.{◌≡◌, ℕ, ◌+◌, ◌*◌, ◌≤◌, List, [], ◌∷◌, ◌++◌, length, take, arith, length-append, sym, ◌∙◌, ap, subst}
-use Rattle.line_tap.proofs.Names.{append-nil, drop-append_seam, take-append-le, concat-append, concat, Check, I, Heard, Passed, Sent}
-use Rattle.line_tap.proofs.Names.{Incoming, KeepsTaken, Modulates, Wire, bits_of, Tapping, tapping, line_of, terms_of, octets_of, next_bits}
-use Rattle.line_tap.proofs.Names.{HoldsNext, Hears, Sends, GoesOn, Tells, got_in, check_by, received, taking_in, Turn, samples_in, mode_of}
-use Rattle.line_tap.proofs.Names.{tap_of, Both, of, Role, Originator, Answerer}
+use Rattle.line_tap.proofs.Cited.{◌≡◌, ℕ, ◌+◌, ◌*◌, ◌≤◌, List, [], ◌∷◌, ◌++◌, length, take, arith, length-append, sym, ◌∙◌, ap, subst}
+use Rattle.line_tap.proofs.Cited.{append-nil, drop-append_seam, take-append-le, concat-append, concat, Check, I, Heard, Passed, Sent}
+use Rattle.line_tap.proofs.Cited.{Incoming, KeepsTaken, Modulates, Wire, bits_of, Tapping, tapping, line_of, terms_of, octets_of, next_bits}
+use Rattle.line_tap.proofs.Cited.{HoldsNext, Hears, Sends, GoesOn, Tells, got_in, check_by, received, taking_in, Turn, samples_in, mode_of}
+use Rattle.line_tap.proofs.Cited.{tap_of, Both, of, Role, Originator, Answerer}
 use Rattle.std.specs.Prelude.{drop}
 use Rattle.lapm_frames.specs.declared.sent.Sent.TheVariants as slots
 use Rattle.line_tap.proofs.NextSlots.{samples-take}

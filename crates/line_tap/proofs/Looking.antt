@@ -1,7 +1,7 @@
 -- Slots that are read in a turn.
-use Rattle.line_tap.proofs.Names.{◌≡◌, ℕ, suc, ◌+◌, ◌*◌, List, [], ◌∷◌, ◌++◌, length, arith, refl, sym, ◌∙◌, ap, subst, Some, phase_after}
-use Rattle.line_tap.proofs.Names.{Signal, slots_of, Check, signals-more, signals, ReadsOn, ReadsNext, Slot, ReaderStands, ReadsToo, Tapping}
-use Rattle.line_tap.proofs.Names.{line_of, octets_of, told, SlotReader, Turn, samples_in, signal_of, of, Role}
+use Rattle.line_tap.proofs.Cited.{◌≡◌, ℕ, suc, ◌+◌, ◌*◌, List, [], ◌∷◌, ◌++◌, length, arith, refl, sym, ◌∙◌, ap, subst, Some, phase_after}
+use Rattle.line_tap.proofs.Cited.{Signal, slots_of, Check, signals-more, signals, ReadsOn, ReadsNext, Slot, ReaderStands, ReadsToo, Tapping}
+use Rattle.line_tap.proofs.Cited.{line_of, octets_of, told, SlotReader, Turn, samples_in, signal_of, of, Role}
 
 pub reads-too : (r : SlotReader) (x : Tapping) (check : Check) (role : Role) (ts : List Turn) (body : List ℕ) (slot : Slot)
     → ReadsNext r (line_of x) check role ts body slot → ReadsToo r (line_of x) check role ts body slot

@@ -1,9 +1,9 @@
 -- Whether a recording holds a slot of the next turn, and which, can be told.
-use Rattle.line_tap.proofs.Names.{◌≡◌, inl, inr, ℕ, suc, ◌+◌, ◌-◌, ◌*◌, ◌%◌, ◌<◌, ◌≤◌, Bool, List, [], ◌∷◌, ◌++◌, length, take, arith, ap}
-use Rattle.line_tap.proofs.Names.{subst, Some, cases_lt, All-nil, All-cons, All-head, All-tail, length-line_bits, line_bits, opening, TAIL}
-use Rattle.line_tap.proofs.Names.{AreOctets, Check, checked, information_of, IsSendable, Frame, Sent, Modulates, Decided, tap-some, Wire}
-use Rattle.line_tap.proofs.Names.{bits_of, phase_behind, next_bits, octets_of, HoldsNext, Turn, samples_in, mode_of, IsCodable, tap_of}
-use Rattle.line_tap.proofs.Names.{Role, Sample}
+use Rattle.line_tap.proofs.Cited.{◌≡◌, inl, inr, ℕ, suc, ◌+◌, ◌-◌, ◌*◌, ◌%◌, ◌<◌, ◌≤◌, Bool, List, [], ◌∷◌, ◌++◌, length, take, arith, ap}
+use Rattle.line_tap.proofs.Cited.{subst, Some, cases_lt, All-nil, All-cons, All-head, All-tail, length-line_bits, line_bits, opening, TAIL}
+use Rattle.line_tap.proofs.Cited.{AreOctets, Check, checked, information_of, IsSendable, Frame, Sent, Modulates, Decided, tap-some, Wire}
+use Rattle.line_tap.proofs.Cited.{bits_of, phase_behind, next_bits, octets_of, HoldsNext, Turn, samples_in, mode_of, IsCodable, tap_of}
+use Rattle.line_tap.proofs.Cited.{Role, Sample}
 use Rattle.std.specs.Prelude.{ℤ, pos, negsuc}
 use Rattle.lapm_frames.specs.declared.sent.Sent.TheVariants as sent
 use Rattle.sample_line.specs.Signals.{FrameFits}

@@ -1,8 +1,8 @@
 -- What a reader takes for the next slot is the next slot that the recording holds, and the other way.
-use Rattle.line_tap.proofs.Names.{◌≡◌, ◌∙◌, ℕ, zero, suc, ◌+◌, ◌*◌, ◌≤◌, List, [], ◌∷◌, ◌++◌, length, take, drop, refl, sym, ap, subst}
-use Rattle.line_tap.proofs.Names.{arith, common_steps, Signal, signal_bits, Check, Sent, Modulates, Wire, signals, bits_of, IsNext}
-use Rattle.line_tap.proofs.Names.{ReadsFor, carries, HoldsNext, next_bits, octets_of, SlotReader, Turn, samples_in, sample_of, bits_behind}
-use Rattle.line_tap.proofs.Names.{mode_of, signal_of, IsCodable, Framing, tap_of, Role, Sample}
+use Rattle.line_tap.proofs.Cited.{◌≡◌, ◌∙◌, ℕ, zero, suc, ◌+◌, ◌*◌, ◌≤◌, List, [], ◌∷◌, ◌++◌, length, take, drop, refl, sym, ap, subst}
+use Rattle.line_tap.proofs.Cited.{arith, common_steps, Signal, signal_bits, Check, Sent, Modulates, Wire, signals, bits_of, IsNext}
+use Rattle.line_tap.proofs.Cited.{ReadsFor, carries, HoldsNext, next_bits, octets_of, SlotReader, Turn, samples_in, sample_of, bits_behind}
+use Rattle.line_tap.proofs.Cited.{mode_of, signal_of, IsCodable, Framing, tap_of, Role, Sample}
 use Rattle.std.proofs.Math.Seq.{take-add}
 
 pub samples-drop : (n : ℕ) (octets : List ℕ) → 4 * n ≤ length octets → samples_in (drop (4 * n) octets) ≡ drop n (samples_in octets)

@@ -1,11 +1,11 @@
 -- A script and two recordings tell one thing.
-use Rattle.line_tap.proofs.Names.{◌≡◌, ◌⊎◌, inl, inr, ℕ, suc, ◌+◌, ◌*◌, ◌<◌, ◌≤◌, List, [], ◌∷◌, ◌++◌, length, arith, refl, sym, ◌∙◌, ap}
-use Rattle.line_tap.proofs.Names.{subst, Option, Some, mul-suc, cases_lt, concat, phase-low, HEAD, TAIL, slots_of, Check, Heard, Sent, Left}
-use Rattle.line_tap.proofs.Names.{SlotsTellWhatWasSent, Wire, signals, bits_of, IsHeardOf, IsHeardWell, LineEnd, SlotsHaveRoom, TapEnd}
-use Rattle.line_tap.proofs.Names.{IsDone, Leaves, LastHears, EndsWhole, EndsLine, EndsOnLine, EndsBy, TellsOnce, Tapping, line_of, terms_of}
-use Rattle.line_tap.proofs.Names.{phase_behind, next_bits, octets_of, HoldsNext, told, Hears, GoesOn, Tells, chance_line, check_by}
-use Rattle.line_tap.proofs.Names.{judged_by, received, given_to, Spoken, Side, Turn, trace_text, IsInLimits, mode_of, tap_of, of, other}
-use Rattle.line_tap.proofs.Names.{Role, Originator, Answerer, PointsDiffer}
+use Rattle.line_tap.proofs.Cited.{◌≡◌, ◌⊎◌, inl, inr, ℕ, suc, ◌+◌, ◌*◌, ◌<◌, ◌≤◌, List, [], ◌∷◌, ◌++◌, length, arith, refl, sym, ◌∙◌, ap}
+use Rattle.line_tap.proofs.Cited.{subst, Option, Some, mul-suc, cases_lt, concat, phase-low, HEAD, TAIL, slots_of, Check, Heard, Sent, Left}
+use Rattle.line_tap.proofs.Cited.{SlotsTellWhatWasSent, Wire, signals, bits_of, IsHeardOf, IsHeardWell, LineEnd, SlotsHaveRoom, TapEnd}
+use Rattle.line_tap.proofs.Cited.{IsDone, Leaves, LastHears, EndsWhole, EndsLine, EndsOnLine, EndsBy, TellsOnce, Tapping, line_of, terms_of}
+use Rattle.line_tap.proofs.Cited.{phase_behind, next_bits, octets_of, HoldsNext, told, Hears, GoesOn, Tells, chance_line, check_by}
+use Rattle.line_tap.proofs.Cited.{judged_by, received, given_to, Spoken, Side, Turn, trace_text, IsInLimits, mode_of, tap_of, of, other}
+use Rattle.line_tap.proofs.Cited.{Role, Originator, Answerer, PointsDiffer}
 use Rattle.line_run.specs.Sampled as lines
 use Rattle.line_run.specs.LineLaws.{HeardOnce, OneLineEndBy, EndsOrIsHeard}
 use Rattle.line_tap.specs.Ends.{LineLost, ChanceMatch, BadTap, EndsBadly}

@@ -1,10 +1,10 @@
 -- Turns of a run without what the line doesn't tell: the meant numbers, and the checks of frames that have no numbers.
-use Rattle.line_tap.proofs.Names.{arith, ◌≡◌, ℕ, zero, suc, ◌-◌, ◌*◌, Bool, true, false, cond, List, [], ◌∷◌, ◌++◌, length, map, drop, refl}
-use Rattle.line_tap.proofs.Names.{sym, ◌∙◌, ap, subst, Option, Some, None, length-map, drop-map, option_map, is_some, ◌||◌, signal_bits}
-use Rattle.line_tap.proofs.Names.{FlagSlot, with_check, Check, Sixteen, has_number, spelled, Frame, Heard, Sent, Wire, signals, bits_of}
-use Rattle.line_tap.proofs.Names.{IsHeardOf, IsHeardWell, HeardIn, told, given_in, given_breaks, check_by, judged_by, taking_in, received}
-use Rattle.line_tap.proofs.Names.{given_by, given_to, has_passed, is_xid, opens, Spoken, Side, Turn, side_line, turn_text, trace_text}
-use Rattle.line_tap.proofs.Names.{delay_of, signal_of, of, Role, Originator, Answerer, Terms}
+use Rattle.line_tap.proofs.Cited.{arith, ◌≡◌, ℕ, zero, suc, ◌-◌, ◌*◌, Bool, true, false, cond, List, [], ◌∷◌, ◌++◌, length, map, drop, refl}
+use Rattle.line_tap.proofs.Cited.{sym, ◌∙◌, ap, subst, Option, Some, None, length-map, drop-map, option_map, is_some, ◌||◌, signal_bits}
+use Rattle.line_tap.proofs.Cited.{FlagSlot, with_check, Check, Sixteen, has_number, spelled, Frame, Heard, Sent, Wire, signals, bits_of}
+use Rattle.line_tap.proofs.Cited.{IsHeardOf, IsHeardWell, HeardIn, told, given_in, given_breaks, check_by, judged_by, taking_in, received}
+use Rattle.line_tap.proofs.Cited.{given_by, given_to, has_passed, is_xid, opens, Spoken, Side, Turn, side_line, turn_text, trace_text}
+use Rattle.line_tap.proofs.Cited.{delay_of, signal_of, of, Role, Originator, Answerer, Terms}
 use Rattle.std.proofs.Common.{slice_get}
 use Rattle.std.proofs.lemmas.Option.{slice_get-map}
 use Rattle.lapm_frames.specs.declared.sent.Sent.TheVariants as slots

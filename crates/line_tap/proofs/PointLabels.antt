@@ -1,9 +1,9 @@
 -- Samples that are points, one after another.
-use Rattle.line_tap.proofs.Names.{◌≡◌, ◌∙◌, inl, inr, ℕ, zero, suc, ◌+◌, ◌-◌, ◌*◌, ◌<◌, ◌≤◌, Bool, List, [], ◌∷◌, ◌++◌, length, take, map}
-use Rattle.line_tap.proofs.Names.{Some, slice_index, refl, sym, ap, subst, arith, cases_lt, append_assoc, map-append, take-map, length-map}
-use Rattle.line_tap.proofs.Names.{take_more, All-append, All-cons, All-nil, All-take, line_bits, low_bits, DemodulatorStands, Demodulator}
-use Rattle.line_tap.proofs.Names.{AreLabels, NoStep, ReadsLabels, samples_in, sample_at, sample_of, Mode, PointsDiffer, point_of, Sample}
-use Rattle.line_tap.proofs.Names.{Leads_once, Leads, next_state}
+use Rattle.line_tap.proofs.Cited.{◌≡◌, ◌∙◌, inl, inr, ℕ, zero, suc, ◌+◌, ◌-◌, ◌*◌, ◌<◌, ◌≤◌, Bool, List, [], ◌∷◌, ◌++◌, length, take, map}
+use Rattle.line_tap.proofs.Cited.{Some, slice_index, refl, sym, ap, subst, arith, cases_lt, append_assoc, map-append, take-map, length-map}
+use Rattle.line_tap.proofs.Cited.{take_more, All-append, All-cons, All-nil, All-take, line_bits, low_bits, DemodulatorStands, Demodulator}
+use Rattle.line_tap.proofs.Cited.{AreLabels, NoStep, ReadsLabels, samples_in, sample_at, sample_of, Mode, PointsDiffer, point_of, Sample}
+use Rattle.line_tap.proofs.Cited.{Leads_once, Leads, next_state}
 use Rattle.std.proofs.Common.{get_or}
 use Rattle.std.proofs.lemmas.List.{length_push, same_from_push, flat_map_more}
 use Rattle.trellis_tables.proofs.Sequences.{Leads-front, Leads-snoc, Leads-take}

@@ -1,7 +1,7 @@
 -- Quads and their bits: each tells the other.
-use Rattle.line_tap.proofs.Names.{◌≡◌, ◌∙◌, ℕ, zero, suc, ◌-◌, ◌<◌, ◌≤◌, Bool, true, false, nat_eq, List, [], ◌∷◌, ◌++◌, length}
-use Rattle.line_tap.proofs.Names.{slice_index, ◌⊎◌, inl, inr, ◌+◌, refl, sym, ap, subst, arith, eqb-true, cases_lt, ◌&&◌, length-line_bits}
-use Rattle.line_tap.proofs.Names.{line_bits, ones, low_bits, Sent, is_plain, plain_bits, each_below, at_each}
+use Rattle.line_tap.proofs.Cited.{◌≡◌, ◌∙◌, ℕ, zero, suc, ◌-◌, ◌<◌, ◌≤◌, Bool, true, false, nat_eq, List, [], ◌∷◌, ◌++◌, length}
+use Rattle.line_tap.proofs.Cited.{slice_index, ◌⊎◌, inl, inr, ◌+◌, refl, sym, ap, subst, arith, eqb-true, cases_lt, ◌&&◌, length-line_bits}
+use Rattle.line_tap.proofs.Cited.{line_bits, ones, low_bits, Sent, is_plain, plain_bits, each_below, at_each}
 use Rattle.std.proofs.lemmas.Bool.{eqb-false, and_parts}
 use Rattle.frame_check.specs.Bits.{number_of}
 use Rattle.lapm_frames.specs.declared.seen.Seen.TheVariants as seen

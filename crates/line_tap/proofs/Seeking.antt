@@ -1,8 +1,8 @@
 -- The bits of a slot from a place on, and the first whole piece that ends among them.
-use Rattle.line_tap.proofs.Names.{◌≡◌, ◌∙◌, ℕ, ◌+◌, ◌-◌, ◌*◌, ◌/◌, ◌%◌, ◌<◌, ◌≤◌, Bool, false, List, [], ◌∷◌, ◌++◌, length, take, drop}
-use Rattle.line_tap.proofs.Names.{slice_index, Option, Some, None, All, refl, sym, ap, subst, arith, append_assoc, length-take-le}
-use Rattle.line_tap.proofs.Names.{take-append-drop, take_more, option_map, length-line_bits, line_bits, Kept, bit_of, Found, lent_of}
-use Rattle.line_tap.proofs.Names.{pieces_of, wholes, stuffed, low_bits, EndsFirst, part}
+use Rattle.line_tap.proofs.Cited.{◌≡◌, ◌∙◌, ℕ, ◌+◌, ◌-◌, ◌*◌, ◌/◌, ◌%◌, ◌<◌, ◌≤◌, Bool, false, List, [], ◌∷◌, ◌++◌, length, take, drop}
+use Rattle.line_tap.proofs.Cited.{slice_index, Option, Some, None, All, refl, sym, ap, subst, arith, append_assoc, length-take-le}
+use Rattle.line_tap.proofs.Cited.{take-append-drop, take_more, option_map, length-line_bits, line_bits, Kept, bit_of, Found, lent_of}
+use Rattle.line_tap.proofs.Cited.{pieces_of, wholes, stuffed, low_bits, EndsFirst, part}
 use Rattle.std.proofs.Common.{length-drop, length-take}
 use Rattle.std.specs.Option.{option_map_or}
 use Rattle.std.proofs.lemmas.Grind.{flat_map-append}

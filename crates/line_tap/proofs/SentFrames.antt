@@ -1,7 +1,7 @@
 -- A frame that octets spell can be sent.
-use Rattle.line_tap.proofs.Names.{ℕ, ◌<◌, Bool, List, ◌∷◌, ◌++◌, length, Option, Some, None, Result, Ok, Err, subst, take-append_seam}
-use Rattle.line_tap.proofs.Names.{All-take, All-tail, IfSome, result_ok, AreOctets, Check, SpellsFrame, checked, address_of, control_octet}
-use Rattle.line_tap.proofs.Names.{information_of, spelled, tail_octets, parts_of, IsSendable, Frame, CanBeSent, Role}
+use Rattle.line_tap.proofs.Cited.{ℕ, ◌<◌, Bool, List, ◌∷◌, ◌++◌, length, Option, Some, None, Result, Ok, Err, subst, take-append_seam}
+use Rattle.line_tap.proofs.Cited.{All-take, All-tail, IfSome, result_ok, AreOctets, Check, SpellsFrame, checked, address_of, control_octet}
+use Rattle.line_tap.proofs.Cited.{information_of, spelled, tail_octets, parts_of, IsSendable, Frame, CanBeSent, Role}
 use Rattle.std.specs.Prelude.{IfOk, ◌≡◌}
 use Rattle.lapm_frames.specs.declared.fault.CheckedFault.{CheckedFault}
 use Rattle.lapm_frames.specs.declared.sent.Sent.TheVariants as sent

@@ -1,8 +1,8 @@
 -- The octets of one slot more, behind those of all slots before.
-use Rattle.line_tap.proofs.Names.{◌≡◌, ◌∙◌, ℕ, ◌+◌, ◌*◌, ◌≤◌, ◌<◌, List, [], ◌∷◌, ◌++◌, length, take, drop, arith, length-append, sym, ap}
-use Rattle.line_tap.proofs.Names.{subst, take-append_seam, drop-append_seam, common_steps, take_all, length-take, Check, Sent, Wire}
-use Rattle.line_tap.proofs.Names.{signals, ReadsOn, ReadsNext, Slot, ReadsFor, ReaderStands, ReadsSlot, IsNext, carries, octets_of}
-use Rattle.line_tap.proofs.Names.{HoldsNext, SlotReader, Turn, samples_in, IsCodedAs, signal_of, Framing, Role, Sample}
+use Rattle.line_tap.proofs.Cited.{◌≡◌, ◌∙◌, ℕ, ◌+◌, ◌*◌, ◌≤◌, ◌<◌, List, [], ◌∷◌, ◌++◌, length, take, drop, arith, length-append, sym, ap}
+use Rattle.line_tap.proofs.Cited.{subst, take-append_seam, drop-append_seam, common_steps, take_all, length-take, Check, Sent, Wire}
+use Rattle.line_tap.proofs.Cited.{signals, ReadsOn, ReadsNext, Slot, ReadsFor, ReaderStands, ReadsSlot, IsNext, carries, octets_of}
+use Rattle.line_tap.proofs.Cited.{HoldsNext, SlotReader, Turn, samples_in, IsCodedAs, signal_of, Framing, Role, Sample}
 use Rattle.line_tap.proofs.NextSlots.{samples-take, one-slot-more, piece_of, held-is-next, next-is-held}
 
 -- ---- octets and samples

@@ -1,11 +1,11 @@
 -- A slot that is read: its bits, what is taken for what was sent in it, its samples, and what stands behind it.
-use Rattle.line_tap.proofs.Names.{◌≡◌, ◌∙◌, ℕ, ◌*◌, ◌<◌, Bool, List, [], ◌∷◌, ◌++◌, length, map, take, drop, All, Option, refl, sym, ap}
-use Rattle.line_tap.proofs.Names.{subst, arith, take-append_seam, drop-append_seam, map-append, take-map, drop-map, take-append-drop}
-use Rattle.line_tap.proofs.Names.{All-append, All-take, IfSome, line_bits, WriterStands, phase_after, next_phase, slot_bits, Signal}
-use Rattle.line_tap.proofs.Names.{slot_of, slots_of, signal_bits, Check, checked, Frame, Sent, DemodulatorStands, Modulates, Demodulator}
-use Rattle.line_tap.proofs.Names.{AreLabels, ReadsLabels, ReaderStands, IsNext, carries, IsGuess, AreBitsOf, EndsAt, FindsSent, IsAt}
-use Rattle.line_tap.proofs.Names.{SlotReader, Seeker, IsCodedAs, bits_behind, mode_of, IsCodable, tap_of, Mode, Role, PointsDiffer}
-use Rattle.line_tap.proofs.Names.{point_of, Sample, Leads_once, Leads, next_state}
+use Rattle.line_tap.proofs.Cited.{◌≡◌, ◌∙◌, ℕ, ◌*◌, ◌<◌, Bool, List, [], ◌∷◌, ◌++◌, length, map, take, drop, All, Option, refl, sym, ap}
+use Rattle.line_tap.proofs.Cited.{subst, arith, take-append_seam, drop-append_seam, map-append, take-map, drop-map, take-append-drop}
+use Rattle.line_tap.proofs.Cited.{All-append, All-take, IfSome, line_bits, WriterStands, phase_after, next_phase, slot_bits, Signal}
+use Rattle.line_tap.proofs.Cited.{slot_of, slots_of, signal_bits, Check, checked, Frame, Sent, DemodulatorStands, Modulates, Demodulator}
+use Rattle.line_tap.proofs.Cited.{AreLabels, ReadsLabels, ReaderStands, IsNext, carries, IsGuess, AreBitsOf, EndsAt, FindsSent, IsAt}
+use Rattle.line_tap.proofs.Cited.{SlotReader, Seeker, IsCodedAs, bits_behind, mode_of, IsCodable, tap_of, Mode, Role, PointsDiffer}
+use Rattle.line_tap.proofs.Cited.{point_of, Sample, Leads_once, Leads, next_state}
 use Rattle.std.proofs.lemmas.List.Elements.{All-map, All-drop}
 use Rattle.scramblers.proofs.Readings.{Scrambles_from_Descrambles}
 use Rattle.trellis_tables.specs.LabelReader.{quad_at, quads_of}

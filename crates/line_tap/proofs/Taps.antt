@@ -1,8 +1,8 @@
 -- From the phases of a tap to how it ends.
-use Rattle.line_tap.proofs.Names.{arith, inr, ℕ, List, Result, Ok, Err, subst, ReadTo-kept, Status, LineLost, ChanceMatch, BadTap, Stop}
-use Rattle.line_tap.proofs.Names.{Own, Read, Write, Say, NoMemory, TapNames, inputs_of, outputs_of, recordings_of, IsBegun, IsRefused, Ends}
-use Rattle.line_tap.proofs.Names.{AreReadTo, no_octets, ScriptValue, IsInLimits, KeepsEach-reads, inputs-kept, FolderState, OnlyReads}
-use Rattle.line_tap.proofs.Names.{AreApartFrom, KeepsAll, OnlyOutputs, SomeRose, Limits, Call, Answer, Originator, Answerer}
+use Rattle.line_tap.proofs.Cited.{arith, inr, ℕ, List, Result, Ok, Err, subst, ReadTo-kept, Status, LineLost, ChanceMatch, BadTap, Stop}
+use Rattle.line_tap.proofs.Cited.{Own, Read, Write, Say, NoMemory, TapNames, inputs_of, outputs_of, recordings_of, IsBegun, IsRefused, Ends}
+use Rattle.line_tap.proofs.Cited.{AreReadTo, no_octets, ScriptValue, IsInLimits, KeepsEach-reads, inputs-kept, FolderState, OnlyReads}
+use Rattle.line_tap.proofs.Cited.{AreApartFrom, KeepsAll, OnlyOutputs, SomeRose, Limits, Call, Answer, Originator, Answerer}
 use Rattle.outside_calls.specs.Outputs.{CreatesPart}
 use Rattle.command_base.specs.Status.{IsRefusal}
 use Rattle.command_base.specs.Stops.{EndCounts, end_status}

@@ -1,9 +1,9 @@
 -- Each reading of two recordings goes on or ends, and so it ends.
-use Rattle.line_tap.proofs.Names.{◌≡◌, ◌⊎◌, inl, inr, ℕ, zero, suc, ◌+◌, ◌*◌, ◌<◌, ◌≤◌, List, [], ◌∷◌, ◌++◌, length, arith, refl, Option}
-use Rattle.line_tap.proofs.Names.{Some, None, cases_lt, concat, HEAD, TAIL, Sent, Decided, Left, HeardAt, IsHeardWell, LineEnd}
-use Rattle.line_tap.proofs.Names.{ScriptsHaveDelays, SlotsHaveRoom, IsDone, Leaves, LastHears, IsFirstRefused, EndsLine, Tapping, line_of}
-use Rattle.line_tap.proofs.Names.{terms_of, octets_of, HoldsNext, told, Hears, GoesOn, Tells, chance_line, check_by, judged_by, received}
-use Rattle.line_tap.proofs.Names.{given_to, Spoken, Side, Turn, trace_text, IsInLimits, of, other, Role, Originator, Answerer}
+use Rattle.line_tap.proofs.Cited.{◌≡◌, ◌⊎◌, inl, inr, ℕ, zero, suc, ◌+◌, ◌*◌, ◌<◌, ◌≤◌, List, [], ◌∷◌, ◌++◌, length, arith, refl, Option}
+use Rattle.line_tap.proofs.Cited.{Some, None, cases_lt, concat, HEAD, TAIL, Sent, Decided, Left, HeardAt, IsHeardWell, LineEnd}
+use Rattle.line_tap.proofs.Cited.{ScriptsHaveDelays, SlotsHaveRoom, IsDone, Leaves, LastHears, IsFirstRefused, EndsLine, Tapping, line_of}
+use Rattle.line_tap.proofs.Cited.{terms_of, octets_of, HoldsNext, told, Hears, GoesOn, Tells, chance_line, check_by, judged_by, received}
+use Rattle.line_tap.proofs.Cited.{given_to, Spoken, Side, Turn, trace_text, IsInLimits, of, other, Role, Originator, Answerer}
 use Rattle.line_run.specs.Sampled as lines
 use Rattle.line_ends.specs.EachEnds.{Becomes}
 use Rattle.line_ends.proofs.Becoming.{BecomeLaws, fit-becomes, line-or-heard}

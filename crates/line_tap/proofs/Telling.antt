@@ -1,14 +1,14 @@
 -- What was recorded of a run tells all that the run left.
-use Rattle.line_tap.proofs.Names.{◌≡◌, ℕ, suc, ◌+◌, ◌-◌, ◌*◌, ◌<◌, ◌≤◌, Bool, true, false, cond, List, [], ◌∷◌, ◌++◌, length, take, arith}
-use Rattle.line_tap.proofs.Names.{length-append, refl, sym, ◌∙◌, ap, subst, Some, mul-suc, common_steps, length-map, take_all, concat}
-use Rattle.line_tap.proofs.Names.{option_map, opening, phase_after, HEAD, TAIL, Signal, slots_of, signal_bits, with_check, Check, Sixteen}
-use Rattle.line_tap.proofs.Names.{checked, has_number, spelled, Frame, Chance, Sent, Modulates, signals-more, tap-some, Left, AreFit}
-use Rattle.line_tap.proofs.Names.{OneMoreFits, CodableFits, CodableIsSendable, SpelledInOctets, Wire, signals, bits_of, IsHeardOf}
-use Rattle.line_tap.proofs.Names.{IsHeardWell, HeardIn, LineEnd, ScriptsHaveDelays, SlotsHaveRoom, EndsWhole, EndsLine, EndsOnLine, EndsBy}
-use Rattle.line_tap.proofs.Names.{tapping, phase_behind, next_bits, octets_of, HoldsNext, Hears, Tells, chance_line, check_by, judged_by}
-use Rattle.line_tap.proofs.Names.{given_to, Spoken, Turn, IsSilent, trace_text, ScriptValue, IsInLimits, delay_of, samples_in, bits_behind}
-use Rattle.line_tap.proofs.Names.{mode_of, signal_of, IsCodable, tap_of, Both, of, other, Role, Originator, Answerer, NoDistanceIsEqual}
-use Rattle.line_tap.proofs.Names.{Terms}
+use Rattle.line_tap.proofs.Cited.{◌≡◌, ℕ, suc, ◌+◌, ◌-◌, ◌*◌, ◌<◌, ◌≤◌, Bool, true, false, cond, List, [], ◌∷◌, ◌++◌, length, take, arith}
+use Rattle.line_tap.proofs.Cited.{length-append, refl, sym, ◌∙◌, ap, subst, Some, mul-suc, common_steps, length-map, take_all, concat}
+use Rattle.line_tap.proofs.Cited.{option_map, opening, phase_after, HEAD, TAIL, Signal, slots_of, signal_bits, with_check, Check, Sixteen}
+use Rattle.line_tap.proofs.Cited.{checked, has_number, spelled, Frame, Chance, Sent, Modulates, signals-more, tap-some, Left, AreFit}
+use Rattle.line_tap.proofs.Cited.{OneMoreFits, CodableFits, CodableIsSendable, SpelledInOctets, Wire, signals, bits_of, IsHeardOf}
+use Rattle.line_tap.proofs.Cited.{IsHeardWell, HeardIn, LineEnd, ScriptsHaveDelays, SlotsHaveRoom, EndsWhole, EndsLine, EndsOnLine, EndsBy}
+use Rattle.line_tap.proofs.Cited.{tapping, phase_behind, next_bits, octets_of, HoldsNext, Hears, Tells, chance_line, check_by, judged_by}
+use Rattle.line_tap.proofs.Cited.{given_to, Spoken, Turn, IsSilent, trace_text, ScriptValue, IsInLimits, delay_of, samples_in, bits_behind}
+use Rattle.line_tap.proofs.Cited.{mode_of, signal_of, IsCodable, tap_of, Both, of, other, Role, Originator, Answerer, NoDistanceIsEqual}
+use Rattle.line_tap.proofs.Cited.{Terms}
 use Rattle.std.proofs.Math.Nat.{mul_assoc}
 use Rattle.lapm_frames.specs.declared.sent.Sent.TheVariants as slots
 use Rattle.line_run.specs.Laws.{SlotsHaveSize}

@@ -1,7 +1,7 @@
 -- Slots that recordings tell fit one another.
-use Rattle.line_tap.proofs.Names.{◌*◌, List, [], ◌∷◌, arith, refl, sym, subst, Check, signals-more, AreFit, OneMoreFits, CodableFits}
-use Rattle.line_tap.proofs.Names.{CodableIsSendable, SpelledInOctets, signals, Tapping, line_of, terms_of, Tells, told, phase_behind}
-use Rattle.line_tap.proofs.Names.{check_by, Turn, signal_of, Role}
+use Rattle.line_tap.proofs.Cited.{◌*◌, List, [], ◌∷◌, arith, refl, sym, subst, Check, signals-more, AreFit, OneMoreFits, CodableFits}
+use Rattle.line_tap.proofs.Cited.{CodableIsSendable, SpelledInOctets, signals, Tapping, line_of, terms_of, Tells, told, phase_behind}
+use Rattle.line_tap.proofs.Cited.{check_by, Turn, signal_of, Role}
 
 pub record FitLaws : Type 0 where
   pub more : OneMoreFits

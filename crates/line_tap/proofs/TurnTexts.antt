@@ -1,6 +1,6 @@
 -- The lines of a turn of a tap, as a trace has them.
-use Rattle.line_tap.proofs.Names.{arith, ◌≡◌, ℕ, List, ◌++◌, length, refl, ◌∙◌, Option, option_map, Heard, Chance, Sent, HearsSo, turn_in}
-use Rattle.line_tap.proofs.Names.{Tapping, Hearing, Spoken, Side, Turn, side_line, turn_text, Both, of, Role, Originator, Answerer}
+use Rattle.line_tap.proofs.Cited.{arith, ◌≡◌, ℕ, List, ◌++◌, length, refl, ◌∙◌, Option, option_map, Heard, Chance, Sent, HearsSo, turn_in}
+use Rattle.line_tap.proofs.Cited.{Tapping, Hearing, Spoken, Side, Turn, side_line, turn_text, Both, of, Role, Originator, Answerer}
 use Rattle.std.proofs.Common.{◌≢◌}
 use Rattle.line_texts.specs.LineText.{trace_line, line_of}
 use Rattle.line_world.specs.Texts.{lines_of}

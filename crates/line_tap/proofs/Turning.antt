@@ -1,14 +1,14 @@
 -- What a turn of a tap comes to, at each of its ways out.
-use Rattle.line_tap.proofs.Names.{◌≡◌, ◌⊎◌, inl, inr, ℕ, ◌+◌, ◌*◌, ◌^◌, ◌<◌, ◌≤◌, IsTrue, List, [], ◌∷◌, ◌++◌, length, take, arith, min}
-use Rattle.line_tap.proofs.Names.{length-append, refl, sym, ◌∙◌, ap, subst, append-nil, None, Result, Ok, Err, cases_lt, length-take}
-use Rattle.line_tap.proofs.Names.{concat, HEAD, TAIL, ReadTo, Stop, Heard, KeepsTaken, Left, Slot, IsIdle, EndsLine, Leaves, LastHears}
-use Rattle.line_tap.proofs.Names.{IsFirstRefused, TapNames, recording_of, inputs_of, outputs_of, AreReadTo, AreReadOut, HearsThese, HearsSo}
-use Rattle.line_tap.proofs.Names.{InTurn, silent_in, EndsInTurn, EndsReading, StopsInTurn, StopsReadingIn, IsBehind, IsReady, IsToGo}
-use Rattle.line_tap.proofs.Names.{TapAfter, GoesOnBy, going_in, Tapping, tapping, line_of, terms_of, octets_of, Tells, held_of, left_of}
-use Rattle.line_tap.proofs.Names.{added, AddsGot, Hearing, Tap, chance_line, received, Turn, IsSilent, trace_text, turn_text, IsInLimits}
-use Rattle.line_tap.proofs.Names.{OnlyPuts-trans, OnlyPuts-one, KeepsEach-reads, inputs-kept, AddEach-next, AddPart-next, FolderState}
-use Rattle.line_tap.proofs.Names.{OnlyReads, OnlyWrites, Appended, PartlyAppended, octets_at, AreApartFrom, KeepsEach, OnlyPuts, header_of}
-use Rattle.line_tap.proofs.Names.{HEADER, mode_of, Both, of, Role, Originator, Answerer}
+use Rattle.line_tap.proofs.Cited.{◌≡◌, ◌⊎◌, inl, inr, ℕ, ◌+◌, ◌*◌, ◌^◌, ◌<◌, ◌≤◌, IsTrue, List, [], ◌∷◌, ◌++◌, length, take, arith, min}
+use Rattle.line_tap.proofs.Cited.{length-append, refl, sym, ◌∙◌, ap, subst, append-nil, None, Result, Ok, Err, cases_lt, length-take}
+use Rattle.line_tap.proofs.Cited.{concat, HEAD, TAIL, ReadTo, Stop, Heard, KeepsTaken, Left, Slot, IsIdle, EndsLine, Leaves, LastHears}
+use Rattle.line_tap.proofs.Cited.{IsFirstRefused, TapNames, recording_of, inputs_of, outputs_of, AreReadTo, AreReadOut, HearsThese, HearsSo}
+use Rattle.line_tap.proofs.Cited.{InTurn, silent_in, EndsInTurn, EndsReading, StopsInTurn, StopsReadingIn, IsBehind, IsReady, IsToGo}
+use Rattle.line_tap.proofs.Cited.{TapAfter, GoesOnBy, going_in, Tapping, tapping, line_of, terms_of, octets_of, Tells, held_of, left_of}
+use Rattle.line_tap.proofs.Cited.{added, AddsGot, Hearing, Tap, chance_line, received, Turn, IsSilent, trace_text, turn_text, IsInLimits}
+use Rattle.line_tap.proofs.Cited.{OnlyPuts-trans, OnlyPuts-one, KeepsEach-reads, inputs-kept, AddEach-next, AddPart-next, FolderState}
+use Rattle.line_tap.proofs.Cited.{OnlyReads, OnlyWrites, Appended, PartlyAppended, octets_at, AreApartFrom, KeepsEach, OnlyPuts, header_of}
+use Rattle.line_tap.proofs.Cited.{HEADER, mode_of, Both, of, Role, Originator, Answerer}
 use Rattle.std.proofs.Common.{append_assoc}
 use Rattle.outside_calls.specs.Folder.{GoesOn}
 use Rattle.outside_calls.specs.Outputs.{AddEach, AddPart}

@@ -1,9 +1,9 @@
 -- What the whole recordings tell, where what was read of them tells it.
-use Rattle.line_tap.proofs.Names.{◌≡◌, inl, inr, ℕ, ◌+◌, ◌<◌, ◌≤◌, Bool, true, false, IsTrue, List, [], ◌∷◌, ◌++◌, length, drop, arith}
-use Rattle.line_tap.proofs.Names.{length-append, refl, sym, ◌∙◌, ap, subst, append-nil, cases_lt, false≢true, take-append-drop, HEAD, TAIL}
-use Rattle.line_tap.proofs.Names.{Sent, Left, LineEnd, EndsBy, EndsOnLine, IsFirstRefused, Leaves, LastHears, TapNames, recording_of}
-use Rattle.line_tap.proofs.Names.{AreReadTo, AreReadOut, Tapping, line_of, terms_of, octets_of, HoldsNext, AddsGot, check_by, Turn}
-use Rattle.line_tap.proofs.Names.{FolderState, octets_at, header_of, HEADER, mode_of, Both, of, Role, Originator, Answerer}
+use Rattle.line_tap.proofs.Cited.{◌≡◌, inl, inr, ℕ, ◌+◌, ◌<◌, ◌≤◌, Bool, true, false, IsTrue, List, [], ◌∷◌, ◌++◌, length, drop, arith}
+use Rattle.line_tap.proofs.Cited.{length-append, refl, sym, ◌∙◌, ap, subst, append-nil, cases_lt, false≢true, take-append-drop, HEAD, TAIL}
+use Rattle.line_tap.proofs.Cited.{Sent, Left, LineEnd, EndsBy, EndsOnLine, IsFirstRefused, Leaves, LastHears, TapNames, recording_of}
+use Rattle.line_tap.proofs.Cited.{AreReadTo, AreReadOut, Tapping, line_of, terms_of, octets_of, HoldsNext, AddsGot, check_by, Turn}
+use Rattle.line_tap.proofs.Cited.{FolderState, octets_at, header_of, HEADER, mode_of, Both, of, Role, Originator, Answerer}
 use Rattle.std.proofs.Common.{append_assoc}
 use Rattle.std.proofs.lemmas.List.{length-drop}
 use Rattle.line_tap.specs.Ends as ends

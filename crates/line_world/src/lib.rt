@@ -35,7 +35,7 @@ mod world;
 
 pub use direction::DelayedLine;
 pub use directions::{Directions, LineEnd, slot_symbols};
-pub use line_run::Names;
+pub use line_run::{Names, RunFault};
 pub use line_texts::{TraceLine, write_frame_text, write_line, write_parts};
 pub use lines::Lines;
 use link::{Breaking, Link};

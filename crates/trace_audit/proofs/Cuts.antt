@@ -1,6 +1,6 @@
 -- The lines of a text.
-use Rattle.trace_audit.proofs.Names.{◌≡◌, ◌≢◌, true, ℕ, List, [], ◌∷◌, ◌++◌, drop, refl, sym, ap, ◌∙◌, append_assoc, list_all, front_of}
-use Rattle.trace_audit.proofs.Names.{rest_of, is_no_feed, text_of, AreWhole, IsCut}
+use Rattle.trace_audit.proofs.Cited.{◌≡◌, ◌≢◌, true, ℕ, List, [], ◌∷◌, ◌++◌, drop, refl, sym, ap, ◌∙◌, append_assoc, list_all, front_of}
+use Rattle.trace_audit.proofs.Cited.{rest_of, is_no_feed, text_of, AreWhole, IsCut}
 use Rattle.trace_audit.proofs.Fronts.{front-reads, rest-reads}
 
 -- the text of lines, with the first line feed on its own

@@ -1,6 +1,6 @@
 -- One thing is found of octets beside a text.
-use Rattle.trace_audit.proofs.Names.{arith, ◌≡◌, ℕ, List, Result, Ok, Err, refl, ◌∙◌, ap, subst, AuditCause, text_of, FirstDiffers, IsCut}
-use Rattle.trace_audit.proofs.Names.{DiffersIn, IsFound, Difference}
+use Rattle.trace_audit.proofs.Cited.{arith, ◌≡◌, ℕ, List, Result, Ok, Err, refl, ◌∙◌, ap, subst, AuditCause, text_of, FirstDiffers, IsCut}
+use Rattle.trace_audit.proofs.Cited.{DiffersIn, IsFound, Difference}
 use Rattle.trace_audit.specs.Verdict.{IsText, VerdictsAreOne}
 
 -- the laws of differences and of cuts

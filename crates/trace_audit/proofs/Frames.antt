@@ -1,12 +1,12 @@
 -- Texts of frames, and of what is sent and heard.
-use Rattle.trace_audit.proofs.Names.{◌≡◌, ℕ, ◌+◌, ◌<◌, ◌≤◌, Bool, true, false, cond, List, [], ◌∷◌, ◌++◌, length, codes, decimal, Option}
-use Rattle.trace_audit.proofs.Names.{Some, None, refl, sym, ap, subst, ◌∙◌, arith, append_assoc, inl, inr, length-append, length-decimal-le}
-use Rattle.trace_audit.proofs.Names.{bytes_eq-Decides, option_map, IfSome, bytes_eq, BreakWord, Brk, Ack, parts_of_kind, FrameKind}
-use Rattle.trace_audit.proofs.Names.{kind_word, poll_word, number_word, behind, first_of, front_of, rest_of, is_no_space, Shape, Numbered}
-use Rattle.trace_audit.proofs.Names.{Supervisory, Commanding, Responding, Rejecting, Exchanging, Unnumbered, count_bound, shape_named}
-use Rattle.trace_audit.proofs.Names.{FrameWords, AreInRange, IsBreak, count_word, information_word, shape_text, IsFrameText, IsSignal, odp}
-use Rattle.trace_audit.proofs.Names.{adp, frame, IsHeard, nothing, lost, passed, IsSent, mark, flags, none, signal, behind_shape}
-use Rattle.trace_audit.proofs.Names.{behind_heard, behind_sent}
+use Rattle.trace_audit.proofs.Cited.{◌≡◌, ℕ, ◌+◌, ◌<◌, ◌≤◌, Bool, true, false, cond, List, [], ◌∷◌, ◌++◌, length, codes, decimal, Option}
+use Rattle.trace_audit.proofs.Cited.{Some, None, refl, sym, ap, subst, ◌∙◌, arith, append_assoc, inl, inr, length-append, length-decimal-le}
+use Rattle.trace_audit.proofs.Cited.{bytes_eq-Decides, option_map, IfSome, bytes_eq, BreakWord, Brk, Ack, parts_of_kind, FrameKind}
+use Rattle.trace_audit.proofs.Cited.{kind_word, poll_word, number_word, behind, first_of, front_of, rest_of, is_no_space, Shape, Numbered}
+use Rattle.trace_audit.proofs.Cited.{Supervisory, Commanding, Responding, Rejecting, Exchanging, Unnumbered, count_bound, shape_named}
+use Rattle.trace_audit.proofs.Cited.{FrameWords, AreInRange, IsBreak, count_word, information_word, shape_text, IsFrameText, IsSignal, odp}
+use Rattle.trace_audit.proofs.Cited.{adp, frame, IsHeard, nothing, lost, passed, IsSent, mark, flags, none, signal, behind_shape}
+use Rattle.trace_audit.proofs.Cited.{behind_heard, behind_sent}
 use Rattle.lapm_frames.specs.Parts.{kinds, first_named}
 use Rattle.trace_audit.specs.Pieces.{behind_frame, behind_signal, behind_lost}
 use Rattle.trace_audit.specs.Grammar.{shape_of}

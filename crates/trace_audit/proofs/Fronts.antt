@@ -1,7 +1,7 @@
 -- What a text begins with: pieces from its front, and octets that pass a test.
-use Rattle.trace_audit.proofs.Names.{arith, ◌≡◌, ℕ, ◌<◌, ◌≤◌, Bool, true, false, cond, List, [], ◌∷◌, ◌++◌, length, take, drop, get_or}
-use Rattle.trace_audit.proofs.Names.{Option, Some, None, refl, sym, ap, ◌∙◌, append_assoc, ◌⊎◌, append-nil, take-append-drop, and_parts}
-use Rattle.trace_audit.proofs.Names.{take_all, same_Some, list_all, option_map, option_and_then, behind, front_of, rest_of, first_of}
+use Rattle.trace_audit.proofs.Cited.{arith, ◌≡◌, ℕ, ◌<◌, ◌≤◌, Bool, true, false, cond, List, [], ◌∷◌, ◌++◌, length, take, drop, get_or}
+use Rattle.trace_audit.proofs.Cited.{Option, Some, None, refl, sym, ap, ◌∙◌, append_assoc, ◌⊎◌, append-nil, take-append-drop, and_parts}
+use Rattle.trace_audit.proofs.Cited.{take_all, same_Some, list_all, option_map, option_and_then, behind, front_of, rest_of, first_of}
 use Rattle.std.proofs.Common.{eqb}
 use Rattle.std.proofs.Common.{eq-eqb, drop-cons}
 use Rattle.std.specs.Prelude.{MatchOption, ◌≢◌}

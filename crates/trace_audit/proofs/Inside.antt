@@ -1,6 +1,6 @@
 -- What the folder of an audit knows of files, and what it holds of a turn's lines.
-use Rattle.trace_audit.proofs.Names.{◌≡◌, ◌≢◌, ℕ, List, [], Some, sym, ◌∙◌, ap, take, Written, IsApart, KnowsFiles, FolderState, Both}
-use Rattle.trace_audit.proofs.Names.{held_by, file_limit}
+use Rattle.trace_audit.proofs.Cited.{◌≡◌, ◌≢◌, ℕ, List, [], Some, sym, ◌∙◌, ap, take, Written, IsApart, KnowsFiles, FolderState, Both}
+use Rattle.trace_audit.proofs.Cited.{held_by, file_limit}
 use Rattle.std.proofs.Common.{IsTrue}
 use Rattle.outside_calls.specs.Folder.{GoesOn, KeepsName, Appended, Adds}
 use Rattle.outside_calls.specs.Outputs.{Holds}

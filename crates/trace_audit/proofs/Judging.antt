@@ -1,8 +1,8 @@
 -- From every answer to the headline, and to which answer right inputs have.
-use Rattle.trace_audit.proofs.Names.{◌≡◌, ◌⊎◌, inl, inr, ℕ, Bool, true, false, ◌≤◌, ◌<◌, List, ◌++◌, length, Option, Result, Ok, Err, refl}
-use Rattle.trace_audit.proofs.Names.{sym, ◌∙◌, ap, subst, arith, option_map, Status, Stop, RunEnd, wire_of, link_of, ScriptValue}
-use Rattle.trace_audit.proofs.Names.{FolderState, octets_at, LIMITS, AuditCause, Audits, Ends, DiffersIn, IsFound, AuditNames, files_of}
-use Rattle.trace_audit.proofs.Names.{Difference}
+use Rattle.trace_audit.proofs.Cited.{◌≡◌, ◌⊎◌, inl, inr, ℕ, Bool, true, false, ◌≤◌, ◌<◌, List, ◌++◌, length, Option, Result, Ok, Err, refl}
+use Rattle.trace_audit.proofs.Cited.{sym, ◌∙◌, ap, subst, arith, option_map, Status, Stop, RunEnd, wire_of, link_of, ScriptValue}
+use Rattle.trace_audit.proofs.Cited.{FolderState, octets_at, LIMITS, AuditCause, Audits, Ends, DiffersIn, IsFound, AuditNames, files_of}
+use Rattle.trace_audit.proofs.Cited.{Difference}
 use Rattle.noise_script.specs.Laws.{ScriptsAreOne, NoFaultInScripts}
 use Rattle.line_run.specs.Ends.{Left, OneResult, RunsTo}
 use Rattle.command_base.specs.declared.status.Status.TheVariants.{Done, BadScript, TooLong, AuditNo, NoMemory}

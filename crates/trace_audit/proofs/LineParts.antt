@@ -1,9 +1,9 @@
 -- A line's parts are read, and what is read has them.
-use Rattle.trace_audit.proofs.Names.{◌≡◌, ℕ, ◌+◌, ◌-◌, ◌<◌, ◌≤◌, Bool, true, false, cond, List, [], ◌∷◌, ◌++◌, length, take, codes, decimal}
-use Rattle.trace_audit.proofs.Names.{Option, Some, None, refl, sym, ap, subst, ◌∙◌, arith, append_assoc, ◌⊎◌, inl, inr, length-append}
-use Rattle.trace_audit.proofs.Names.{append-nil, same_Some, option_map, option_and_then, IfSome, ◌==◌, bytes_eq, line_begins, break_word}
-use Rattle.trace_audit.proofs.Names.{Role, Originator, Answerer, behind, number_at, count_bound, IsHeard, IsSent, HasParts, behind_heard}
-use Rattle.trace_audit.proofs.Names.{behind_sent, chance_parts, LineText}
+use Rattle.trace_audit.proofs.Cited.{◌≡◌, ℕ, ◌+◌, ◌-◌, ◌<◌, ◌≤◌, Bool, true, false, cond, List, [], ◌∷◌, ◌++◌, length, take, codes, decimal}
+use Rattle.trace_audit.proofs.Cited.{Option, Some, None, refl, sym, ap, subst, ◌∙◌, arith, append_assoc, ◌⊎◌, inl, inr, length-append}
+use Rattle.trace_audit.proofs.Cited.{append-nil, same_Some, option_map, option_and_then, IfSome, ◌==◌, bytes_eq, line_begins, break_word}
+use Rattle.trace_audit.proofs.Cited.{Role, Originator, Answerer, behind, number_at, count_bound, IsHeard, IsSent, HasParts, behind_heard}
+use Rattle.trace_audit.proofs.Cited.{behind_sent, chance_parts, LineText}
 use Rattle.std.proofs.Math.Seq.{take-append_seam}
 use Rattle.trace_audit.specs.Grammar.{IsChance, IsPlain}
 use Rattle.trace_audit.specs.Reading.{before, heard_at, sent_at, role_at, ends_in, given_at, sent_and_given, reply_at, plain_line}

@@ -1,7 +1,7 @@
 -- A text against lines, line by line.
-use Rattle.trace_audit.proofs.Names.{◌≡◌, ◌≢◌, ℕ, ◌+◌, ◌<◌, List, [], ◌∷◌, ◌++◌, length, take, drop, refl, sym, ap, subst, ◌∙◌, arith}
-use Rattle.trace_audit.proofs.Names.{append_assoc, length-append, append-nil, AuditCause, End, fed, text_of, GoesOnWith, LineDiffers}
-use Rattle.trace_audit.proofs.Names.{RestDiffers, FirstDiffers}
+use Rattle.trace_audit.proofs.Cited.{◌≡◌, ◌≢◌, ℕ, ◌+◌, ◌<◌, List, [], ◌∷◌, ◌++◌, length, take, drop, refl, sym, ap, subst, ◌∙◌, arith}
+use Rattle.trace_audit.proofs.Cited.{append_assoc, length-append, append-nil, AuditCause, End, fed, text_of, GoesOnWith, LineDiffers}
+use Rattle.trace_audit.proofs.Cited.{RestDiffers, FirstDiffers}
 use Rattle.std.proofs.Math.Seq.{drop-append_seam}
 use Rattle.std.proofs.lemmas.List.{nil_from_length}
 use Rattle.trace_audit.specs.Compared.{HasLines, DiffersIn}

@@ -1,7 +1,7 @@
 -- A text differs from lines first in one of them, and in one part of it.
-use Rattle.trace_audit.proofs.Names.{◌≡◌, ℕ, ◌+◌, List, [], ◌∷◌, ◌++◌, length, sym, ap, subst, ◌∙◌, arith, ◌⊎◌, inl, inr, cases_lt}
-use Rattle.trace_audit.proofs.Names.{AuditCause, End, Spelling, text_of, StopsIn, OwnDiffers, LineDiffers, RestDiffers, FirstDiffers}
-use Rattle.trace_audit.proofs.Names.{LineText}
+use Rattle.trace_audit.proofs.Cited.{◌≡◌, ℕ, ◌+◌, List, [], ◌∷◌, ◌++◌, length, sym, ap, subst, ◌∙◌, arith, ◌⊎◌, inl, inr, cases_lt}
+use Rattle.trace_audit.proofs.Cited.{AuditCause, End, Spelling, text_of, StopsIn, OwnDiffers, LineDiffers, RestDiffers, FirstDiffers}
+use Rattle.trace_audit.proofs.Cited.{LineText}
 use Rattle.trace_audit.proofs.LineParts.{one-reading}
 use Rattle.trace_audit.specs.Differences.{IsRead, PartsDiffer, ReadsDiffer, Departs}
 use Rattle.trace_audit.proofs.Lines.{not-before, split-same, front-same}

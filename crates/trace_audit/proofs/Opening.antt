@@ -1,9 +1,9 @@
 -- From the phases of an audit to how it ends.
-use Rattle.trace_audit.proofs.Names.{◌≡◌, inl, inr, ℕ, ◌<◌, List, [], ◌∷◌, length, Result, Ok, Err, refl, sym, ◌∙◌, ap, subst, take, arith}
-use Rattle.trace_audit.proofs.Names.{take_all, stop-earlier, StopCounts, EndCounts, Status, Stop, Written, KnowsFiles, ScriptValue}
-use Rattle.trace_audit.proofs.Names.{OnlyReads-trans, octets-kept, told_later, FolderState, octets_at, OnlyReads, CountsStand, LIMITS, Both}
-use Rattle.trace_audit.proofs.Names.{trace_limit, Audits, Ends, RunFound, RunIs, IsFound, AuditNames, files_of, inputs_of, Difference}
-use Rattle.trace_audit.proofs.Names.{file_limit}
+use Rattle.trace_audit.proofs.Cited.{◌≡◌, inl, inr, ℕ, ◌<◌, List, [], ◌∷◌, length, Result, Ok, Err, refl, sym, ◌∙◌, ap, subst, take, arith}
+use Rattle.trace_audit.proofs.Cited.{take_all, stop-earlier, StopCounts, EndCounts, Status, Stop, Written, KnowsFiles, ScriptValue}
+use Rattle.trace_audit.proofs.Cited.{OnlyReads-trans, octets-kept, told_later, FolderState, octets_at, OnlyReads, CountsStand, LIMITS, Both}
+use Rattle.trace_audit.proofs.Cited.{trace_limit, Audits, Ends, RunFound, RunIs, IsFound, AuditNames, files_of, inputs_of, Difference}
+use Rattle.trace_audit.proofs.Cited.{file_limit}
 use Rattle.std.proofs.Common.{IsTrue}
 use Rattle.outside_calls.specs.declared.folder.FolderFault.{FolderFault}
 use Rattle.outside_calls.specs.declared.folder.FolderFault.TheVariants as folder

@@ -1,8 +1,8 @@
 -- Both lines of a turn are lines that are read.
-use Rattle.trace_audit.proofs.Names.{◌≡◌, ℕ, ◌<◌, ◌≤◌, ◌^◌, true, false, List, [], ◌∷◌, length, arith, refl, sym, ◌∙◌, subst, Option, Some}
-use Rattle.trace_audit.proofs.Names.{None, option_map, IfSome, Frame, Heard, Nothing, Passed, Lost, Chance, Sent, SendLaws, AsksInOctets}
-use Rattle.trace_audit.proofs.Names.{LineRun, wire_of, link_of, is_chance, Outcome, Going, Turn, ScriptValue, IsInLimits, Both, of, Role}
-use Rattle.trace_audit.proofs.Names.{count_bound, line_of, LinesAreRead, IsReadableSent, IsReadableSignal, IsReadableHeard, IsReadable}
+use Rattle.trace_audit.proofs.Cited.{◌≡◌, ℕ, ◌<◌, ◌≤◌, ◌^◌, true, false, List, [], ◌∷◌, length, arith, refl, sym, ◌∙◌, subst, Option, Some}
+use Rattle.trace_audit.proofs.Cited.{None, option_map, IfSome, Frame, Heard, Nothing, Passed, Lost, Chance, Sent, SendLaws, AsksInOctets}
+use Rattle.trace_audit.proofs.Cited.{LineRun, wire_of, link_of, is_chance, Outcome, Going, Turn, ScriptValue, IsInLimits, Both, of, Role}
+use Rattle.trace_audit.proofs.Cited.{count_bound, line_of, LinesAreRead, IsReadableSent, IsReadableSignal, IsReadableHeard, IsReadable}
 use Rattle.std.specs.Prelude.{unwrap_or}
 use Rattle.frame_check.specs.declared.sizes.TheConstants.{INFO}
 use Rattle.shared_terms.specs.Role.{other}

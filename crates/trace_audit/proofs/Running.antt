@@ -1,10 +1,10 @@
 -- The turns of an audit, one after the other, up to what is found.
-use Rattle.trace_audit.proofs.Names.{◌≡◌, ℕ, ◌+◌, ◌<◌, ◌^◌, Bool, true, false, List, [], ◌∷◌, ◌++◌, length, Result, Ok, Err, refl, sym, ◌∙◌}
-use Rattle.trace_audit.proofs.Names.{ap, subst, take, arith, length-append, IsTrue, StopCounts, EndCounts, Stop, Written, outputs_of}
-use Rattle.trace_audit.proofs.Names.{link_of, IsApart, knows-later, KnowsFiles, WorldAfter, script_of, turn_of, World, Turn, start}
-use Rattle.trace_audit.proofs.Names.{ScriptValue, octets-kept, FolderState, OnlyReads, CountsStand, Both, Compared, HasWindow, IsFew}
-use Rattle.trace_audit.proofs.Names.{audited, trace_limit, text_of, FirstDiffers, IsCut, trace_lines, TurnMade, AreCompared, HasFew}
-use Rattle.trace_audit.proofs.Names.{IsReading, RunFound, RunIs, audit_inputs, IsFound, Comparison, Difference}
+use Rattle.trace_audit.proofs.Cited.{◌≡◌, ℕ, ◌+◌, ◌<◌, ◌^◌, Bool, true, false, List, [], ◌∷◌, ◌++◌, length, Result, Ok, Err, refl, sym, ◌∙◌}
+use Rattle.trace_audit.proofs.Cited.{ap, subst, take, arith, length-append, IsTrue, StopCounts, EndCounts, Stop, Written, outputs_of}
+use Rattle.trace_audit.proofs.Cited.{link_of, IsApart, knows-later, KnowsFiles, WorldAfter, script_of, turn_of, World, Turn, start}
+use Rattle.trace_audit.proofs.Cited.{ScriptValue, octets-kept, FolderState, OnlyReads, CountsStand, Both, Compared, HasWindow, IsFew}
+use Rattle.trace_audit.proofs.Cited.{audited, trace_limit, text_of, FirstDiffers, IsCut, trace_lines, TurnMade, AreCompared, HasFew}
+use Rattle.trace_audit.proofs.Cited.{IsReading, RunFound, RunIs, audit_inputs, IsFound, Comparison, Difference}
 use Rattle.std.proofs.Common.{◌*◌}
 use Rattle.std.specs.Prelude.{MatchResult}
 use Rattle.outside_calls.proofs.OnlyOutputs.{told_earlier}

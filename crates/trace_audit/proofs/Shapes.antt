@@ -1,9 +1,9 @@
 -- What each piece of a line is, and that it is read.
-use Rattle.trace_audit.proofs.Names.{◌≡◌, ℕ, ◌<◌, Bool, true, false, List, [], ◌++◌, codes, decimal, Option, Some, None, refl, sym, ap, ◌∙◌}
-use Rattle.trace_audit.proofs.Names.{arith, append_assoc, inl, inr, option_and_then, IfSome, BreakWord, Brk, Ack, kind_word, poll_word}
-use Rattle.trace_audit.proofs.Names.{number_word, is_digit, behind, first_of, behind_number, behind_labelled, Shape, Numbered, Supervisory}
-use Rattle.trace_audit.proofs.Names.{Commanding, Responding, Rejecting, Exchanging, Unnumbered, number_bound, count_bound, FrameWords}
-use Rattle.trace_audit.proofs.Names.{AreInRange, IsBreak, count_word, information_word, shape_text, behind_shape}
+use Rattle.trace_audit.proofs.Cited.{◌≡◌, ℕ, ◌<◌, Bool, true, false, List, [], ◌++◌, codes, decimal, Option, Some, None, refl, sym, ap, ◌∙◌}
+use Rattle.trace_audit.proofs.Cited.{arith, append_assoc, inl, inr, option_and_then, IfSome, BreakWord, Brk, Ack, kind_word, poll_word}
+use Rattle.trace_audit.proofs.Cited.{number_word, is_digit, behind, first_of, behind_number, behind_labelled, Shape, Numbered, Supervisory}
+use Rattle.trace_audit.proofs.Cited.{Commanding, Responding, Rejecting, Exchanging, Unnumbered, number_bound, count_bound, FrameWords}
+use Rattle.trace_audit.proofs.Cited.{AreInRange, IsBreak, count_word, information_word, shape_text, behind_shape}
 use Rattle.trace_audit.specs.Pieces.{behind_direction, behind_poll, behind_count, behind_break, behind_labelled_break, behind_information}
 use Rattle.trace_audit.proofs.Fronts.{chained, either, behind-reads, behind-is, begins, chain2, chain3, chain4, join2, join3, join4}
 use Rattle.trace_audit.proofs.Numbers.{behind-number-reads, behind-number-is, labelled-reads, labelled-is}

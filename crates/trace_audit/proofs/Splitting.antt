@@ -1,8 +1,8 @@
 -- The lines of a text, compared one after the other.
-use Rattle.trace_audit.proofs.Names.{◌≡◌, ◌≢◌, ℕ, ◌+◌, ◌<◌, List, [], ◌∷◌, ◌++◌, length, take, drop, refl, sym, ◌∙◌, ap, subst, arith}
-use Rattle.trace_audit.proofs.Names.{append_assoc, append-nil, length-append, IsTrue, told_later, octets-kept, FolderState, OnlyReads}
-use Rattle.trace_audit.proofs.Names.{Compared, IsFew, audited, trace_limit, front_of, rest_of, is_no_feed, text_of, AreWhole, IsCut}
-use Rattle.trace_audit.proofs.Names.{AreLines, HasFew, Comparison}
+use Rattle.trace_audit.proofs.Cited.{◌≡◌, ◌≢◌, ℕ, ◌+◌, ◌<◌, List, [], ◌∷◌, ◌++◌, length, take, drop, refl, sym, ◌∙◌, ap, subst, arith}
+use Rattle.trace_audit.proofs.Cited.{append_assoc, append-nil, length-append, IsTrue, told_later, octets-kept, FolderState, OnlyReads}
+use Rattle.trace_audit.proofs.Cited.{Compared, IsFew, audited, trace_limit, front_of, rest_of, is_no_feed, text_of, AreWhole, IsCut}
+use Rattle.trace_audit.proofs.Cited.{AreLines, HasFew, Comparison}
 use Rattle.trace_audit.proofs.Cuts.{first-front, first-rest, first-some, one-cut}
 
 -- an empty text has no line

@@ -1,6 +1,6 @@
 -- The text of a trace by its lines.
-use Rattle.trace_audit.proofs.Names.{arith, ◌≡◌, ℕ, List, [], ◌∷◌, ◌++◌, refl, sym, ap, append-nil, Turn, turn_text, trace_text, Originator}
-use Rattle.trace_audit.proofs.Names.{Answerer, text_of, turn_lines, trace_lines, TextsHaveLines}
+use Rattle.trace_audit.proofs.Cited.{arith, ◌≡◌, ℕ, List, [], ◌∷◌, ◌++◌, refl, sym, ap, append-nil, Turn, turn_text, trace_text, Originator}
+use Rattle.trace_audit.proofs.Cited.{Answerer, text_of, turn_lines, trace_lines, TextsHaveLines}
 use Rattle.link_run.specs.Trace.{side_line}
 use Rattle.trace_audit.proofs.Lines.{text_of-append}
 

@@ -1,10 +1,10 @@
 -- From a turn over the folder of an audit to the lines that it adds.
-use Rattle.trace_audit.proofs.Names.{◌≡◌, ℕ, ◌<◌, ◌^◌, Bool, true, false, List, [], ◌∷◌, ◌++◌, length, Result, Ok, Err, refl, sym, ◌∙◌, ap}
-use Rattle.trace_audit.proofs.Names.{subst, arith, append-nil, EndCounts, Stop, AsksInOctets, RunEnd, Written, outputs_of, LineRun, wire_of}
-use Rattle.trace_audit.proofs.Names.{link_of, IsApart, knows-later, KnowsFiles, script_of, turn_of, World, Outcome, Going, Turn, trace_text}
-use Rattle.trace_audit.proofs.Names.{turn_text, ScriptValue, IsInLimits, FolderState, Role, Originator, text_of, AreWhole, AreLines}
-use Rattle.trace_audit.proofs.Names.{chance_words, turn_lines, trace_lines, TextsHaveLines, TurnsHaveLines, ChancesHaveLines, IsReading}
-use Rattle.trace_audit.proofs.Names.{held_by, TurnMade}
+use Rattle.trace_audit.proofs.Cited.{◌≡◌, ℕ, ◌<◌, ◌^◌, Bool, true, false, List, [], ◌∷◌, ◌++◌, length, Result, Ok, Err, refl, sym, ◌∙◌, ap}
+use Rattle.trace_audit.proofs.Cited.{subst, arith, append-nil, EndCounts, Stop, AsksInOctets, RunEnd, Written, outputs_of, LineRun, wire_of}
+use Rattle.trace_audit.proofs.Cited.{link_of, IsApart, knows-later, KnowsFiles, script_of, turn_of, World, Outcome, Going, Turn, trace_text}
+use Rattle.trace_audit.proofs.Cited.{turn_text, ScriptValue, IsInLimits, FolderState, Role, Originator, text_of, AreWhole, AreLines}
+use Rattle.trace_audit.proofs.Cited.{chance_words, turn_lines, trace_lines, TextsHaveLines, TurnsHaveLines, ChancesHaveLines, IsReading}
+use Rattle.trace_audit.proofs.Cited.{held_by, TurnMade}
 use Rattle.std.specs.Prelude.{IfErr}
 use Rattle.outside_calls.specs.Outputs.{OnlyPuts}
 use Rattle.shared_terms.specs.declared.fault.LinkFault.TheVariants as causes

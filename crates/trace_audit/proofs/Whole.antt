@@ -1,11 +1,11 @@
 -- No line feed stands in a line that is read.
-use Rattle.trace_audit.proofs.Names.{◌≡◌, ℕ, ◌<◌, Bool, true, false, List, [], ◌++◌, codes, decimal, refl, subst, sym, arith, ◌∙◌, Option}
-use Rattle.trace_audit.proofs.Names.{Some, None, inl, inr, and_parts, nat_tests, list_all, IfSome, nat_le, BreakWord, Brk, Ack}
-use Rattle.trace_audit.proofs.Names.{parts_of_kind, FrameKind, kind_word, poll_word, number_word, line_begins, break_word, at-most}
-use Rattle.trace_audit.proofs.Names.{is_digit, role_word, Role, Shape, Numbered, Supervisory, Commanding, Responding, Rejecting, Exchanging}
-use Rattle.trace_audit.proofs.Names.{Unnumbered, count_bound, FrameWords, AreInRange, IsBreak, count_word, information_word, shape_text}
-use Rattle.trace_audit.proofs.Names.{IsFrameText, IsSignal, odp, adp, frame, IsHeard, nothing, lost, passed, IsSent, mark, flags, none}
-use Rattle.trace_audit.proofs.Names.{signal, HasParts, LineText}
+use Rattle.trace_audit.proofs.Cited.{◌≡◌, ℕ, ◌<◌, Bool, true, false, List, [], ◌++◌, codes, decimal, refl, subst, sym, arith, ◌∙◌, Option}
+use Rattle.trace_audit.proofs.Cited.{Some, None, inl, inr, and_parts, nat_tests, list_all, IfSome, nat_le, BreakWord, Brk, Ack}
+use Rattle.trace_audit.proofs.Cited.{parts_of_kind, FrameKind, kind_word, poll_word, number_word, line_begins, break_word, at-most}
+use Rattle.trace_audit.proofs.Cited.{is_digit, role_word, Role, Shape, Numbered, Supervisory, Commanding, Responding, Rejecting, Exchanging}
+use Rattle.trace_audit.proofs.Cited.{Unnumbered, count_bound, FrameWords, AreInRange, IsBreak, count_word, information_word, shape_text}
+use Rattle.trace_audit.proofs.Cited.{IsFrameText, IsSignal, odp, adp, frame, IsHeard, nothing, lost, passed, IsSent, mark, flags, none}
+use Rattle.trace_audit.proofs.Cited.{signal, HasParts, LineText}
 use Rattle.std.proofs.lemmas.List.Folds.{list_all-append}
 use Rattle.noise_script.proofs.Decimals.{both, number-all}
 use Rattle.trace_audit.proofs.Frames.{at-names}

@@ -1,9 +1,9 @@
 -- What the octets that a text begins with tell of it.
-use Rattle.trace_audit.proofs.Names.{◌≡◌, ◌≢◌, ℕ, zero, suc, ◌+◌, ◌-◌, ◌<◌, ◌≤◌, Bool, true, false, cond, List, [], ◌∷◌, ◌++◌, length, take}
-use Rattle.trace_audit.proofs.Names.{drop, refl, sym, ap, subst, ◌∙◌, arith, append_assoc, ◌⊎◌, inl, inr, length-append, append-nil}
-use Rattle.trace_audit.proofs.Names.{take-append-drop, length-take, and_parts, cases_lt, not-false, take_all, bytes_eq-Decides, list_all}
-use Rattle.trace_audit.proofs.Names.{◌==◌, bytes_eq, AuditCause, Spelling, front_of, rest_of, is_no_feed, fed, StopsIn, GoesOnWith}
-use Rattle.trace_audit.proofs.Names.{OwnDiffers, LineDiffers, HasParts, LineText}
+use Rattle.trace_audit.proofs.Cited.{◌≡◌, ◌≢◌, ℕ, zero, suc, ◌+◌, ◌-◌, ◌<◌, ◌≤◌, Bool, true, false, cond, List, [], ◌∷◌, ◌++◌, length, take}
+use Rattle.trace_audit.proofs.Cited.{drop, refl, sym, ap, subst, ◌∙◌, arith, append_assoc, ◌⊎◌, inl, inr, length-append, append-nil}
+use Rattle.trace_audit.proofs.Cited.{take-append-drop, length-take, and_parts, cases_lt, not-false, take_all, bytes_eq-Decides, list_all}
+use Rattle.trace_audit.proofs.Cited.{◌==◌, bytes_eq, AuditCause, Spelling, front_of, rest_of, is_no_feed, fed, StopsIn, GoesOnWith}
+use Rattle.trace_audit.proofs.Cited.{OwnDiffers, LineDiffers, HasParts, LineText}
 use Rattle.std.proofs.Common.{not}
 use Rattle.std.proofs.lemmas.Bool.{eqb-true, and_from}
 use Rattle.trace_audit.proofs.Fronts.{begins, front-rest, front-passes, front-reads, rest-reads}

@@ -1,7 +1,7 @@
 -- The words of a trace's lines are read.
-use Rattle.trace_audit.proofs.Names.{arith, ◌≡◌, ◌≢◌, true, false, ℕ, List, [], ◌∷◌, length, None, refl, subst, list_all, Heard, Chance}
-use Rattle.trace_audit.proofs.Names.{is_chance, TraceLine, of, Role, Originator, Answerer, HasParts, chance_words, AreLines, TurnsHaveLines}
-use Rattle.trace_audit.proofs.Names.{ChancesHaveLines, LinesAreRead, line_of, IsReadable, parts_of_line, text_of_line, LineText}
+use Rattle.trace_audit.proofs.Cited.{arith, ◌≡◌, ◌≢◌, true, false, ℕ, List, [], ◌∷◌, length, None, refl, subst, list_all, Heard, Chance}
+use Rattle.trace_audit.proofs.Cited.{is_chance, TraceLine, of, Role, Originator, Answerer, HasParts, chance_words, AreLines, TurnsHaveLines}
+use Rattle.trace_audit.proofs.Cited.{ChancesHaveLines, LinesAreRead, line_of, IsReadable, parts_of_line, text_of_line, LineText}
 use Rattle.link_run.specs.Run.{Side}
 use Rattle.trace_audit.specs.Cutting.{is_no_feed}
 use Rattle.trace_audit.specs.Lines.{side_words}

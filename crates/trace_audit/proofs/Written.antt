@@ -1,13 +1,13 @@
 -- What is written of a line has its parts.
-use Rattle.trace_audit.proofs.Names.{◌≡◌, ℕ, ◌<◌, ◌≤◌, Bool, true, false, cond, List, [], ◌∷◌, ◌++◌, length, codes, decimal, Option, Some}
-use Rattle.trace_audit.proofs.Names.{None, Result, Ok, Err, refl, sym, ap, subst, ◌∙◌, arith, append_assoc, length-append, append-nil, inl}
-use Rattle.trace_audit.proofs.Names.{inr, length-decimal-le, IfSome, BreakWord, Brk, Ack, Frame, Heard, Nothing, Passed, Lost, Chance, Sent}
-use Rattle.trace_audit.proofs.Names.{kind_word, poll_word, number_word, break_word, is_chance, line_begins, TraceLine, role_word, Role}
-use Rattle.trace_audit.proofs.Names.{Shape, Numbered, Supervisory, Commanding, Responding, Rejecting, Exchanging, Unnumbered, number_bound}
-use Rattle.trace_audit.proofs.Names.{count_bound, shape_named, FrameWords, IsBreak, count_word, information_word, shape_text, IsFrameText}
-use Rattle.trace_audit.proofs.Names.{IsSignal, odp, adp, frame, IsHeard, nothing, lost, passed, IsSent, mark, flags, none, signal, HasParts}
-use Rattle.trace_audit.proofs.Names.{chance_parts, IsReadableSent, IsReadableSignal, IsReadableHeard, IsReadable, text_of_line}
-use Rattle.trace_audit.proofs.Names.{parts_of_line}
+use Rattle.trace_audit.proofs.Cited.{◌≡◌, ℕ, ◌<◌, ◌≤◌, Bool, true, false, cond, List, [], ◌∷◌, ◌++◌, length, codes, decimal, Option, Some}
+use Rattle.trace_audit.proofs.Cited.{None, Result, Ok, Err, refl, sym, ap, subst, ◌∙◌, arith, append_assoc, length-append, append-nil, inl}
+use Rattle.trace_audit.proofs.Cited.{inr, length-decimal-le, IfSome, BreakWord, Brk, Ack, Frame, Heard, Nothing, Passed, Lost, Chance, Sent}
+use Rattle.trace_audit.proofs.Cited.{kind_word, poll_word, number_word, break_word, is_chance, line_begins, TraceLine, role_word, Role}
+use Rattle.trace_audit.proofs.Cited.{Shape, Numbered, Supervisory, Commanding, Responding, Rejecting, Exchanging, Unnumbered, number_bound}
+use Rattle.trace_audit.proofs.Cited.{count_bound, shape_named, FrameWords, IsBreak, count_word, information_word, shape_text, IsFrameText}
+use Rattle.trace_audit.proofs.Cited.{IsSignal, odp, adp, frame, IsHeard, nothing, lost, passed, IsSent, mark, flags, none, signal, HasParts}
+use Rattle.trace_audit.proofs.Cited.{chance_parts, IsReadableSent, IsReadableSignal, IsReadableHeard, IsReadable, text_of_line}
+use Rattle.trace_audit.proofs.Cited.{parts_of_line}
 use Rattle.std.proofs.Common.{◌||◌, nat_eq, nat_lt}
 use Rattle.frame_check.specs.Octets.{AreOctets}
 use Rattle.lapm_frames.specs.declared.frame.Frame.TheVariants as frames

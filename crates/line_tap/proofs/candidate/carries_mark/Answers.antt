@@ -1,4 +1,4 @@
-use Rattle.line_tap.proofs.Names.{◌-◌, ◌*◌, ◌∙◌, arith, ones}
+use Rattle.line_tap.proofs.Cited.{◌-◌, ◌*◌, ◌∙◌, arith, ones}
 use Rattle.line_tap.proofs.SameQuads.{begin-ones}
 use Rattle.line_tap.proofs.candidate.carries_mark.Goals as goal
 

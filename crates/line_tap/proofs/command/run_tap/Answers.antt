@@ -1,5 +1,5 @@
-use Rattle.line_tap.proofs.Names.{inl, ℕ, Ok, Err, ◌∙◌, stop-earlier, end-earlier, TapNames, named, inputs_of, outputs_of, recordings_of}
-use Rattle.line_tap.proofs.Names.{OnlyOutputs-trans, CountsStand-trans, AreApartFrom}
+use Rattle.line_tap.proofs.Cited.{inl, ℕ, Ok, Err, ◌∙◌, stop-earlier, end-earlier, TapNames, named, inputs_of, outputs_of, recordings_of}
+use Rattle.line_tap.proofs.Cited.{OnlyOutputs-trans, CountsStand-trans, AreApartFrom}
 use Rattle.outside_calls.proofs.Putting.{OnlyOutputs-puts}
 use Rattle.line_tap.specs.declared.limits.TheConstants.{LIMITS}
 use Rattle.line_tap.proofs.Taps.{headers-later, ends-creating, ends-turns}

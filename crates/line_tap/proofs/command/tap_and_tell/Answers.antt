@@ -1,4 +1,4 @@
-use Rattle.line_tap.proofs.Names.{◌∙◌, Err, TapNames, named}
+use Rattle.line_tap.proofs.Cited.{◌∙◌, Err, TapNames, named}
 use Rattle.command_base.proofs.Jobs.{answers-done, answers-stopped}
 use Rattle.line_tap.proofs.Taps.{refused-by}
 use Rattle.line_tap.proofs.command.tap_and_tell.Goals as goal

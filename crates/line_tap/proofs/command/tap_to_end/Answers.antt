@@ -1,5 +1,5 @@
-use Rattle.line_tap.proofs.Names.{[], sym, subst, ◌∙◌, end-earlier, TapNames, named, inputs_of, outputs_of, IsBegun, TapAfter, tapping}
-use Rattle.line_tap.proofs.Names.{no_octets, ScriptValue, OnlyOutputs-trans}
+use Rattle.line_tap.proofs.Cited.{[], sym, subst, ◌∙◌, end-earlier, TapNames, named, inputs_of, outputs_of, IsBegun, TapAfter, tapping}
+use Rattle.line_tap.proofs.Cited.{no_octets, ScriptValue, OnlyOutputs-trans}
 use Rattle.outside_calls.proofs.OnlyOutputs.{OnlyOutputs-reads}
 use Rattle.line_tap.specs.declared.limits.TheConstants.{LIMITS}
 use Rattle.line_tap.proofs.Taps.{ends-refused, end-widened}

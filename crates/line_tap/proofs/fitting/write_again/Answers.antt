@@ -1,5 +1,5 @@
-use Rattle.line_tap.proofs.Names.{◌∙◌, ◌*◌, ◌-◌, ◌≤◌, ◌++◌, ◌∷◌, [], ℕ, List, length, Some, sym, ap, subst, WriterStands, opening}
-use Rattle.line_tap.proofs.Names.{slot_bits, TAIL, slot_of, FlagSlot, Sent, signal_of, IsCodable}
+use Rattle.line_tap.proofs.Cited.{◌∙◌, ◌*◌, ◌-◌, ◌≤◌, ◌++◌, ◌∷◌, [], ℕ, List, length, Some, sym, ap, subst, WriterStands, opening}
+use Rattle.line_tap.proofs.Cited.{slot_bits, TAIL, slot_of, FlagSlot, Sent, signal_of, IsCodable}
 use Rattle.line_tap.proofs.fitting.write_again.Goals as goal
 
 pub slot-requires-clause-room : goal.slot-requires-clause-room

@@ -1,4 +1,4 @@
-use Rattle.line_tap.proofs.Names.{◌≡◌, ℕ, ◌+◌, List, [], length, take, ap, subst, arith, ReadTo, IsNotHeader, FolderState, header_of}
+use Rattle.line_tap.proofs.Cited.{◌≡◌, ℕ, ◌+◌, List, [], length, take, ap, subst, arith, ReadTo, IsNotHeader, FolderState, header_of}
 use Rattle.line_tap.specs.declared.limits.TheConstants.{TAP_LIMIT}
 use Rattle.line_tap.proofs.HeaderRead.{header-octets}
 use Rattle.line_tap.proofs.header.open_header.Goals as goal

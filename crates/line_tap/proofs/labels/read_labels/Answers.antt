@@ -1,5 +1,5 @@
-use Rattle.line_tap.proofs.Names.{◌∙◌, ◌+◌, ◌*◌, ◌≤◌, ◌++◌, ◌∷◌, [], ℕ, List, take, length, sym, ap, subst, arith, length-append, take_all}
-use Rattle.line_tap.proofs.Names.{ReadsLabels, samples_in, sample_at}
+use Rattle.line_tap.proofs.Cited.{◌∙◌, ◌+◌, ◌*◌, ◌≤◌, ◌++◌, ◌∷◌, [], ℕ, List, take, length, sym, ap, subst, arith, length-append, take_all}
+use Rattle.line_tap.proofs.Cited.{ReadsLabels, samples_in, sample_at}
 use Rattle.line_tap.proofs.PointLabels.{reads-more, count-samples, one-more, no-sequence}
 use Rattle.line_tap.proofs.labels.read_labels.Goals as goal
 

@@ -1,4 +1,4 @@
-use Rattle.line_tap.proofs.Names.{◌≡◌, ◌<◌, take, length, ReadsLabels, samples_in}
+use Rattle.line_tap.proofs.Cited.{◌≡◌, ◌<◌, take, length, ReadsLabels, samples_in}
 use Rattle.line_tap.proofs.labels.read_labels.Given as goal
 
 abbrev pub invariant-loop-place : goal.invariant-loop-place

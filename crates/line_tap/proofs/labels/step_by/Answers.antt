@@ -1,4 +1,4 @@
-use Rattle.line_tap.proofs.Names.{◌≡◌, ◌∙◌, Some, None, sym, ap, subst, NoStep, next_state}
+use Rattle.line_tap.proofs.Cited.{◌≡◌, ◌∙◌, Some, None, sym, ap, subst, NoStep, next_state}
 use Rattle.std.proofs.Common.{IfNone}
 use Rattle.trellis_tables.specs.V32Laws.{v32_within}
 use Rattle.line_tap.proofs.labels.step_by.Goals as goal

@@ -1,4 +1,4 @@
-use Rattle.line_tap.proofs.Names.{sym, ap, other}
+use Rattle.line_tap.proofs.Cited.{sym, ap, other}
 use Rattle.link_account.specs.Account.{window_for}
 use Rattle.line_tap.proofs.listener.window.Goals as goal
 

@@ -1,5 +1,5 @@
-use Rattle.line_tap.proofs.Names.{inl, inr, [], ◌∷◌, stop-earlier, ReadTo-kept, TapNames, named, inputs_of, OnlyReads-trans}
-use Rattle.line_tap.proofs.Names.{CountsStand-trans, FolderState, OnlyReads, Call}
+use Rattle.line_tap.proofs.Cited.{inl, inr, [], ◌∷◌, stop-earlier, ReadTo-kept, TapNames, named, inputs_of, OnlyReads-trans}
+use Rattle.line_tap.proofs.Cited.{CountsStand-trans, FolderState, OnlyReads, Call}
 use Rattle.command_base.proofs.Reading.{ReadTo-none}
 use Rattle.line_tap.specs.declared.limits.TheConstants.{TAP_LIMIT, LIMITS}
 use Rattle.line_tap.proofs.HeaderRead.{inputs-refused, both-read, header-read, orig-refused, answ-refused, stop-widened}

@@ -1,5 +1,5 @@
-use Rattle.line_tap.proofs.Names.{◌≡◌, ◌+◌, ◌≤◌, ◌<◌, ◌++◌, ℕ, List, length, take, drop, sym, ◌∙◌, subst, arith, take-append-le, take_all}
-use Rattle.line_tap.proofs.Names.{ReadTo, octets_at}
+use Rattle.line_tap.proofs.Cited.{◌≡◌, ◌+◌, ◌≤◌, ◌<◌, ◌++◌, ℕ, List, length, take, drop, sym, ◌∙◌, subst, arith, take-append-le, take_all}
+use Rattle.line_tap.proofs.Cited.{ReadTo, octets_at}
 use Rattle.line_tap.specs.declared.limits.TheConstants.{TAP_LIMIT}
 use Rattle.line_tap.proofs.pieces.read_into.Goals as goal
 

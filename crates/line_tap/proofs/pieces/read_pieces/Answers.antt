@@ -1,4 +1,4 @@
-use Rattle.line_tap.proofs.Names.{[], ◌∷◌, refl, stop-earlier, ReadTo-kept, Read, named, recordings_of, OnlyReads-trans, CountsStand-trans}
+use Rattle.line_tap.proofs.Cited.{[], ◌∷◌, refl, stop-earlier, ReadTo-kept, Read, named, recordings_of, OnlyReads-trans, CountsStand-trans}
 use Rattle.line_tap.specs.declared.limits.TheConstants.{TAP_LIMIT}
 use Rattle.line_tap.proofs.Causes.{read-among}
 use Rattle.line_tap.proofs.pieces.read_pieces.Goals as goal

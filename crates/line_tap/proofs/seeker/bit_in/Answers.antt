@@ -1,4 +1,4 @@
-use Rattle.line_tap.proofs.Names.{◌≡◌, ◌∙◌, ◌+◌, ◌*◌, ◌/◌, ◌%◌, ◌^◌, ◌<◌, ℕ, nat_eq, length, slice_index, sym, ap, arith, line_bits, bit_of}
+use Rattle.line_tap.proofs.Cited.{◌≡◌, ◌∙◌, ◌+◌, ◌*◌, ◌/◌, ◌%◌, ◌^◌, ◌<◌, ℕ, nat_eq, length, slice_index, sym, ap, arith, line_bits, bit_of}
 use Rattle.frame_check.proofs.BitLists.{get_or-low_bits}
 use Rattle.std.specs.Prelude.{false}
 use Rattle.line_tap.proofs.FoundSent.{bit-in}

@@ -1,5 +1,5 @@
-use Rattle.line_tap.proofs.Names.{◌≡◌, ◌∙◌, ◌+◌, ◌-◌, ◌*◌, ◌<◌, ◌≤◌, ℕ, Bool, List, [], length, drop, sym, ap, subst, arith, take_all}
-use Rattle.line_tap.proofs.Names.{pieces-none, length-line_bits, line_bits, DeframerStands, pieces_of, wholes, part}
+use Rattle.line_tap.proofs.Cited.{◌≡◌, ◌∙◌, ◌+◌, ◌-◌, ◌*◌, ◌<◌, ◌≤◌, ℕ, Bool, List, [], length, drop, sym, ap, subst, arith, take_all}
+use Rattle.line_tap.proofs.Cited.{pieces-none, length-line_bits, line_bits, DeframerStands, pieces_of, wholes, part}
 use Rattle.line_tap.proofs.Seeking.{part-none, none-more}
 use Rattle.line_tap.proofs.seeker.end_of_piece.Goals as goal
 

@@ -1,4 +1,4 @@
-use Rattle.line_tap.proofs.Names.{◌≡◌, ◌≤◌, ◌-◌, ◌*◌, [], length, line_bits, DeframerStands, pieces_of, wholes, part}
+use Rattle.line_tap.proofs.Cited.{◌≡◌, ◌≤◌, ◌-◌, ◌*◌, [], length, line_bits, DeframerStands, pieces_of, wholes, part}
 use Rattle.line_tap.proofs.seeker.end_of_piece.Given as goal
 
 abbrev pub invariant-loop-place : goal.invariant-loop-place

@@ -1,4 +1,4 @@
-use Rattle.line_tap.proofs.Names.{◌∙◌, Bool, List, ap, sym, subst, DeframerStands}
+use Rattle.line_tap.proofs.Cited.{◌∙◌, Bool, List, ap, sym, subst, DeframerStands}
 use Rattle.bit_stuffing.specs.Found.{answer_of}
 use Rattle.line_tap.proofs.Seeking.{slot-bit-more}
 use Rattle.line_tap.proofs.seeker.ends_piece.Goals as goal

@@ -1,4 +1,4 @@
-use Rattle.line_tap.proofs.Names.{◌∙◌, ◌<◌, ap, sym, subst, arith, IfSome, result_ok, checked, CanBeSent}
+use Rattle.line_tap.proofs.Cited.{◌∙◌, ◌<◌, ap, sym, subst, arith, IfSome, result_ok, checked, CanBeSent}
 use Rattle.std.proofs.lemmas.List.Elements.{All-from_get_or}
 use Rattle.std.specs.Prelude.{◌≡◌}
 use Rattle.line_tap.proofs.SentFrames.{ok-sendable, ok-spelled}

@@ -1,4 +1,4 @@
-use Rattle.line_tap.proofs.Names.{◌∙◌, Bool, List, ap, sym, subst, arith, DeframerStands, pieces_of}
+use Rattle.line_tap.proofs.Cited.{◌∙◌, Bool, List, ap, sym, subst, arith, DeframerStands, pieces_of}
 use Rattle.line_tap.proofs.Seeking.{quad-more}
 use Rattle.line_tap.proofs.seeker.passes_quad.Goals as goal
 

@@ -1,5 +1,5 @@
-use Rattle.line_tap.proofs.Names.{◌∙◌, refl, subst, stop-earlier, TapNames, named, outputs_of, recordings_of, tapping, ScriptValue}
-use Rattle.line_tap.proofs.Names.{IsInLimits, OnlyPuts-refl, OnlyPuts-trans, CountsStand-refl, CountsStand-trans}
+use Rattle.line_tap.proofs.Cited.{◌∙◌, refl, subst, stop-earlier, TapNames, named, outputs_of, recordings_of, tapping, ScriptValue}
+use Rattle.line_tap.proofs.Cited.{IsInLimits, OnlyPuts-refl, OnlyPuts-trans, CountsStand-refl, CountsStand-trans}
 use Rattle.line_tap.proofs.Reached.{reached-none, less-left, reached-going, reached-done, reached-stop}
 use Rattle.line_tap.proofs.turns.tap_turns.Goals as goal
 

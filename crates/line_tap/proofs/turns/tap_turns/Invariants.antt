@@ -1,4 +1,4 @@
-use Rattle.line_tap.proofs.Names.{◌≡◌, ◌-◌, named, outputs_of, IsReady, AreReadTo, no_octets, FolderState, CountsStand, OnlyPuts}
+use Rattle.line_tap.proofs.Cited.{◌≡◌, ◌-◌, named, outputs_of, IsReady, AreReadTo, no_octets, FolderState, CountsStand, OnlyPuts}
 use Rattle.line_tap.specs.declared.limits.TheConstants.{TAP_LIMIT}
 use Rattle.line_tap.proofs.Reached.{Reached}
 use Rattle.line_tap.proofs.turns.tap_turns.Given as goal

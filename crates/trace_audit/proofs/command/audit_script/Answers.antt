@@ -1,5 +1,5 @@
-use Rattle.trace_audit.proofs.Names.{[], sym, ap, subst, rules, EndCounts, AsksInOctets, Written, outputs_of, written, link_of, WorldAfter}
-use Rattle.trace_audit.proofs.Names.{start, ScriptValue, OnlyReads-refl, FolderState, RunIs, audit_inputs, AuditNames, named}
+use Rattle.trace_audit.proofs.Cited.{[], sym, ap, subst, rules, EndCounts, AsksInOctets, Written, outputs_of, written, link_of, WorldAfter}
+use Rattle.trace_audit.proofs.Cited.{start, ScriptValue, OnlyReads-refl, FolderState, RunIs, audit_inputs, AuditNames, named}
 use Rattle.outside_calls.specs.Outputs.{AreApartFrom}
 use Rattle.outside_calls.proofs.Steps.{FaultsStand-refl}
 use Rattle.line_run.specs.Names.{inputs_of}

@@ -1,4 +1,4 @@
-use Rattle.trace_audit.proofs.Names.{[], OnlyReads-trans, named, inputs_of}
+use Rattle.trace_audit.proofs.Cited.{[], OnlyReads-trans, named, inputs_of}
 use Rattle.command_base.proofs.Jobs.{end-earlier}
 use Rattle.trace_audit.proofs.command.audit_to_end.Goals as goal
 

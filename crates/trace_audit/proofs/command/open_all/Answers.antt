@@ -1,4 +1,4 @@
-use Rattle.trace_audit.proofs.Names.{[], rules, stop-earlier, OnlyReads-trans, CountsStand-trans, AuditNames, named, inputs_of}
+use Rattle.trace_audit.proofs.Cited.{[], rules, stop-earlier, OnlyReads-trans, CountsStand-trans, AuditNames, named, inputs_of}
 use Rattle.trace_audit.proofs.Opening.{refused-first, refused-trace, counts-first, counts-trace}
 use Rattle.trace_audit.proofs.command.open_all.Goals as goal
 use Rattle.command_base.proofs.Reading.{within-earlier}

@@ -1,4 +1,4 @@
-use Rattle.trace_audit.proofs.Names.{arith, audited}
+use Rattle.trace_audit.proofs.Cited.{arith, audited}
 use Rattle.trace_audit.proofs.comparing.compare_line.Goals as goal
 
 pub returns-in-Ok-clause-compared : goal.returns-in-Ok-clause-compared

@@ -1,5 +1,5 @@
-use Rattle.trace_audit.proofs.Names.{◌≢◌, ℕ, List, [], ◌∷◌, sym, ◌∙◌, IsTrue, stop-earlier, OnlyReads-refl, OnlyReads-trans}
-use Rattle.trace_audit.proofs.Names.{CountsStand-refl, CountsStand-trans, FolderState, audited}
+use Rattle.trace_audit.proofs.Cited.{◌≢◌, ℕ, List, [], ◌∷◌, sym, ◌∙◌, IsTrue, stop-earlier, OnlyReads-refl, OnlyReads-trans}
+use Rattle.trace_audit.proofs.Cited.{CountsStand-refl, CountsStand-trans, FolderState, audited}
 use Rattle.trace_audit.proofs.Windows.{empty, full}
 use Rattle.trace_audit.proofs.Splitting.{midway-start, next, next-line, next-few, shorter, midway-on, all-compared, all-counted}
 use Rattle.trace_audit.proofs.Splitting.{compared-later}

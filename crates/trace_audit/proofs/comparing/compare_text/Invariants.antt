@@ -1,4 +1,4 @@
-use Rattle.trace_audit.proofs.Names.{length, IsTrue, OnlyReads, CountsStand, audited}
+use Rattle.trace_audit.proofs.Cited.{length, IsTrue, OnlyReads, CountsStand, audited}
 use Rattle.trace_audit.proofs.Splitting.{Midway}
 use Rattle.trace_audit.proofs.comparing.compare_text.Given as goal
 

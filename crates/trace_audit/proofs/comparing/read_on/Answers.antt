@@ -1,4 +1,4 @@
-use Rattle.trace_audit.proofs.Names.{sym, ◌∙◌, arith, octets_at, trace_limit}
+use Rattle.trace_audit.proofs.Cited.{sym, ◌∙◌, arith, octets_at, trace_limit}
 use Rattle.trace_audit.proofs.ReadOn.{window-read, window-none}
 use Rattle.trace_audit.proofs.comparing.read_on.Goals as goal
 

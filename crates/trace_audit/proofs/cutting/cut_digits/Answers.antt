@@ -1,4 +1,4 @@
-use Rattle.trace_audit.proofs.Names.{◌∙◌, sym, is_digit}
+use Rattle.trace_audit.proofs.Cited.{◌∙◌, sym, is_digit}
 use Rattle.trace_audit.proofs.Fronts.{cut-front, cut-rest, whole-front, whole-rest}
 use Rattle.trace_audit.proofs.cutting.cut_digits.Goals as goal
 

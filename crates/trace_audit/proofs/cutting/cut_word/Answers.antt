@@ -1,4 +1,4 @@
-use Rattle.trace_audit.proofs.Names.{◌∙◌, refl, is_no_space}
+use Rattle.trace_audit.proofs.Cited.{◌∙◌, refl, is_no_space}
 use Rattle.trace_audit.proofs.Fronts.{cut-front, cut-rest, whole-front, whole-rest}
 use Rattle.trace_audit.proofs.cutting.cut_word.Goals as goal
 

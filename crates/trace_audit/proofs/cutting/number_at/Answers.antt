@@ -1,4 +1,4 @@
-use Rattle.trace_audit.proofs.Names.{◌∙◌, ap, option_map, plain_number}
+use Rattle.trace_audit.proofs.Cited.{◌∙◌, ap, option_map, plain_number}
 use Rattle.trace_audit.proofs.Numbers.{read-none, read-below, read-past}
 use Rattle.trace_audit.proofs.cutting.number_at.Goals as goal
 

@@ -1,4 +1,4 @@
-use Rattle.trace_audit.proofs.Names.{◌∙◌, sym, ap, subst, List, ℕ, ◌++◌, drop, length, Decides-eqb, OwnDiffers}
+use Rattle.trace_audit.proofs.Cited.{◌∙◌, sym, ap, subst, List, ℕ, ◌++◌, drop, length, Decides-eqb, OwnDiffers}
 use Rattle.std.proofs.lemmas.Slice.Eq.{starts_is}
 use Rattle.trace_audit.proofs.Windows.{stops-fed, goes-on, stops-within, departs, equal, unequal, empty, full, false-no}
 use Rattle.trace_audit.proofs.difference.difference.Goals as goal

@@ -1,4 +1,4 @@
-use Rattle.trace_audit.proofs.Names.{refl, sym, rules, not-false}
+use Rattle.trace_audit.proofs.Cited.{refl, sym, rules, not-false}
 use denote.Enum.Bare.{same_true, differs_true}
 use Rattle.shared_terms.specs.contracts.role.Role.{the_type}
 use Rattle.trace_audit.proofs.Windows.{differ, same-octets, given-differs}

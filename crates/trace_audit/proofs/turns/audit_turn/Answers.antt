@@ -1,5 +1,5 @@
-use Rattle.trace_audit.proofs.Names.{List, ℕ, [], sym, ◌∙◌, subst, rules, stop-earlier, Written, written, OnlyReads-trans}
-use Rattle.trace_audit.proofs.Names.{CountsStand-trans, IsCut, audit_inputs}
+use Rattle.trace_audit.proofs.Cited.{List, ℕ, [], sym, ◌∙◌, subst, rules, stop-earlier, Written, written, OnlyReads-trans}
+use Rattle.trace_audit.proofs.Cited.{CountsStand-trans, IsCut, audit_inputs}
 use Rattle.trace_audit.proofs.Running.{turn-few, turn-compared, trace-counts, files-counts, same-ok, no-ok}
 use Rattle.trace_audit.proofs.turns.audit_turn.Goals as goal
 

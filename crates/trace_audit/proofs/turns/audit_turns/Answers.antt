@@ -1,5 +1,5 @@
-use Rattle.trace_audit.proofs.Names.{Bool, Ok, [], refl, sym, ◌∙◌, ap, subst, rules, stop-earlier, AsksInOctets, written, turn_of}
-use Rattle.trace_audit.proofs.Names.{OnlyReads-refl, OnlyReads-trans, CountsStand-refl, CountsStand-trans, AreCompared, audit_inputs}
+use Rattle.trace_audit.proofs.Cited.{Bool, Ok, [], refl, sym, ◌∙◌, ap, subst, rules, stop-earlier, AsksInOctets, written, turn_of}
+use Rattle.trace_audit.proofs.Cited.{OnlyReads-refl, OnlyReads-trans, CountsStand-refl, CountsStand-trans, AreCompared, audit_inputs}
 use Rattle.line_world.proofs.Reached.{nearer}
 use Rattle.trace_audit.proofs.Running.{compared-none}
 use Rattle.trace_audit.proofs.turns.audit_turns.Goals as goal

@@ -1,4 +1,4 @@
-use Rattle.trace_audit.proofs.Names.{◌≡◌, ◌-◌, ◌^◌, true, written, script_of, turn_of, OnlyReads, CountsStand, AreCompared}
+use Rattle.trace_audit.proofs.Cited.{◌≡◌, ◌-◌, ◌^◌, true, written, script_of, turn_of, OnlyReads, CountsStand, AreCompared}
 use Rattle.line_world.specs.World.{IsReady}
 use Rattle.trace_audit.proofs.turns.audit_turns.Given as goal
 

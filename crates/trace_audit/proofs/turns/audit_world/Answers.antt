@@ -1,5 +1,5 @@
-use Rattle.trace_audit.proofs.Names.{Result, ℕ, [], sym, subst, stop-earlier, EndCounts, Stop, Written, written, script_of, ScriptValue}
-use Rattle.trace_audit.proofs.Names.{OnlyReads-trans, CountsStand-trans, FolderState, RunIs, audit_inputs}
+use Rattle.trace_audit.proofs.Cited.{Result, ℕ, [], sym, subst, stop-earlier, EndCounts, Stop, Written, written, script_of, ScriptValue}
+use Rattle.trace_audit.proofs.Cited.{OnlyReads-trans, CountsStand-trans, FolderState, RunIs, audit_inputs}
 use Rattle.trace_audit.proofs.Running.{end-few, ends-so, stops-so, found-counts, trace-counts}
 use Rattle.trace_audit.proofs.turns.audit_world.Goals as goal
 

@@ -1,4 +1,4 @@
-use Rattle.trace_audit.proofs.Names.{sym, ◌∙◌, ap, Ok, Err, Bool, written, turn_of}
+use Rattle.trace_audit.proofs.Cited.{sym, ◌∙◌, ap, Ok, Err, Bool, written, turn_of}
 use Rattle.line_world.specs.Turn.{turns_made}
 use Rattle.trace_audit.proofs.Turning.{LineLaws, made, stops-reading, end-counts, going-step}
 use Rattle.trace_audit.proofs.watching.make_turn.Goals as goal

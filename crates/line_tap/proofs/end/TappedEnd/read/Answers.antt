@@ -1,5 +1,5 @@
-use Rattle.line_tap.proofs.Names.{◌≡◌, ◌∙◌, ap, ◌<◌, ◌*◌, ◌++◌, length, take, arith, sym, subst, ℕ, List, Option, Some, None, take_all}
-use Rattle.line_tap.proofs.Names.{IfNone, Sent, AreFit, signals, ReadsNext, slot_as, IsNext, ReadsSlot, HoldsNext, samples_in}
+use Rattle.line_tap.proofs.Cited.{◌≡◌, ◌∙◌, ap, ◌<◌, ◌*◌, ◌++◌, length, take, arith, sym, subst, ℕ, List, Option, Some, None, take_all}
+use Rattle.line_tap.proofs.Cited.{IfNone, Sent, AreFit, signals, ReadsNext, slot_as, IsNext, ReadsSlot, HoldsNext, samples_in}
 use Rattle.std.proofs.lemmas.Option.{IfSome_then}
 use Rattle.line_tap.proofs.SlotNext.{none-held, short-held, reads-next}
 use Rattle.line_tap.proofs.end.TappedEnd.read.Goals as goal

@@ -1,5 +1,5 @@
-use Rattle.line_tap.proofs.Names.{refl, sym, ◌∙◌, ap, subst, Taking, StandsIn, delivered, EndListener, CountsStand-refl, CountsStand-trans}
-use Rattle.line_tap.proofs.Names.{FolderState, Appended, PartlyAppended}
+use Rattle.line_tap.proofs.Cited.{refl, sym, ◌∙◌, ap, subst, Taking, StandsIn, delivered, EndListener, CountsStand-refl, CountsStand-trans}
+use Rattle.line_tap.proofs.Cited.{FolderState, Appended, PartlyAppended}
 use Rattle.outside_calls.proofs.Steps.{FaultsStand-trans}
 use Rattle.line_world.proofs.Handing.{writes-on, writes-none}
 use Rattle.line_tap.proofs.Causes.{cause-earlier}

@@ -1,4 +1,4 @@
-use Rattle.line_tap.proofs.Names.{◌≡◌, length, Incoming, StandsIn, OnlyWrites, CountsStand}
+use Rattle.line_tap.proofs.Cited.{◌≡◌, length, Incoming, StandsIn, OnlyWrites, CountsStand}
 use Rattle.line_tap.proofs.Handing.{Handing}
 use Rattle.line_tap.proofs.listener.EndListener.deliver.Given as goal
 

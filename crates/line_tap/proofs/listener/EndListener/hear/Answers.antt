@@ -1,4 +1,4 @@
-use Rattle.line_tap.proofs.Names.{sym, subst, Heard, Overhears}
+use Rattle.line_tap.proofs.Cited.{sym, subst, Heard, Overhears}
 use Rattle.line_tap.proofs.listener.EndListener.hear.Goals as goal
 
 pub returns-in-Passed-clause-stands : goal.returns-in-Passed-clause-stands

@@ -1,4 +1,4 @@
-use Rattle.line_tap.proofs.Names.{refl, subst, StandsIn}
+use Rattle.line_tap.proofs.Cited.{refl, subst, StandsIn}
 use Rattle.lapm_receiver.specs.Incoming.{begun}
 use Rattle.line_tap.proofs.listener.EndListener.new.Goals as goal
 

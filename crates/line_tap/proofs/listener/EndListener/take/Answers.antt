@@ -1,4 +1,4 @@
-use Rattle.line_tap.proofs.Names.{◌≡◌, true, ◌++◌, sym, ◌∙◌, subst, I, Ui, Passed, Listens, given_in, given_by}
+use Rattle.line_tap.proofs.Cited.{◌≡◌, true, ◌++◌, sym, ◌∙◌, subst, I, Ui, Passed, Listens, given_in, given_by}
 use Rattle.lapm_frames.specs.declared.sent.Sent.TheVariants as slots
 use Rattle.lapm_receiver.specs.Incoming.{after_take}
 use Rattle.line_tap.proofs.Listening.{gives-no-segment, opens-no-segment, opens-no-word}

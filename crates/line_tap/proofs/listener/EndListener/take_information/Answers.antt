@@ -1,4 +1,4 @@
-use Rattle.line_tap.proofs.Names.{◌≡◌, ◌++◌, sym, ◌∙◌, ap, subst, Ok, Listens, given_in, given_by_word}
+use Rattle.line_tap.proofs.Cited.{◌≡◌, ◌++◌, sym, ◌∙◌, ap, subst, Ok, Listens, given_in, given_by_word}
 use Rattle.break_signals.specs.Words.{word_in}
 use Rattle.line_tap.proofs.listener.EndListener.take_information.Goals as goal
 

@@ -1,4 +1,4 @@
-use Rattle.line_tap.proofs.Names.{sym, subst, Passed, Sent, Overhears}
+use Rattle.line_tap.proofs.Cited.{sym, subst, Passed, Sent, Overhears}
 use Rattle.line_tap.proofs.listener.EndListener.take_slot.Goals as goal
 
 pub returns-in-Frame-clause-stands : goal.returns-in-Frame-clause-stands

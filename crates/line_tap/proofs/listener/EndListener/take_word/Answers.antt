@@ -1,4 +1,4 @@
-use Rattle.line_tap.proofs.Names.{◌≡◌, ◌%◌, ◌++◌, length, refl, sym, ◌∙◌, ap, subst, Ok, given_in, given_by_word}
+use Rattle.line_tap.proofs.Cited.{◌≡◌, ◌%◌, ◌++◌, length, refl, sym, ◌∙◌, ap, subst, Ok, given_in, given_by_word}
 use Rattle.break_signals.specs.declared.word.BreakWord.{BreakWord}
 use Rattle.break_signals.specs.Breaks.{TheirBreaks, gives}
 use Rattle.line_tap.proofs.Listening.{with-given}

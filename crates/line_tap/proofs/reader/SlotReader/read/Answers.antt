@@ -1,6 +1,6 @@
-use Rattle.line_tap.proofs.Names.{◌≡◌, ◌∙◌, ◌*◌, ◌++◌, ◌∷◌, [], ℕ, Bool, List, refl, sym, ap, subst, arith, line_bits, slot_bits}
-use Rattle.line_tap.proofs.Names.{signal_bits, slot_of, Sent, DemodulatorStands, Modulates, AreLabels, IsNext, carries, EndsAt, samples_in}
-use Rattle.line_tap.proofs.Names.{bits_behind, mode_of, IsCodable, tap_of, Mode, Sample, Leads, next_state}
+use Rattle.line_tap.proofs.Cited.{◌≡◌, ◌∙◌, ◌*◌, ◌++◌, ◌∷◌, [], ℕ, Bool, List, refl, sym, ap, subst, arith, line_bits, slot_bits}
+use Rattle.line_tap.proofs.Cited.{signal_bits, slot_of, Sent, DemodulatorStands, Modulates, AreLabels, IsNext, carries, EndsAt, samples_in}
+use Rattle.line_tap.proofs.Cited.{bits_behind, mode_of, IsCodable, tap_of, Mode, Sample, Leads, next_state}
 use Rattle.std.proofs.Common.{IfNone}
 use Rattle.trellis_tables.proofs.Sequences.{Leads-append}
 use Rattle.line_tap.specs.Seeking.{EndsBy}

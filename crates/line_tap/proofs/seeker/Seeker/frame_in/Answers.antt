@@ -1,5 +1,5 @@
-use Rattle.line_tap.proofs.Names.{◌≡◌, ◌∙◌, ◌+◌, List, Bool, [], length, drop, None, sym, ap, subst, arith, rules, line_bits, bit_of}
-use Rattle.line_tap.proofs.Names.{pieces_of, wholes, rest_of_flag, EndsFirst, FindsSent}
+use Rattle.line_tap.proofs.Cited.{◌≡◌, ◌∙◌, ◌+◌, List, Bool, [], length, drop, None, sym, ap, subst, arith, rules, line_bits, bit_of}
+use Rattle.line_tap.proofs.Cited.{pieces_of, wholes, rest_of_flag, EndsFirst, FindsSent}
 use Rattle.line_tap.proofs.FoundSent.{FoundLaws, finds-none, finds-there, none-there, first-there, found-at}
 use Rattle.line_tap.proofs.seeker.Seeker.frame_in.Goals as goal
 

@@ -1,5 +1,5 @@
-use Rattle.line_tap.proofs.Names.{inl, [], ◌∷◌, refl, TapNames, named, outputs_of, silent_in, terms_of, added, AddEach-next, AddPart-next}
-use Rattle.line_tap.proofs.Names.{OnlyPuts-one, OnlyPuts-trans, CountsStand-trans, FolderState, Originator, Answerer}
+use Rattle.line_tap.proofs.Cited.{inl, [], ◌∷◌, refl, TapNames, named, outputs_of, silent_in, terms_of, added, AddEach-next, AddPart-next}
+use Rattle.line_tap.proofs.Cited.{OnlyPuts-one, OnlyPuts-trans, CountsStand-trans, FolderState, Originator, Answerer}
 use Rattle.outside_calls.proofs.Putting.{KeepsEach-writes}
 use Rattle.command_base.proofs.Jobs.{write-earlier}
 use Rattle.line_tap.proofs.HeardSo.{behind-on}

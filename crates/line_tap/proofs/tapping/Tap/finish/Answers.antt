@@ -1,4 +1,4 @@
-use Rattle.line_tap.proofs.Names.{[], ◌∷◌, refl, subst, None, TapNames, named, Appended, PartlyAppended}
+use Rattle.line_tap.proofs.Cited.{[], ◌∷◌, refl, subst, None, TapNames, named, Appended, PartlyAppended}
 use Rattle.line_tap.proofs.TurnTexts.{text-is}
 use Rattle.line_tap.proofs.Causes.{write-among, writes-fail}
 use Rattle.line_tap.proofs.tapping.Tap.finish.Goals as goal

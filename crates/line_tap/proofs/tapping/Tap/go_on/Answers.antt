@@ -1,5 +1,5 @@
-use Rattle.line_tap.proofs.Names.{◌+◌, [], ◌∷◌, refl, subst, ap, ◌∙◌, Some, Sent, sent_by, Slot, TapNames, named, slots_as, line_of}
-use Rattle.line_tap.proofs.Names.{terms_of, told, Tap, check_by, Appended, PartlyAppended, Both, Originator, Answerer}
+use Rattle.line_tap.proofs.Cited.{◌+◌, [], ◌∷◌, refl, subst, ap, ◌∙◌, Some, Sent, sent_by, Slot, TapNames, named, slots_as, line_of}
+use Rattle.line_tap.proofs.Cited.{terms_of, told, Tap, check_by, Appended, PartlyAppended, Both, Originator, Answerer}
 use Rattle.line_world.proofs.Waiting.{room-of}
 use Rattle.line_tap.proofs.TurnTexts.{text-is}
 use Rattle.line_tap.proofs.Going.{after-going}

@@ -1,5 +1,5 @@
-use Rattle.line_tap.proofs.Names.{refl, sym, subst, rules, Check, Heard, both_sent_by, silent_in, line_of, terms_of, Tap, end_of, judged_by}
-use Rattle.line_tap.proofs.Names.{IsInLimits, Both, of, Originator, Answerer}
+use Rattle.line_tap.proofs.Cited.{refl, sym, subst, rules, Check, Heard, both_sent_by, silent_in, line_of, terms_of, Tap, end_of, judged_by}
+use Rattle.line_tap.proofs.Cited.{IsInLimits, Both, of, Originator, Answerer}
 use Rattle.line_tap.proofs.HeardSo.{LoneLaws, are-due, are-few, listens-too, ends-by, checks-so, hears-these, behind-on}
 use Rattle.line_tap.proofs.tapping.Tap.hear.Goals as goal
 

@@ -1,5 +1,5 @@
-use Rattle.line_tap.proofs.Names.{◌*◌, ◌≤◌, ◌++◌, take, List, ℕ, refl, sym, ◌∙◌, ap, subst, Check, slot_as, line_of, terms_of, check_by}
-use Rattle.line_tap.proofs.Names.{Originator, Answerer}
+use Rattle.line_tap.proofs.Cited.{◌*◌, ◌≤◌, ◌++◌, take, List, ℕ, refl, sym, ◌∙◌, ap, subst, Check, slot_as, line_of, terms_of, check_by}
+use Rattle.line_tap.proofs.Cited.{Originator, Answerer}
 use Rattle.line_tap.proofs.ToldFit.{FitLaws, told-fit}
 use Rattle.line_tap.proofs.Looking.{reads-too}
 use Rattle.line_tap.proofs.tapping.Tap.look.Goals as goal

@@ -1,4 +1,4 @@
-use Rattle.line_tap.proofs.Names.{[], ◌∷◌, TapNames, named, OnlyPuts-one}
+use Rattle.line_tap.proofs.Cited.{[], ◌∷◌, TapNames, named, OnlyPuts-one}
 use Rattle.line_tap.proofs.Turning.{meets-chance, stops-at-chance}
 use Rattle.line_tap.proofs.Causes.{write-among, writes-fail}
 use Rattle.line_tap.proofs.tapping.Tap.meet_chance.Goals as goal

@@ -1,5 +1,5 @@
-use Rattle.line_tap.proofs.Names.{◌≡◌, ◌≤◌, true, [], arith, refl, sym, ◌∙◌, subst, None, Tapping, tapping, line_of, terms_of, no_octets}
-use Rattle.line_tap.proofs.Names.{Tap, agree, Terms}
+use Rattle.line_tap.proofs.Cited.{◌≡◌, ◌≤◌, true, [], arith, refl, sym, ◌∙◌, subst, None, Tapping, tapping, line_of, terms_of, no_octets}
+use Rattle.line_tap.proofs.Cited.{Tap, agree, Terms}
 use Rattle.std.proofs.lemmas.Result.{err_from_is_err_and}
 use Rattle.line_tap.proofs.Beginning.{window-low, window-high, other-low, other-high, window-few, after-none}
 use Rattle.line_tap.proofs.tapping.Tap.new.Goals as goal

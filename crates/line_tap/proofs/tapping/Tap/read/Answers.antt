@@ -1,4 +1,4 @@
-use Rattle.line_tap.proofs.Names.{List, ℕ, ◌≤◌, ◌<◌, refl, sym, ◌∙◌, subst, Heard, named, InTurn, Tapping, Tap, Turn, Both}
+use Rattle.line_tap.proofs.Cited.{List, ℕ, ◌≤◌, ◌<◌, refl, sym, ◌∙◌, subst, Heard, named, InTurn, Tapping, Tap, Turn, Both}
 use Rattle.line_tap.proofs.Turning.{has-read-pieces, read-turn}
 use Rattle.line_tap.proofs.tapping.Tap.read.Given.{Over}
 use Rattle.line_tap.proofs.tapping.Tap.read.Goals.{After-read_pieces}

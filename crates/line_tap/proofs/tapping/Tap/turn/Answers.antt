@@ -1,6 +1,6 @@
-use Rattle.line_tap.proofs.Names.{List, ◌≡◌, ◌+◌, ◌∙◌, refl, sym, ap, subst, stop-earlier, Read, Write, EndsLine, TapNames, named}
-use Rattle.line_tap.proofs.Names.{outputs_of, recordings_of, AreReadTo, HearsSo, InTurn, IsToGo, TapAfter, going_in, slots_as, Tapping}
-use Rattle.line_tap.proofs.Names.{end_of, Turn, IsInLimits, OnlyPuts-refl, CountsStand-refl, CountsStand-trans, FolderState}
+use Rattle.line_tap.proofs.Cited.{List, ◌≡◌, ◌+◌, ◌∙◌, refl, sym, ap, subst, stop-earlier, Read, Write, EndsLine, TapNames, named}
+use Rattle.line_tap.proofs.Cited.{outputs_of, recordings_of, AreReadTo, HearsSo, InTurn, IsToGo, TapAfter, going_in, slots_as, Tapping}
+use Rattle.line_tap.proofs.Cited.{end_of, Turn, IsInLimits, OnlyPuts-refl, CountsStand-refl, CountsStand-trans, FolderState}
 use Rattle.line_world.specs.declared.directions.LineEnd.{LineEnd}
 use Rattle.line_tap.proofs.Turning.{HasPieces, now_of, loses-line, stops-delivering, stops-reading, ends-whole, stops-ending, ends-badly}
 use Rattle.line_tap.proofs.Turning.{so-heard, has-pieces, only-read, is-stopped, is-done, within-still, early-still, nearer-by, within-by}
