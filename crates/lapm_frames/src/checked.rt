@@ -1,9 +1,10 @@
 // Frames as octets with their check.
 ghost use Rattle.std.specs.Prelude.{◌≡◌, ◌<◌, ◌≤◌, ◌↔◌, ◌++◌, length, IfOk};
+ghost use Rattle.frame_check.specs.Division.{check_of};
 ghost use Rattle.frame_check.specs.declared.sizes.TheConstants.{INFO};
 ghost use Rattle.lapm_frames.specs.declared.frame.Frame.{Frame};
 ghost use Rattle.lapm_frames.specs.declared.fault.CheckedFault.{CheckedFault};
-ghost use Rattle.lapm_frames.specs.Frame.{IsFrame};
+ghost use Rattle.lapm_frames.specs.Frame.{information_of, spelled, IsFrame};
 ghost use Rattle.lapm_frames.specs.Checked.{check_for, check_heard, checked, IsCheckedFault, SpellsFrame};
 
 use crate::spelling::{HEAD, head, read_lent};
@@ -47,7 +48,9 @@ pub fn check_parts(frame: &Frame, check: Check, sender: Role, dlci: u8) -> Check
     requires channel { dlci < 64 }
     requires frame { IsFrame frame.now }
     ensures octets { result.head ++ result.information.now ++ result.check ≡ checked check sender dlci frame.now }
-    ensures information { length result.information.now ≤ INFO }
+    ensures information { result.information.now ≡ information_of frame.now }
+    ensures check { result.check ≡ check_of (check_for check frame.now) (spelled frame.now sender dlci) }
+    ensures room { length result.information.now ≤ INFO }
 {
     let parts = frame.parts();
     let head = head(&parts, sender, dlci);
