@@ -1,5 +1,5 @@
 // Samples to bits, as they come, into room that the caller has.
-ghost use Rattle.std.specs.Prelude.{◌≡◌, ◌≢◌, ◌+◌, ◌*◌, ◌<◌, ◌≤◌, ◌^◌, ◌++◌, ℕ, Bool, List, [], None, All, length, take, IfOk, MatchOption, MatchResult};
+ghost use Rattle.std.specs.Prelude.{◌≡◌, ◌≢◌, ◌+◌, ◌*◌, ◌<◌, ◌≤◌, ◌^◌, ◌++◌, ℕ, Bool, List, [], None, All, length, take, IfOk, IfErr, MatchOption, MatchResult};
 ghost use Rattle.scramblers.specs.declared.mode.Mode.{Mode};
 ghost use Rattle.symbol_map.specs.declared.sample.Sample.{Sample};
 ghost use Rattle.gateway.specs.declared.any_reader.LineKind.{LineKind};
@@ -196,6 +196,7 @@ impl SampleDecoder {
             → HasDecoded line mode self.new (samples ++ samples_in result.read parts.now) (before ++ given result.written bits.new) }
         ensures bits { AreBits result.written bits.new }
         ensures stops { StopsSo result.stop self.old (length parts.now) (length bits.new) result.read result.written self.new }
+        ensures late { result.stop ≡ DecoderStop.Late → bits.new ≡ bits.old }
         ensures length { length bits.new ≡ length bits.old }
         ensures read { 2 * result.read ≤ length parts.now }
         ensures written { result.written ≤ length bits.new }
@@ -243,6 +244,7 @@ impl SampleDecoder {
         ensures bits { IfOk result (λ written. AreBits written bits.new) }
         ensures answer { MatchResult result (λ _. IsIdle (decoding_of self.reader) × (512 ≤ length bits.new))
             (λ stopped. (stopped.0 ≡ self) × IsUnfinished stopped.1 (decoding_of self.reader) (length bits.new)) }
+        ensures room { IfErr result (λ _. bits.new ≡ bits.old) }
         ensures length { length bits.new ≡ length bits.old }
         ensures written { IfOk result (λ written. written ≤ length bits.new) }
     {

@@ -49,7 +49,8 @@ impl FrameReader {
 
     /// I frames and S frames have this check from now on, also one that has begun.
     pub fn set_check(&mut self, check: Check)
-        ensures { (sender : Role) (before : Check) (past : List Bool) → HasHeard sender before self.old past → HasHeard sender check self.new past }
+        ensures checks { (sender : Role) (before : Check) (past : List Bool) → HasHeard sender before self.old past → HasHeard sender check self.new past }
+        ensures is { self.new ≡ record self.old { check = check } }
     {
         self.check = check;
     }

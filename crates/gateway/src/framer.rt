@@ -132,6 +132,7 @@ impl FrameWriter {
         ensures writes { (symbols : ℕ) (signals : List Signal) → HasWritten symbols self.old signals
             → SlotWritten symbols signals (signal_of told.now) self.old bits.old self.new bits.new result }
         ensures bits { IfOk result (λ count. AreBits count bits.new) }
+        ensures within { IfOk result (λ count. count ≤ length bits.new) }
         ensures stays { IfErr result (λ stop. (self.new ≡ self.old) × (bits.new ≡ bits.old)) }
     {
         if !can_carry(self.symbols, told) {

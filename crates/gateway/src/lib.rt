@@ -18,13 +18,12 @@ mod parts;
 pub mod signal_laws;
 mod turns;
 
-pub use any_reader::{AnyReader, LineKind};
+pub use any_reader::LineKind;
 pub use decoder::{DecoderStop, LAST_BITS, Pushed, SampleDecoder};
 pub use deframer::{FrameReader, FrameStop};
 pub use detector::PatternDetector;
 pub use encoder::{Encoded, SampleEncoder};
 pub use framer::{FRAME_BITS, FrameWriter, SlotStop, frame_bits};
-pub use label_bits::LabelBits;
 pub use link::{BreakAsked, Endpoint, LinkStop, TurnState};
 pub use meter::{LockMeter, LockReading};
 pub use turns::{Carried, Told};

@@ -209,7 +209,7 @@ impl Endpoint {
         self.link.set_busy(busy);
     }
 
-    /// Whether its file has ended, and all of it is acknowledged.
+    /// Whether it is connected, its file has ended, and all of it is acknowledged.
     pub fn is_whole(&self) -> bool
         ensures { (a : Account) → StandsFor self.now.link a → result ≡ is_done a }
     {

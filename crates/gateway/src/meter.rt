@@ -29,7 +29,8 @@ pub struct LockReading {
     pub cost: u64,
     /// How many samples the costs are of.
     pub symbols: u64,
-    /// Whether this is so little that the bits were sent for certain.
+    /// Whether the cost is below 2.5 squares of a unit: a decoder of this mode then gives these bits, at most 126 samples behind. Others may be as
+    /// near at the end, and those that were sent needn't be these.
     pub sure: bool,
 }
 

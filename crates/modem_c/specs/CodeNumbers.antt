@@ -1,5 +1,5 @@
 -- The numbers that calls answer, as C knows them.
-use Rattle.std.specs.Prelude.{ℤ, pos, negsuc}
+use Rattle.std.specs.Prelude.{ℕ, ℤ, pos, negsuc}
 
 abbrev pub done : ℤ
 done = pos 0
@@ -33,3 +33,17 @@ order = negsuc 4  -- -5
 
 abbrev pub late : ℤ
 late = negsuc 5  -- -6
+
+-- where a kind of frames has no N(S) or no N(R)
+abbrev pub no_number : ℕ
+no_number = 255
+
+-- the most octets of information, and of a frame with its check; the bits that a frame alone needs room for
+abbrev pub most_information : ℕ
+most_information = 1024
+
+abbrev pub most_octets : ℕ
+most_octets = 1031
+
+abbrev pub most_bits : ℕ
+most_bits = 10460

@@ -1,5 +1,5 @@
 -- What a handle that leads to a decoder stands for, and what the calls on it answer.
-use Rattle.std.specs.Prelude.{◌≡◌, ◌⊎◌, ◌≤◌, ℕ, ℤ, Bool, List, Option, Some, IsSomeAnd}
+use Rattle.std.specs.Prelude.{◌≡◌, ◌⊎◌, ◌≤◌, ℕ, ℤ, Bool, List, length, Option, Some, IsSomeAnd}
 use Rattle.scramblers.specs.declared.mode.Mode.{Mode}
 use Rattle.symbol_map.specs.declared.sample.Sample.{Sample}
 use Rattle.gateway.specs.declared.any_reader.LineKind.{LineKind}
@@ -15,6 +15,7 @@ use Rattle.modem_c.specs.declared.progress.Progress.{Progress}
 use Rattle.modem_c.specs.declared.machine.Machine.{Machine}
 use Rattle.modem_c.specs.declared.machine.Machine.TheVariants as machines
 use Rattle.modem_c.specs.Led.{decoder_in}
+use Rattle.modem_c.specs.Progressed.{nothing_done}
 
 -- a decoder that has read these samples of such a line as these bits
 abbrev pub Decodes : LineKind → Mode → Option Machine → List Sample → List Bool → Type 0
@@ -33,17 +34,19 @@ lost_of stops.Full = 0
 lost_of (stops.Lost symbol) = symbol
 lost_of stops.Late = 0
 
--- what a push answers into a decoder, of so many parts with so much room
-abbrev pub PushAnswers : SampleDecoder → ℕ → ℕ → ℤ → Progress → SampleDecoder → Type 0
-PushAnswers old parts room code p new =
-    ((code ≡ DONE) × StopsSo stops.All old parts room p.read p.written new)
-    ⊎ ((code ≡ FULL) × StopsSo stops.Full old parts room p.read p.written new)
-    ⊎ ((code ≡ LOST) × StopsSo (stops.Lost p.lost) old parts room p.read p.written new)
-    ⊎ ((code ≡ LATE) × StopsSo stops.Late old parts room p.read p.written new)
+-- What a push answers into a decoder, of so many parts, with what was the room before. No symbol is told but of a line that is lost, and where none of
+-- the samples is read the room stays as it was.
+abbrev pub PushAnswers : SampleDecoder → ℕ → List ℕ → List ℕ → ℤ → Progress → SampleDecoder → Type 0
+PushAnswers old parts before room code p new =
+    ((code ≡ DONE) × (p.lost ≡ 0) × StopsSo stops.All old parts (length room) p.read p.written new)
+    ⊎ ((code ≡ FULL) × (p.lost ≡ 0) × StopsSo stops.Full old parts (length room) p.read p.written new)
+    ⊎ ((code ≡ LOST) × StopsSo (stops.Lost p.lost) old parts (length room) p.read p.written new)
+    ⊎ ((code ≡ LATE) × (p.lost ≡ 0) × (room ≡ before) × StopsSo stops.Late old parts (length room) p.read p.written new)
 
--- and at the line's end: the decoder is spent, or the handle stays as it was
-abbrev pub FinishAnswers : SampleDecoder → ℕ → ℤ → Progress → Option Machine → Option Machine → Type 0
-FinishAnswers decoder room code p old new =
-    ((code ≡ DONE) × (new ≡ Some machines.Spent) × IsIdle (decoding_of decoder.reader) × (512 ≤ room))
-    ⊎ ((code ≡ FULL) × (new ≡ old) × IsUnfinished stops.Full (decoding_of decoder.reader) room)
-    ⊎ ((code ≡ LOST) × (new ≡ old) × IsUnfinished (stops.Lost p.lost) (decoding_of decoder.reader) room)
+-- And at the line's end: the decoder is spent, or the handle and the room stay as they were. No sample is read, and bits are written by DONE alone.
+abbrev pub FinishAnswers : SampleDecoder → List ℕ → List ℕ → ℤ → Progress → Option Machine → Option Machine → Type 0
+FinishAnswers decoder before room code p old new =
+    ((code ≡ DONE) × (p.read ≡ 0) × (p.lost ≡ 0) × (new ≡ Some machines.Spent) × IsIdle (decoding_of decoder.reader) × (512 ≤ length room))
+    ⊎ ((code ≡ FULL) × (p ≡ nothing_done) × (room ≡ before) × (new ≡ old) × IsUnfinished stops.Full (decoding_of decoder.reader) (length room))
+    ⊎ ((code ≡ LOST) × (p.read ≡ 0) × (p.written ≡ 0) × (room ≡ before) × (new ≡ old)
+    × IsUnfinished (stops.Lost p.lost) (decoding_of decoder.reader) (length room))

@@ -16,11 +16,12 @@ use Rattle.gateway.specs.declared.deframer.FrameStop.{FrameStop}
 use Rattle.gateway.specs.declared.deframer.FrameStop.TheVariants as stops
 use Rattle.gateway.specs.Given.{heard}
 use Rattle.gateway.specs.Frames.{HasHeard, StopsAt}
-use Rattle.modem_c.specs.declared.codes.TheConstants.{DONE, NOTHING, FULL, NO_MEMORY, EMPTY, WRONG_KIND, BAD_ARGUMENT, LATE}
+use Rattle.modem_c.specs.declared.codes.TheConstants.{DONE, NOTHING, FULL, NO_MEMORY, BAD_ARGUMENT, LATE}
 use Rattle.modem_c.specs.declared.deframer.Found.{Found}
 use Rattle.modem_c.specs.declared.machine.Machine.{Machine}
+use Rattle.modem_c.specs.declared.machine.Machine.TheVariants as machines
 use Rattle.modem_c.specs.Answered.{Puts}
-use Rattle.modem_c.specs.FrameFields.{HasFields}
+use Rattle.modem_c.specs.FrameFields.{HasFields, no_fields}
 use Rattle.modem_c.specs.Led.{deframer_in}
 
 -- a deframer of what this end sends, where I frames and S frames have this check, that has heard these bits
@@ -34,35 +35,37 @@ MakesDeframer (Some sender) None before after code = (code ≡ BAD_ARGUMENT) × 
 MakesDeframer (Some sender) (Some check) before after code =
     ((code ≡ DONE) × Deframes sender check after []) ⊎ ((code ≡ NO_MEMORY) × (after ≡ before))
 
-abbrev pub ChecksMachine : Option FrameReader → Machine → Option Machine → ℤ → Type 0
-ChecksMachine None machine after code = (code ≡ WRONG_KIND) × (after ≡ Some machine)
-ChecksMachine (Some reader) machine after code = code ≡ DONE
+-- what setting a check answers at a deframer, which a number may not name: it is the same deframer but for the check
+abbrev pub SetsCheck : Option Check → FrameReader → Option Machine → Option Machine → ℤ → Type 0
+SetsCheck None reader before after code = (code ≡ BAD_ARGUMENT) × (after ≡ before)
+SetsCheck (Some check) reader before after code = (code ≡ DONE) × (after ≡ Some (machines.Deframer (record reader { check = check })))
 
--- what setting a check answers, which a number may not name: a deframer stays one
-abbrev pub AnswersCheck : Option Check → Option Machine → Option Machine → ℤ → Type 0
-AnswersCheck None before after code = (code ≡ BAD_ARGUMENT) × (after ≡ before)
-AnswersCheck (Some check) None after code = (code ≡ EMPTY) × (after ≡ None)
-AnswersCheck (Some check) (Some machine) after code = ChecksMachine (deframer_in (Some machine)) machine after code
+-- what is found where nothing is read
+abbrev pub nothing_found : Found
+nothing_found = record { read = 0; ended = 0; info = 0; piece = 0; fault = 0; octet = 0; frame = no_fields }
 
 -- a frame is told by its fields, and its information is written
 pub record TellsFrame (frame : Frame) (found : Found) (before room : List ℕ) : Type 0 where
   pub piece_is : found.piece ≡ 1
+  pub fault_is : found.fault ≡ 0
+  pub octet_is : found.octet ≡ 0
   pub info : List ℕ
   pub fields : HasFields frame found.frame info
   pub puts : Puts info before room found.info
 
--- a refused frame by the number of the reason, and by the octet where one is refused
-pub record TellsRefused (found : Found) (fault octet : ℕ) : Type 0 where
-  pub piece_is : found.piece ≡ 7
+-- what is no frame, by the number of what it is, and where it is refused by that of the reason, and by the octet where one is refused
+pub record TellsNoFrame (found : Found) (piece fault octet : ℕ) : Type 0 where
+  pub piece_is : found.piece ≡ piece
   pub fault_is : found.fault ≡ fault
   pub octet_is : found.octet ≡ octet
+  pub frame_is : found.frame ≡ no_fields
 
 abbrev pub TellsFault : CheckedFault → Found → Type 0
-TellsFault BadCheck found = found.piece ≡ 6
-TellsFault (Refused (Address octet)) found = TellsRefused found 1 octet
-TellsFault (Refused (Control octet)) found = TellsRefused found 2 octet
-TellsFault (Refused Short) found = TellsRefused found 3 0
-TellsFault (Refused (Long count)) found = TellsRefused found 4 0
+TellsFault BadCheck found = TellsNoFrame found 6 0 0
+TellsFault (Refused (Address octet)) found = TellsNoFrame found 7 1 octet
+TellsFault (Refused (Control octet)) found = TellsNoFrame found 7 2 octet
+TellsFault (Refused Short) found = TellsNoFrame found 7 3 0
+TellsFault (Refused (Long count)) found = TellsNoFrame found 7 4 0
 
 -- Whole octets are told as the frame that they are, sent by this end with this check, or by why they are none.
 pub data TellsOctets (sender : Role) (check : Check) (octets : List ℕ) (found : Found) (before room : List ℕ) : Type 0 where
@@ -73,7 +76,7 @@ pub data TellsOctets (sender : Role) (check : Check) (octets : List ℕ) (found 
 
 -- nothing but the number of a piece that isn't whole
 pub record TellsPiece (found : Found) (piece : ℕ) (before room : List ℕ) : Type 0 where
-  pub piece_is : found.piece ≡ piece
+  pub numbers : TellsNoFrame found piece 0 0
   pub puts : Puts [] before room found.info
 
 -- the piece that these bits end with
@@ -92,8 +95,7 @@ TellsStop sender check bits stops.Late found before room code = (code ≡ LATE) 
 
 -- What a push of these bits behind the past answers and tells, with what was the room before.
 pub data Pushed (sender : Role) (check : Check) (past : List Bool) (bits : List ℕ) (found : Found) (before room : List ℕ) (code : ℤ) : Type 0 where
-  NoRoom : length before < INFO → code ≡ FULL → found.read ≡ 0 → TellsPiece found 0 before room
-      → Pushed sender check past bits found before room code
+  NoRoom : length before < INFO → code ≡ FULL → found ≡ nothing_found → room ≡ before → Pushed sender check past bits found before room code
   Stopped : (stop : FrameStop) → INFO ≤ length before → StopsAt past bits found.read stop → found.ended ≡ length (past ++ heard found.read bits)
       → TellsStop sender check (past ++ heard found.read bits) stop found before room code
       → Pushed sender check past bits found before room code

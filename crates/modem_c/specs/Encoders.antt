@@ -14,7 +14,7 @@ abbrev pub Encodes : LineKind → Mode → Option Machine → List Bool → List
 Encodes line mode led bits samples = IsSomeAnd (encoder_in led) (λ it. HasEncoded line mode it bits samples)
 
 -- What a push answers of so many bits, with room for so many parts, where so many bits become a sample: fewer are left than that, or
--- there is no room for a sample more.
+-- there is no room for a sample more. No line is lost.
 abbrev pub EncodeAnswers : ℕ → ℕ → ℕ → ℤ → Progress → Type 0
 EncodeAnswers each bits room code p =
-    ((code ≡ DONE) × (bits < p.read + each)) ⊎ ((code ≡ FULL) × (p.read + each ≤ bits) × (room < 2 * p.written + 2))
+    (p.lost ≡ 0) × (((code ≡ DONE) × (bits < p.read + each)) ⊎ ((code ≡ FULL) × (p.read + each ≤ bits) × (room < 2 * p.written + 2)))

@@ -17,6 +17,10 @@ fields_of parts = record {
   nr = unwrap_or parts.nr NO_NUMBER;
 }
 
+-- the fields where there is no frame
+abbrev pub no_fields : FrameFields
+no_fields = record { control = 0; command = 0; pf = 0; ns = NO_NUMBER; nr = NO_NUMBER }
+
 -- the frame has these fields, and this information, which is empty where its kind has none
 pub record HasFields (frame : Frame) (fields : FrameFields) (info : List ℕ) : Type 0 where
   pub fields_are : fields ≡ fields_of (parts_of frame)

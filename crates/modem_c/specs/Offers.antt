@@ -42,9 +42,12 @@ kind_of (faults.Length at) = 3
 kind_of (faults.Value at) = 4
 kind_of (faults.Repeated at) = 5
 
+abbrev pub no_fault : OfferFault
+no_fault = record { at = 0; kind = 0 }
+
 -- what reading an information field answers: the offer that it spells, or its first fault
 pub data OfferRead (info : List ℕ) (before after : OfferFields) (fault : OfferFault) (code : ℤ) : Type 0 where
-  Spelled : (offer : Offer) → OfferSpelling info offer → after ≡ fields_of offer → fault.kind ≡ 0 → code ≡ DONE → OfferRead info before after fault code
+  Spelled : (offer : Offer) → OfferSpelling info offer → after ≡ fields_of offer → fault ≡ no_fault → code ≡ DONE → OfferRead info before after fault code
   Faulty : (first : XidFault) → FirstFault info first → fault.kind ≡ kind_of first → fault.at ≡ place_of first → code ≡ BAD_ARGUMENT → after ≡ before
       → OfferRead info before after fault code
 

@@ -80,8 +80,8 @@ fn push(machine: &mut Machine, parts: &[i16], bits: &mut [u8], progress: &mut Pr
         → Decodes line mode (Some machine.new) (samples ++ samples_in progress.new.read parts.now) (before ++ given progress.new.written bits.new) }
     ensures bits { AreBits progress.new.written bits.new }
     ensures answer { Answered (decoder_in (Some machine.old)) (Some machine.old) (Some machine.new) result
-        (λ old. IsSomeAnd (decoder_in (Some machine.new)) (PushAnswers old (length parts.now) (length bits.new) result progress.new)) }
-    ensures none { decoder_in (Some machine.old) ≡ None → progress.new ≡ nothing_done }
+        (λ old. IsSomeAnd (decoder_in (Some machine.new)) (PushAnswers old (length parts.now) bits.old bits.new result progress.new)) }
+    ensures none { decoder_in (Some machine.old) ≡ None → (progress.new ≡ nothing_done) × (bits.new ≡ bits.old) }
     ensures length { length bits.new ≡ length bits.old }
     ensures read { 2 * progress.new.read ≤ length parts.now }
     ensures written { progress.new.written ≤ length bits.new }
@@ -129,8 +129,8 @@ pub extern "C" fn modem_decoder_push(
         → Decodes line mode handle.new.value (samples ++ samples_in progress.new.read parts.now) (before ++ given progress.new.written bits.new) }
     ensures bits { AreBits progress.new.written bits.new }
     ensures answer { Answered (decoder_in handle.old.value) handle.old.value handle.new.value result
-        (λ old. IsSomeAnd (decoder_in handle.new.value) (PushAnswers old (length parts.now) (length bits.new) result progress.new)) }
-    ensures none { decoder_in handle.old.value ≡ None → progress.new ≡ nothing_done }
+        (λ old. IsSomeAnd (decoder_in handle.new.value) (PushAnswers old (length parts.now) bits.old bits.new result progress.new)) }
+    ensures none { decoder_in handle.old.value ≡ None → (progress.new ≡ nothing_done) × (bits.new ≡ bits.old) }
     ensures length { length bits.new ≡ length bits.old }
     ensures read { 2 * progress.new.read ≤ length parts.now }
     ensures written { progress.new.written ≤ length bits.new }
@@ -157,8 +157,8 @@ pub extern "C" fn modem_decoder_finish(
         → result ≡ DONE → Ends line mode samples before (given progress.new.written bits.new) }
     ensures bits { AreBits progress.new.written bits.new }
     ensures answer { Answered (decoder_in handle.old.value) handle.old.value handle.new.value result
-        (λ old. FinishAnswers old (length bits.new) result progress.new handle.old.value handle.new.value) }
-    ensures none { decoder_in handle.old.value ≡ None → progress.new ≡ nothing_done }
+        (λ old. FinishAnswers old bits.old bits.new result progress.new handle.old.value handle.new.value) }
+    ensures none { decoder_in handle.old.value ≡ None → (progress.new ≡ nothing_done) × (bits.new ≡ bits.old) }
     ensures length { length bits.new ≡ length bits.old }
     ensures written { progress.new.written ≤ length bits.new }
 {

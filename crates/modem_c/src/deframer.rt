@@ -1,14 +1,14 @@
 // Bits to frames.
-ghost use Rattle.std.specs.Prelude.{◌≡◌, ◌≢◌, ◌≤◌, ◌<ℤ◌, ◌++◌, [], Bool, List, Some, pos, length};
+ghost use Rattle.std.specs.Prelude.{◌≡◌, ◌≢◌, ◌≤◌, ◌<ℤ◌, ◌++◌, [], Bool, List, None, Some, pos, length};
 ghost use Rattle.shared_terms.specs.declared.role.Role.{Role};
 ghost use Rattle.frame_check.specs.declared.check.Check.{Check};
 ghost use Rattle.lapm_frames.specs.declared.frame.Frame.{Frame};
 ghost use Rattle.bit_stuffing.specs.Found.{lent_of};
 ghost use Rattle.gateway.specs.Frames.{HasHeard};
 ghost use Rattle.gateway.specs.Given.{heard};
-ghost use Rattle.modem_c.specs.Answered.{AnswersKind, Puts};
+ghost use Rattle.modem_c.specs.Answered.{Answered, AnswersKind, Puts};
 ghost use Rattle.modem_c.specs.Codes as codes;
-ghost use Rattle.modem_c.specs.Deframers.{AnswersCheck, Deframes, Lends, MakesDeframer, Pushed, Tells, TellsFault, TellsFrame, TellsPiece};
+ghost use Rattle.modem_c.specs.Deframers.{Deframes, Lends, MakesDeframer, Pushed, SetsCheck, Tells, TellsFault, TellsFrame, TellsNoFrame, nothing_found};
 ghost use Rattle.modem_c.specs.Led.{deframer_in};
 
 use crate::codes::{
@@ -46,11 +46,7 @@ pub struct Found {
 
 /// Nothing, before anything is read.
 fn nothing() -> Found
-    ensures piece { result.piece ≡ 0 }
-    ensures info { result.info ≡ 0 }
-    ensures fault { result.fault ≡ 0 }
-    ensures octet { result.octet ≡ 0 }
-    ensures read { result.read ≡ 0 }
+    ensures { result ≡ nothing_found }
 {
     Found {
         read: 0,
@@ -71,7 +67,8 @@ fn nothing() -> Found
 
 /// Reports a frame, and copies its information.
 fn tell_frame(frame: &LentFrame<'_>, room: &mut [u8], found: &mut Found)
-    requires { INFO ≤ length room.old }
+    requires room { INFO ≤ length room.old }
+    requires fresh { TellsNoFrame found.old 0 0 0 }
     ensures tells { TellsFrame frame.now found.new room.old room.new }
     ensures info { found.new.info ≤ length room.new }
     ensures read { found.new.read ≡ found.old.read }
@@ -87,7 +84,7 @@ fn tell_frame(frame: &LentFrame<'_>, room: &mut [u8], found: &mut Found)
 
 /// Reports why octets are no frame.
 fn tell_fault(fault: CheckedFault, found: &mut Found)
-    requires { found.old.octet ≡ 0 }
+    requires { TellsNoFrame found.old 0 0 0 }
     ensures tells { TellsFault fault found.new }
     ensures info { found.new.info ≡ found.old.info }
     ensures read { found.new.read ≡ found.old.read }
@@ -116,7 +113,7 @@ fn tell_fault(fault: CheckedFault, found: &mut Found)
 /// Reports the piece that ended with the last bit.
 fn tell_piece(reader: &FrameReader, piece: Piece, room: &mut [u8], found: &mut Found)
     requires room { INFO ≤ length room.old }
-    requires octet { found.old.octet ≡ 0 }
+    requires fresh { TellsNoFrame found.old 0 0 0 }
     requires info { found.old.info ≡ 0 }
     ensures tells { (sender : Role) (check : Check) (bits : List Bool) → HasHeard sender check reader.now bits
         → Tells sender check bits piece found.new room.old room.new }
@@ -166,13 +163,13 @@ fn hear(reader: &mut FrameReader, bits: &[u8], room: &mut [u8], found: &mut Foun
 
 /// Pushes bits into what a handle leads to.
 fn push(machine: &mut Machine, bits: &[u8], room: &mut [u8], found: &mut Found) -> i32
-    requires read { found.old.read ≡ 0 }
-    requires info { found.old.info ≡ 0 }
+    requires { found.old ≡ nothing_found }
     ensures deframes { (sender : Role) (check : Check) (past : List Bool) → Deframes sender check (Some machine.old) past
         → Deframes sender check (Some machine.new) (past ++ heard found.new.read bits.now) }
     ensures pushed { (sender : Role) (check : Check) (past : List Bool) → Deframes sender check (Some machine.old) past
         → Pushed sender check past bits.now found.new room.old room.new result }
     ensures kind { AnswersKind (Some machine.old) (deframer_in (Some machine.old)) result }
+    ensures none { deframer_in (Some machine.old) ≡ None → (found.new ≡ nothing_found) × (room.new ≡ room.old) }
     ensures stays { result <ℤ pos 0 → machine.new ≡ machine.old }
     ensures read { found.new.read ≤ length bits.now }
     ensures info { found.new.info ≤ length room.new }
@@ -203,26 +200,35 @@ pub extern "C" fn modem_deframer_new(
     )
 }
 
-/// I frames and S frames have a check of 16 bits, or of 32, from now on: also one that has begun.
-#[unsafe(no_mangle)]
-pub extern "C" fn modem_deframer_set_check(alloc: Global, handle: &mut Handle, check32: u8) -> i32
-    ensures answers { AnswersCheck (codes.check_of check32) handle.old.value handle.new.value result }
-    ensures checks { (sender : Role) (before check : Check) (past : List Bool) → Deframes sender before handle.old.value past
-        → codes.check_of check32 ≡ Some check → Deframes sender check handle.new.value past }
+/// Sets the check of what a handle leads to.
+fn set_check(machine: &mut Machine, check32: u8) -> i32
+    ensures answers { Answered (deframer_in (Some machine.old)) (Some machine.old) (Some machine.new) result
+        (λ reader. SetsCheck (codes.check_of check32) reader (Some machine.old) (Some machine.new) result) }
+    ensures checks { (sender : Role) (before check : Check) (past : List Bool) → Deframes sender before (Some machine.old) past
+        → codes.check_of check32 ≡ Some check → Deframes sender check (Some machine.new) past }
 {
+    let Machine::Deframer(reader) = machine else {
+        return WRONG_KIND;
+    };
     let Some(check) = check_of(check32) else {
         return BAD_ARGUMENT;
     };
+    reader.set_check(check);
+    DONE
+}
+
+/// I frames and S frames have a check of 16 bits, or of 32, from now on: also one that has begun.
+#[unsafe(no_mangle)]
+pub extern "C" fn modem_deframer_set_check(alloc: Global, handle: &mut Handle, check32: u8) -> i32
+    ensures answers { Answered (deframer_in handle.old.value) handle.old.value handle.new.value result
+        (λ reader. SetsCheck (codes.check_of check32) reader handle.old.value handle.new.value result) }
+    ensures checks { (sender : Role) (before check : Check) (past : List Bool) → Deframes sender before handle.old.value past
+        → codes.check_of check32 ≡ Some check → Deframes sender check handle.new.value past }
+{
     let Some(mut machine) = take(alloc, handle) else {
         return EMPTY;
     };
-    let code = match machine.as_mut() {
-        Machine::Deframer(reader) => {
-            reader.set_check(check);
-            DONE
-        }
-        _ => WRONG_KIND,
-    };
+    let code = set_check(machine.as_mut(), check32);
     put(alloc, handle, machine);
     code
 }
@@ -242,6 +248,7 @@ pub extern "C" fn modem_deframer_push(
     ensures pushed { (sender : Role) (check : Check) (past : List Bool) → Deframes sender check handle.old.value past
         → Pushed sender check past bits.now found.new room.old room.new result }
     ensures kind { AnswersKind handle.old.value (deframer_in handle.old.value) result }
+    ensures none { deframer_in handle.old.value ≡ None → (found.new ≡ nothing_found) × (room.new ≡ room.old) }
     ensures stays { result <ℤ pos 0 → handle.new.value ≡ handle.old.value }
     ensures length { length room.new ≡ length room.old }
     ensures read { found.new.read ≤ length bits.now }
@@ -286,6 +293,7 @@ pub extern "C" fn modem_deframer_octets(
     ensures lends { (sender : Role) (check : Check) (past : List Bool) → Deframes sender check handle.old.value past
         → Lends (lent_of past) room.old room.new count.new result }
     ensures kind { AnswersKind handle.old.value (deframer_in handle.old.value) result }
+    ensures none { deframer_in handle.old.value ≡ None → Puts [] room.old room.new count.new }
     ensures stays { handle.new.value ≡ handle.old.value }
     ensures length { length room.new ≡ length room.old }
     ensures within { count.new ≤ length room.new }

@@ -1,5 +1,5 @@
 // Bits to the patterns of the detection phase.
-ghost use Rattle.std.specs.Prelude.{◌≡◌, ◌≢◌, ◌≤◌, ◌++◌, [], Bool, List, ℕ, Some, length};
+ghost use Rattle.std.specs.Prelude.{◌≡◌, ◌≢◌, ◌≤◌, ◌++◌, [], Bool, List, ℕ, None, Some, length};
 ghost use Rattle.gateway.specs.Given.{heard};
 ghost use Rattle.gateway.specs.Sightings.{SeesAt};
 ghost use Rattle.modem_c.specs.Answered.{Made, Answered};
@@ -52,10 +52,12 @@ fn tell(count: usize, seen: Option<Seen>, read: &mut usize, kind: &mut u32) -> i
 
 /// Pushes bits into what a handle leads to.
 fn push(machine: &mut Machine, bits: &[u8], read: &mut usize, kind: &mut u32) -> i32
-    requires { read.old ≡ 0 }
+    requires read { read.old ≡ 0 }
+    requires kind { kind.old ≡ 0 }
     ensures detects { (past : List Bool) → Detects (Some machine.old) past → Detects (Some machine.new) (past ++ heard read.new bits.now) }
     ensures sights { (past : List Bool) → Detects (Some machine.old) past → Sights past bits.now read.new kind.new result }
     ensures answer { Answered (detector_in (Some machine.old)) (Some machine.old) (Some machine.new) result (λ _. (result ≢ EMPTY) × (result ≢ WRONG_KIND)) }
+    ensures none { detector_in (Some machine.old) ≡ None → (read.new ≡ 0) × (kind.new ≡ 0) }
     ensures read { read.new ≤ length bits.now }
 {
     match machine {
@@ -80,6 +82,7 @@ pub extern "C" fn modem_detector_push(
     ensures detects { (past : List Bool) → Detects handle.old.value past → Detects handle.new.value (past ++ heard read.new bits.now) }
     ensures sights { (past : List Bool) → Detects handle.old.value past → Sights past bits.now read.new kind.new result }
     ensures answer { Answered (detector_in handle.old.value) handle.old.value handle.new.value result (λ _. (result ≢ EMPTY) × (result ≢ WRONG_KIND)) }
+    ensures none { detector_in handle.old.value ≡ None → (read.new ≡ 0) × (kind.new ≡ 0) }
     ensures read { read.new ≤ length bits.now }
 {
     *read = 0;

@@ -79,7 +79,7 @@ pub extern "C" fn modem_encoder_push(
     ensures answer { Answered (encoder_in handle.old.value) handle.old.value handle.new.value result
         (λ old. EncodeAnswers (bits_each old) (length bits.now) (length parts.new) result progress.new
         × (progress.new.read ≡ bits_each old * progress.new.written)) }
-    ensures none { encoder_in handle.old.value ≡ None → progress.new ≡ nothing_done }
+    ensures none { encoder_in handle.old.value ≡ None → (progress.new ≡ nothing_done) × (parts.new ≡ parts.old) }
     ensures length { length parts.new ≡ length parts.old }
     ensures read { progress.new.read ≤ length bits.now }
     ensures written { 2 * progress.new.written ≤ length parts.new }

@@ -1,5 +1,5 @@
 // Frames, patterns, flags and ones to bits.
-ghost use Rattle.std.specs.Prelude.{◌≡◌, ◌≢◌, ◌≤◌, ◌∷◌, ◌++◌, [], ℕ, List, Some, MatchOption, pos, length};
+ghost use Rattle.std.specs.Prelude.{◌≡◌, ◌≢◌, ◌≤◌, ◌∷◌, ◌++◌, [], ℕ, List, None, Some, MatchOption, pos, length};
 ghost use Rattle.detection.specs.Slots.{CanCarry, Signal};
 ghost use Rattle.gateway.specs.Given.{AreBits};
 ghost use Rattle.gateway.specs.Signals.{signal_of};
@@ -68,6 +68,7 @@ fn write(
     ensures bits { AreBits written.new bits.new }
     ensures kind { (result ≢ EMPTY) × (result ≢ WRONG_KIND) }
     ensures stays { result ≢ pos 0 → writer.new ≡ writer.old }
+    ensures within { written.new ≤ length bits.new }
 {
     let Some(told) = told_by(kind, octets) else {
         return BAD_ARGUMENT;
@@ -97,7 +98,9 @@ fn write_to(
         → SlottedBy symbols signals (signal_by kind octets.now) bits.old bits.new written.new result }
     ensures bits { AreBits written.new bits.new }
     ensures kind { AnswersKind (Some machine.old) (framer_in (Some machine.old)) result }
+    ensures none { framer_in (Some machine.old) ≡ None → (written.new ≡ 0) × (bits.new ≡ bits.old) }
     ensures stays { result ≢ pos 0 → machine.new ≡ machine.old }
+    ensures within { written.new ≤ length bits.new }
 {
     match machine {
         Machine::Framer(writer) => write(writer, kind, octets, bits, written),
@@ -123,8 +126,10 @@ pub extern "C" fn modem_framer_slot(
         → SlottedBy symbols signals (signal_by kind octets.now) bits.old bits.new written.new result }
     ensures bits { AreBits written.new bits.new }
     ensures kind { AnswersKind handle.old.value (framer_in handle.old.value) result }
+    ensures none { framer_in handle.old.value ≡ None → (written.new ≡ 0) × (bits.new ≡ bits.old) }
     ensures stays { result ≢ pos 0 → handle.new.value ≡ handle.old.value }
     ensures length { length bits.new ≡ length bits.old }
+    ensures within { written.new ≤ length bits.new }
 {
     *written = 0;
     let Some(mut machine) = take(alloc, handle) else {
@@ -141,6 +146,8 @@ pub extern "C" fn modem_framer_slot(
 pub extern "C" fn modem_frame_bits(octets: &[u8], bits: &mut [u8], written: &mut usize) -> i32
     ensures writes { FrameAlone octets.now bits.old bits.new written.new result }
     ensures bits { AreBits written.new bits.new }
+    ensures length { length bits.new ≡ length bits.old }
+    ensures within { written.new ≤ length bits.new }
 {
     *written = 0;
     match frame_bits(octets, bits) {

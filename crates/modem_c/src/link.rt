@@ -76,7 +76,7 @@ pub struct Said {
 pub struct Standing {
     /// 0 detecting, 1 negotiating, 2 establishing, 3 connected, 4 releasing, 5 closed.
     pub phase: u32,
-    /// 1 where its file has ended and all of it is acknowledged, else 0.
+    /// 1 while it is connected, its file has ended, and all of it is acknowledged, else 0.
     pub whole: u32,
     /// 1 where the frames with numbers that it sends and hears now have a check of 32 bits, else 0.
     pub check32: u32,

@@ -11,7 +11,7 @@ ghost use Rattle.modem_c.specs.Answered.{Missing, Answered, MadeOf};
 ghost use Rattle.modem_c.specs.Codes as codes;
 ghost use Rattle.modem_c.specs.Led.{meter_in};
 ghost use Rattle.modem_c.specs.Progressed.{nothing_done};
-ghost use Rattle.modem_c.specs.Meters.{Meters, MeterAnswers};
+ghost use Rattle.modem_c.specs.Meters.{Meters, MeterAnswers, no_reading};
 
 use crate::codes::{BAD_ARGUMENT, DONE, EMPTY, LATE, WRONG_KIND, mode_of};
 use crate::handle::{Handle, make, put, take};
@@ -29,7 +29,8 @@ pub struct Reading {
     pub cost: u64,
     /// How many samples the costs are of.
     pub symbols: u64,
-    /// 1 where this is so little that the bits were sent for certain, else 0.
+    /// 1 where the cost is below 2.5 squares of a unit, else 0: a decoder of this mode then gives these bits, at most 126 samples behind. Others
+    /// may be as near at the end, and those that were sent needn't be these.
     pub sure: u8,
 }
 
@@ -104,6 +105,7 @@ pub extern "C" fn modem_meter_read(alloc: Global, handle: &mut Handle, reading: 
         → BitsCost mode bits samples reading.new.cost × (reading.new.symbols ≡ length samples) }
     ensures answer { Answered (meter_in handle.old.value) handle.old.value handle.new.value result
         (λ old. (result ≡ DONE) × (handle.new.value ≡ handle.old.value) × (reading.new.sure ≡ number (nat_lt reading.new.cost sure))) }
+    ensures none { meter_in handle.old.value ≡ None → reading.new ≡ no_reading }
 {
     *reading = Reading {
         cost: 0,
