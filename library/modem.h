@@ -32,9 +32,10 @@ extern "C" {
 /* ---- codes ---- */
 
 /* What a call returns: 0 it is done, above 0 something to look at, below 0 a mistake of the caller's, or no memory. A call that returns a code below 0
- * leaves the handle as it was. Where more than one would do, that of the handle comes first (but for modem_deframer_set_check, whose argument does), then that
- * of the arguments, then that of the room. MODEM_ORDER comes behind these; MODEM_LATE of a deframer behind that of the room, of a decoder before all but that of
- * the handle. */
+ * leaves the handle and the room as they were. Where more than one would do, that of the handle comes first, then that of the arguments, then that of the room.
+ * MODEM_ORDER comes behind these; MODEM_LATE of a deframer behind that of the room, of a decoder before all but that of the handle.
+ * Whatever a call returns, what it has nothing to say of is 0; but modem_link_standing, modem_xid_read and modem_xid_agree leave a struct as it was that they
+ * can't fill. */
 enum modem_code {
     MODEM_DONE = 0,
     MODEM_NOTHING = 1,      /* there is nothing to give */
@@ -83,7 +84,7 @@ enum modem_mode { MODEM_CALLING = 0, MODEM_ANSWERING = 1 };
 typedef struct modem_progress {
     size_t read;    /* samples that were read, or bits */
     size_t written; /* bits that were written, or samples */
-    uint64_t lost;  /* with MODEM_LOST: the symbol since which too many are undecided, counted from 0 */
+    uint64_t lost;  /* with MODEM_LOST: the symbol since which too many are undecided, counted from 0; else 0 */
 } modem_progress;
 
 int32_t modem_decoder_new(modem_decoder *decoder, uint8_t line, uint8_t mode) MODEM_CALL;
@@ -95,7 +96,7 @@ int32_t modem_decoder_new(modem_decoder *decoder, uint8_t line, uint8_t mode) MO
 int32_t modem_decoder_push(modem_decoder *decoder, const int16_t *parts, size_t count, uint8_t *bits, size_t room, modem_progress *progress) MODEM_CALL;
 
 /* The bits that still waited, at the line's end; of a line from its middle there are none. MODEM_FULL where bits wait that `push` is to give first, or the
- * room is less than MODEM_LAST_BITS; MODEM_LOST where the line is lost. Look at progress->written with MODEM_DONE alone. Once it returned that, the decoder is
+ * room is less than MODEM_LAST_BITS; MODEM_LOST where the line is lost. Bits are written with MODEM_DONE alone: once it returned that, the decoder is
  * finished. */
 #define MODEM_LAST_BITS 512
 int32_t modem_decoder_finish(modem_decoder *decoder, uint8_t *bits, size_t room, modem_progress *progress) MODEM_CALL;
@@ -155,9 +156,9 @@ typedef struct modem_found {
     uint64_t ended;    /* bits received in all, with these; 0 with MODEM_FULL */
     size_t info;       /* octets of information that were written */
     uint8_t piece;     /* enum modem_piece */
-    uint8_t fault;     /* of MODEM_REFUSED: 1 the address, 2 the control octet, 3 too short, 4 too long */
-    uint8_t octet;     /* the address or the control octet that was refused */
-    modem_frame frame; /* of MODEM_FRAME */
+    uint8_t fault;     /* of MODEM_REFUSED: 1 the address, 2 the control octet, 3 too short, 4 too long; else 0 */
+    uint8_t octet;     /* the address or the control octet that was refused, else 0 */
+    modem_frame frame; /* of MODEM_FRAME; else zeros, and MODEM_NO_NUMBER twice */
 } modem_found;
 
 #define MODEM_INFO 1024  /* the most octets of information */
@@ -227,7 +228,7 @@ typedef struct modem_terms {
 
 /* Why an information field is no offer. */
 typedef struct modem_xid_fault {
-    size_t at;     /* the octet at which, from 0 */
+    size_t at;     /* the octet at which, from 0; 0 where it is one */
     uint8_t cause; /* 0 it is one, 1 its format, 2 a second group of parameters, 3 a length, 4 a value below its least, 5 a parameter that stands again */
 } modem_xid_fault;
 
@@ -248,7 +249,7 @@ typedef struct modem_setup {
     uint8_t role;    /* enum modem_role */
 } modem_setup;
 
-/* Why a link broke. */
+/* Why a link broke. What the cause doesn't name is 0. */
 typedef struct modem_fault {
     uint32_t cause;        /* 0 it didn't, 1 no pattern of the answerer's was seen, 2 all tries are spent, 3 an acknowledgement of what wasn't sent,
                               4 the other end began anew, or sent FRMR, 5 it refused or hung up */

@@ -21,6 +21,54 @@ static size_t count;
 static uint32_t kind;
 static const modem_setup usual = {.offer = {128, 128, 15, 15, 1, 1}, .period = 20, .tries = 8, .role = MODEM_ORIGINATOR};
 
+/* Whatever stood in them, the outputs of a call that does nothing are these. */
+static void spoil(void)
+{
+    memset(&progress, 0xa5, sizeof progress);
+    memset(&found, 0xa5, sizeof found);
+    memset(&reading, 0xa5, sizeof reading);
+    memset(&why, 0xa5, sizeof why);
+    memset(&sent, 0xa5, sizeof sent);
+    memset(room, 0xa5, sizeof room);
+    memset(bits, 0xa5, sizeof bits);
+    count = 9;
+    kind = 9;
+    given = 9;
+}
+
+static int is_unwritten(void)
+{
+    for (size_t i = 0; i < sizeof room; i++)
+        if (room[i] != 0xa5)
+            return 0;
+    for (size_t i = 0; i < sizeof bits; i++)
+        if (bits[i] != 0xa5)
+            return 0;
+    return 1;
+}
+
+static int is_nothing_done(void)
+{
+    return progress.read == 0 && progress.written == 0 && progress.lost == 0 && is_unwritten();
+}
+
+static int has_no_frame(void)
+{
+    const modem_frame *frame = &found.frame;
+    return frame->control == 0 && frame->command == 0 && frame->pf == 0 && frame->ns == MODEM_NO_NUMBER && frame->nr == MODEM_NO_NUMBER;
+}
+
+static int is_nothing_found(void)
+{
+    return found.read == 0 && found.ended == 0 && found.info == 0 && found.piece == MODEM_NO_PIECE && found.fault == 0 && found.octet == 0 && has_no_frame()
+        && is_unwritten();
+}
+
+static int is_unbroken(void)
+{
+    return why.cause == 0 && why.nr == 0 && why.low == 0 && why.high == 0 && why.acknowledged == 0 && why.taken == 0 && why.since == 0;
+}
+
 static void empty_handles(void)
 {
     modem_decoder decoder = MODEM_NONE;
@@ -31,24 +79,34 @@ static void empty_handles(void)
     modem_framer framer = MODEM_NONE;
     modem_link link = MODEM_NONE;
     modem_free(&decoder);
-    assert(modem_decoder_push(&decoder, parts, 2000, bits, sizeof bits, &progress) == MODEM_EMPTY && progress.read == 0 && progress.written == 0);
-    assert(modem_decoder_finish(&decoder, bits, sizeof bits, &progress) == MODEM_EMPTY);
-    assert(modem_encoder_push(&encoder, bits, 8, parts, 2000, &progress) == MODEM_EMPTY);
-    assert(modem_meter_push(&meter, bits, 8, parts, 2000, &progress) == MODEM_EMPTY);
-    assert(modem_meter_read(&meter, &reading) == MODEM_EMPTY);
-    assert(modem_deframer_push(&deframer, bits, 8, room, sizeof room, &found) == MODEM_EMPTY);
-    assert(modem_deframer_octets(&deframer, room, sizeof room, &count) == MODEM_EMPTY);
+    spoil();
+    assert(modem_decoder_push(&decoder, parts, 2000, bits, sizeof bits, &progress) == MODEM_EMPTY && is_nothing_done());
+    spoil();
+    assert(modem_decoder_finish(&decoder, bits, sizeof bits, &progress) == MODEM_EMPTY && is_nothing_done());
+    spoil();
+    assert(modem_encoder_push(&encoder, bits, 8, parts, 2000, &progress) == MODEM_EMPTY && is_nothing_done());
+    spoil();
+    assert(modem_meter_push(&meter, bits, 8, parts, 2000, &progress) == MODEM_EMPTY && is_nothing_done());
+    assert(modem_meter_read(&meter, &reading) == MODEM_EMPTY && reading.cost == 0 && reading.symbols == 0 && reading.sure == 0);
+    assert(modem_deframer_push(&deframer, bits, 8, room, sizeof room, &found) == MODEM_EMPTY && is_nothing_found());
+    assert(modem_deframer_octets(&deframer, room, sizeof room, &count) == MODEM_EMPTY && count == 0 && is_unwritten());
     assert(modem_deframer_set_check(&deframer, 1) == MODEM_EMPTY);
-    assert(modem_detector_push(&detector, bits, 8, &count, &kind) == MODEM_EMPTY);
-    assert(modem_framer_slot(&framer, MODEM_FLAGS, room, 0, bits, sizeof bits, &count) == MODEM_EMPTY);
-    assert(modem_link_receive(&link, MODEM_ONES, room, 0, &given, &why) == MODEM_EMPTY);
-    assert(modem_link_deliver(&link, room, sizeof room, &count) == MODEM_EMPTY);
-    assert(modem_link_wants(&link, &count) == MODEM_EMPTY);
+    assert(modem_deframer_set_check(&deframer, 7) == MODEM_EMPTY);
+    spoil();
+    assert(modem_detector_push(&detector, bits, 8, &count, &kind) == MODEM_EMPTY && count == 0 && kind == 0);
+    spoil();
+    assert(modem_framer_slot(&framer, MODEM_FLAGS, room, 0, bits, sizeof bits, &count) == MODEM_EMPTY && count == 0 && is_unwritten());
+    assert(modem_link_receive(&link, MODEM_ONES, room, 0, &given, &why) == MODEM_EMPTY && given == -1 && is_unbroken());
+    spoil();
+    assert(modem_link_deliver(&link, room, sizeof room, &count) == MODEM_EMPTY && count == 0 && is_unwritten());
+    spoil();
+    assert(modem_link_wants(&link, &count) == MODEM_EMPTY && count == 0);
     assert(modem_link_offer(&link, room, 1) == MODEM_EMPTY);
     assert(modem_link_ask_break(&link, 1) == MODEM_EMPTY);
     assert(modem_link_set_busy(&link, 1) == MODEM_EMPTY);
     assert(modem_link_standing(&link, &standing) == MODEM_EMPTY);
-    assert(modem_link_send(&link, 0, room, sizeof room, &sent, &why) == MODEM_EMPTY);
+    assert(modem_link_send(&link, 0, room, sizeof room, &sent, &why) == MODEM_EMPTY && sent.kind == MODEM_ONES && sent.octets == 0 && is_unbroken());
+    assert(is_unwritten());
 }
 
 static void arguments(void)
@@ -91,21 +149,34 @@ static void lines(void)
     assert(code == MODEM_DONE);
     assert(modem_decoder_push(&decoder, parts, 3, bits, sizeof bits, &progress) == MODEM_DONE && progress.read == 1);
     assert(modem_decoder_push(&decoder, parts, 0, bits, 0, &progress) == MODEM_DONE && progress.read == 0 && progress.written == 0);
-    assert(modem_decoder_finish(&decoder, bits, MODEM_LAST_BITS - 1, &progress) == MODEM_FULL);
+    spoil();
+    assert(modem_decoder_finish(&decoder, bits, MODEM_LAST_BITS - 1, &progress) == MODEM_FULL && is_nothing_done());
     for (int i = 0; i < 100 && code == MODEM_DONE; i++)
         code = modem_decoder_push(&decoder, parts, 2000, bits, sizeof bits, &progress);
     assert(code == MODEM_LOST);
-    assert(modem_decoder_push(&decoder, parts, 2, bits, sizeof bits, &progress) == MODEM_LOST);
-    assert(modem_decoder_finish(&decoder, bits, sizeof bits, &progress) == MODEM_LOST);
+    const uint64_t lost = progress.lost;
+    assert(modem_decoder_push(&decoder, parts, 2, bits, sizeof bits, &progress) == MODEM_LOST && progress.lost == lost && progress.read == 0);
+    spoil();
+    assert(modem_decoder_finish(&decoder, bits, sizeof bits, &progress) == MODEM_LOST && progress.lost == lost);
+    assert(progress.read == 0 && progress.written == 0 && is_unwritten());
     modem_free(&decoder);
     assert(decoder.at == NULL);
     assert(modem_decoder_new(&decoder, MODEM_9600, MODEM_CALLING) == MODEM_DONE);
     assert(modem_decoder_finish(&decoder, bits, sizeof bits, &progress) == MODEM_DONE && progress.written == 0);
-    assert(modem_decoder_push(&decoder, parts, 2, bits, sizeof bits, &progress) == MODEM_WRONG_KIND);
+    spoil();
+    assert(modem_decoder_push(&decoder, parts, 2, bits, sizeof bits, &progress) == MODEM_WRONG_KIND && is_nothing_done());
     /* the one before is freed */
     assert(modem_decoder_new(&decoder, MODEM_9600_MIDDLE, MODEM_ANSWERING) == MODEM_DONE);
     /* a handle that leads to something else, past the compiler */
-    assert(modem_deframer_push((modem_deframer *)&decoder, bits, 8, room, sizeof room, &found) == MODEM_WRONG_KIND);
+    spoil();
+    assert(modem_deframer_push((modem_deframer *)&decoder, bits, 8, room, sizeof room, &found) == MODEM_WRONG_KIND && is_nothing_found());
+    assert(modem_deframer_set_check((modem_deframer *)&decoder, 7) == MODEM_WRONG_KIND);
+    assert(modem_deframer_octets((modem_deframer *)&decoder, room, sizeof room, &count) == MODEM_WRONG_KIND && count == 0 && is_unwritten());
+    spoil();
+    assert(modem_detector_push((modem_detector *)&decoder, bits, 8, &count, &kind) == MODEM_WRONG_KIND && count == 0 && kind == 0);
+    spoil();
+    assert(modem_framer_slot((modem_framer *)&decoder, MODEM_FLAGS, room, 0, bits, sizeof bits, &count) == MODEM_WRONG_KIND && count == 0 && is_unwritten());
+    assert(modem_meter_read((modem_meter *)&decoder, &reading) == MODEM_WRONG_KIND && reading.cost == 0 && reading.symbols == 0 && reading.sure == 0);
     assert(modem_link_offer((modem_link *)&decoder, bits, 8) == MODEM_WRONG_KIND);
     modem_free(&decoder);
     modem_free(&decoder);
@@ -158,7 +229,10 @@ static void frames(void)
     assert(modem_deframer_push(&deframer, bits, count, room, sizeof room, &found) == MODEM_DONE && found.piece == MODEM_FRAME);
     assert(found.read == count && found.ended == count && found.frame.control == 0x6f && found.frame.pf == 1 && found.info == 0);
     assert(modem_deframer_octets(&deframer, room, sizeof room, &count) == MODEM_DONE && count == 4 && room[1] == 0x7f);
-    assert(modem_deframer_push(&deframer, bits, 3, room, MODEM_INFO - 1, &found) == MODEM_FULL);
+    assert(found.fault == 0 && found.octet == 0);
+    spoil();
+    assert(modem_deframer_push(&deframer, bits, 3, room, MODEM_INFO - 1, &found) == MODEM_FULL && is_nothing_found());
+    assert(modem_deframer_set_check(&deframer, 2) == MODEM_BAD_ARGUMENT && modem_deframer_set_check(&deframer, 1) == MODEM_DONE);
     frame.control = 0x6e;
     assert(modem_frame_write(&frame, room, 0, 0, 0, room, sizeof room, &octets) == MODEM_BAD_ARGUMENT);
     frame = (modem_frame){.control = 0x00, .command = 1, .pf = 0, .ns = 128, .nr = 0};
