@@ -38,7 +38,7 @@ late = negsuc 5  -- -6
 abbrev pub no_number : ℕ
 no_number = 255
 
--- the most octets of information, and of a frame with its check; the bits that a frame alone needs room for
+-- the most octets of information, and of a frame with its check; the bits that a frame alone needs room for; the octets of an offer
 abbrev pub most_information : ℕ
 most_information = 1024
 
@@ -47,3 +47,6 @@ most_octets = 1031
 
 abbrev pub most_bits : ℕ
 most_bits = 10460
+
+abbrev pub offer_octets : ℕ
+offer_octets = 23

@@ -1,6 +1,8 @@
 //! Theorems of the numbers that C sees. The functions do nothing: each theorem is a contract.
-ghost use Rattle.std.specs.Prelude.{◌≡◌, ◌*◌};
+ghost use Rattle.std.specs.Prelude.{◌≡◌, ◌*◌, length};
 ghost use Rattle.frame_check.specs.declared.sizes.TheConstants.{SLOT};
+ghost use Rattle.xid_params.specs.declared.offer.Offer.{Offer};
+ghost use Rattle.xid_params.specs.Offers.{written};
 ghost use Rattle.modem_c.specs.CodeNumbers as numbers;
 
 use crate::codes::{
@@ -10,12 +12,13 @@ use crate::frame::NO_NUMBER;
 use frame_check::{INFO, WHOLE};
 use gateway::FRAME_BITS;
 
-/// Stands in place of a number that a frame hasn't, and the rooms that calls ask for: the numbers that `modem.h` gives them.
+/// Stands in place of a number that a frame hasn't, and the octets and bits that calls want room for: the numbers that `modem.h` gives them.
 pub fn sizes_by_number()
     ensures no_number { NO_NUMBER ≡ numbers.no_number }
     ensures information { INFO ≡ numbers.most_information }
     ensures octets { WHOLE ≡ numbers.most_octets }
     ensures bits { 4 * SLOT ≡ numbers.most_bits }
+    ensures offer { (offer : Offer) → length (written offer) ≡ numbers.offer_octets }
 {
     let _number = NO_NUMBER;
     let _sizes = [INFO, WHOLE, FRAME_BITS];
