@@ -34,8 +34,8 @@ lost_of stops.Full = 0
 lost_of (stops.Lost symbol) = symbol
 lost_of stops.Late = 0
 
--- What a push answers into a decoder, of so many parts, with what was the room before. No symbol is told but of a line that is lost, and where none of
--- the samples is read the room stays as it was.
+-- What a push answers into a decoder, of so many parts, with what was the room before. No symbol is told but of a line that is lost, and where the samples
+-- are too many for a line the room stays as it was.
 abbrev pub PushAnswers : SampleDecoder → ℕ → List ℕ → List ℕ → ℤ → Progress → SampleDecoder → Type 0
 PushAnswers old parts before room code p new =
     ((code ≡ DONE) × (p.lost ≡ 0) × StopsSo stops.All old parts (length room) p.read p.written new)
