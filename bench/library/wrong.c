@@ -301,26 +301,35 @@ static void random_calls(long calls)
         case 5: code = modem_framer_new(any, (uint16_t)(rand() % 3000)); break;
         case 6: case 7:
             code = modem_decoder_push(any, parts, a % 64, bits, b % 128, &progress);
-            assert(progress.written <= b % 128 && 2 * progress.read <= a % 64);
+            assert(progress.written <= b % 128 && 2 * progress.read <= a % 64 && (code == MODEM_LOST || progress.lost == 0));
             bits_alone(progress.written);
             break;
-        case 8: code = modem_decoder_finish(any, bits, b, &progress); assert(progress.written <= b); bits_alone(progress.written); break;
+        case 8:
+            code = modem_decoder_finish(any, bits, b, &progress);
+            assert(progress.read == 0 && progress.written <= (code == MODEM_DONE ? b : 0) && (code == MODEM_LOST || progress.lost == 0));
+            bits_alone(progress.written);
+            break;
         case 9: case 10:
             code = modem_encoder_push(any, bits, b, parts, a, &progress);
-            assert(progress.read <= b && 2 * progress.written <= a);
+            assert(progress.read <= b && 2 * progress.written <= a && progress.lost == 0);
             break;
-        case 11: code = modem_meter_push(any, bits, b, parts, a, &progress); assert(progress.read <= b && progress.read <= 2 * a); break;
-        case 12: code = modem_meter_read(any, &reading); break;
+        case 11:
+            code = modem_meter_push(any, bits, b, parts, a, &progress);
+            assert(progress.read <= b && progress.read <= 2 * a && progress.written == 0 && progress.lost == 0);
+            break;
+        case 12: code = modem_meter_read(any, &reading); assert(code == MODEM_DONE || (reading.cost == 0 && reading.symbols == 0 && reading.sure == 0)); break;
         case 13: case 14:
             code = modem_deframer_push(any, bits, b, room, c, &found);
-            assert(found.read <= b && found.info <= c);
+            assert(found.read <= b && found.info <= c && (found.piece == MODEM_FRAME || (found.info == 0 && has_no_frame())));
+            assert((code == MODEM_DONE) == (found.piece != MODEM_NO_PIECE) && (found.piece == MODEM_REFUSED) == (found.fault != 0));
+            assert(found.fault == 1 || found.fault == 2 || found.octet == 0);
             break;
         case 15: code = modem_deframer_octets(any, room, c, &count); assert(count <= c); break;
         case 16: code = modem_deframer_set_check(any, (uint8_t)(rand() % 3)); break;
         case 17: code = modem_frame_write(&frame, room, c, (uint8_t)(rand() % 3), (uint8_t)(rand() % 3), bits, b, &count); assert(count <= b); break;
         case 18: code = modem_frame_bits(room, c, bits, rand() % 2 ? sizeof bits : b, &count); assert(count <= sizeof bits); bits_alone(count); break;
         case 19: code = modem_framer_slot(any, (uint32_t)rand() % 6, room, c % 64, bits, rand() % 2 ? sizeof bits : b, &count); assert(count <= sizeof bits); bits_alone(count); break;
-        case 20: code = modem_xid_read(room, c, &offer, &xid_fault); break;
+        case 20: code = modem_xid_read(room, c, &offer, &xid_fault); assert(code == MODEM_DONE ? xid_fault.cause == 0 && xid_fault.at == 0 : xid_fault.cause != 0); break;
         case 21:
             offer = (modem_offer){(uint16_t)(rand() % 1100), 128, 15, (uint8_t)rand(), (uint8_t)(rand() % 3), 0};
             code = modem_xid_write(&offer, room, c, &count);
@@ -336,7 +345,7 @@ static void random_calls(long calls)
         case 27: code = modem_link_wants(link, &count); break;
         case 28: code = modem_link_set_busy(link, (uint8_t)(rand() % 3)); break;
         case 29: code = modem_detector_new(any); break;
-        case 30: code = modem_detector_push(any, bits, b, &count, &kind); break;
+        case 30: code = modem_detector_push(any, bits, b, &count, &kind); assert(count <= b && (code == MODEM_DONE) == (kind != 0)); break;
         default:
             if (rand() % 50 == 0)
                 modem_free(any);
