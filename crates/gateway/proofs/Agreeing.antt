@@ -84,10 +84,7 @@ module _ (turn : ℕ) (a : Account) where
   -- the answer that is due
   due : (d : Answer) (b : Account) → b.setup ≡ a.setup → a.owes.answer ≡ Some d
       → Saying (face a) (frame_for d b) (record (face a) { answer = None })
-  due d b s e = record { own = own d e; left = record { setup = refl; terms = refl; answer = inr refl; phase = inl refl } }
-    where
-      own : (d : Answer) → a.owes.answer ≡ Some d → OnSent (OwnFrame (face a)) (frame_for d b)
-      own q0 e = grind (arith)
+  due d b s e = grind (arith)
 
   -- RR or RNR
   ready : a.phase ≡ Connected → (busy command pf : Bool) (nr : ℕ) → OwnFrame (face a) (ready_frame busy command nr pf)
@@ -201,15 +198,7 @@ module _ (Knows : Face → Type 0) (Sent : Frame → Type 0) (turn : ℕ) (a : A
   linked : Later (face a) → ((pf : Bool) → Later (record (face a) { answer = Some (answers.Ua pf) }))
       → ((pf : Bool) → a.setup.role ≡ Answerer → Later (record (face a) { phase = Closed; answer = Some (answers.Ua pf) }))
       → hears.ConnectedWays Hears turn a
-  linked stays owing closes = record {
-    pattern = λ seen k. stays;
-    plain = λ frame p k. stays;
-    numbers = numbers-alike Hears turn a (λ frame new incoming timer reply urgent q k. stays);
-    sabme = λ pf n r k. owing pf;
-    disc = λ pf r k. closes pf r;
-    brk = λ command pf info number length_octet q k. stays;
-    brkack = λ command pf info number length_octet q k. stays;
-  }
+  linked stays owing closes = grind (arith, numbers-alike)
 
 -- the originator
 module _ (so sa : Setup) (reads : Reads so sa) (r m turn : ℕ) (a : Account) (h : KnowsO so sa m (face a)) where
@@ -227,44 +216,14 @@ module _ (so sa : Setup) (reads : Reads so sa) (r m turn : ℕ) (a : Account) (h
 
   -- it comes to this phase, on the terms that it has
   moves-o : (p q : Phase) → a.phase ≡ p → rank p ≤ rank q → (2 ≤ rank p) ⊎ (rank q ≤ 1) → LaterO (record (face a) { phase = q })
-  moves-o p q e l b = let from : rank a.phase ≡ rank p = ap rank e in (
-    record {
-      setup_is = h.setup_is;
-      due = h.due;
-      terms_are = λ z. h.terms_are (omega (arith, from, z, b));
-      met = λ z. h.met (omega (arith, from, z, b));
-    },
-    omega (arith, from, l),
-  )
+  moves-o p q e l b = grind (arith)
 
   agrees : a.phase ≡ Negotiating → (pf : Bool) (info : List ℕ) (offer : Offer) → offer_in info ≡ Some offer → KindA sa m (Xid false pf info)
       → LaterO (record (face a) { phase = Establishing; terms = agree a.setup.offer offer })
-  agrees p pf info offer f (c, i, l) =
-      let from : rank a.phase ≡ 1 = ap rank p in
-      let both : Some offer ≡ Some sa.offer = sym f ∙ (ap offer_in i ∙ reads.answ) in
-      let same : offer ≡ sa.offer = cc in (
-        record {
-          setup_is = h.setup_is;
-          due = h.due;
-          terms_are = λ z. ap (λ (s : Setup). agree s.offer offer) h.setup_is ∙ ap (agree so.offer) same;
-          met = λ z. l;
-        },
-        omega (arith, from),
-      )
+  agrees p pf info offer f given = grind (arith)
 
   early-o : hears.EarlyWays (Hears (KnowsO so sa m) (SentA sa r m) turn a) turn a
-  early-o = record {
-    ignores = λ x f k. stays-o;
-    detects = λ p s k. moves-o Detecting Negotiating p (omega arith) (inr (omega arith));
-    detected = λ p s. role-o s;
-    xid = λ p s. role-o s;
-    agrees = λ p s pf info offer f k. agrees p pf info offer f k.1;
-    sabme_first = λ p s. role-o s;
-    sabme = λ p s. role-o s;
-    ua = λ p k. moves-o Establishing Connected p (omega arith) (inl (omega arith));
-    disc = λ p pf k. owing-o (answers.Dm pf) refl;
-    closes = λ p frame f k. moves-o Releasing Closed p (omega arith) (inl (omega arith));
-  }
+  early-o = grind (arith)
 
   hears-o : (x : Arrived) (b : Account) → hear turn x a ≡ Ok b → OnArrived (SentA sa r m) x → LaterO (face b)
   hears-o x b e = hears.by-ways (Hears (KnowsO so sa m) (SentA sa r m) turn a) turn a (record {
@@ -285,16 +244,7 @@ module _ (so sa : Setup) (reads : Reads so sa) (r turn : ℕ) (a : Account) (h :
   stays-a = (h, omega arith)
 
   owing-a : (d : Answer) → is_xid d ≡ false → LaterA (record (face a) { answer = Some d })
-  owing-a d n = (
-    record {
-      setup_is = h.setup_is;
-      due = λ e. absurd (not-xid d n e);
-      terms_are = h.terms_are;
-      never_two = h.never_two;
-      linked = h.linked;
-    },
-    omega arith,
-  )
+  owing-a d n = grind (arith)
 
   role-a : {X : Type 0} → a.setup.role ≡ Originator → X
   role-a e = absurd (answers-not (ap (λ (s : Setup). s.role) h.setup_is ∙ reads.answers) e)
@@ -302,53 +252,16 @@ module _ (so sa : Setup) (reads : Reads so sa) (r turn : ℕ) (a : Account) (h :
   -- it comes to this phase, on the terms that it has
   moves-a : (p q : Phase) (d : Option Answer) → a.phase ≡ p → 1 ≤ rank p → rank p ≤ rank q → 3 ≤ rank q → (3 ≤ rank p) ⊎ (2 ≤ r)
       → LaterA (record (face a) { phase = q; answer = d })
-  moves-a p q d e s l three b = let from : rank a.phase ≡ rank p = ap rank e in (
-    record {
-      setup_is = h.setup_is;
-      due = λ z. omega (arith, three);
-      terms_are = λ z. h.terms_are (omega (arith, from, s));
-      never_two = λ z. omega (arith, z, three);
-      linked = λ z. met b;
-    },
-    omega (arith, from, l),
-  )
-    where
-      met : (3 ≤ rank p) ⊎ (2 ≤ r) → 2 ≤ r
-      met q0 = grind (arith)
+  moves-a p q d e s l three b = grind (arith)
 
   -- an offer makes it Negotiating
   commanded : (a.phase ≡ Detecting) ⊎ (a.phase ≡ Negotiating) → (info : List ℕ) (offer : Offer) → offer_in info ≡ Some offer
       → info ≡ written so.offer
       → LaterA (record (face a) { phase = Negotiating; terms = agree offer a.setup.offer; answer = Some answers.Xid })
-  commanded p info offer f i =
-      let both : Some offer ≡ Some so.offer = sym f ∙ (ap offer_in i ∙ reads.orig) in
-      let same : offer ≡ so.offer = cc in (
-        record {
-          setup_is = h.setup_is;
-          due = λ z. omega arith;
-          terms_are = λ z. ap (λ (s : Setup). agree offer s.offer) h.setup_is ∙ ap (λ (v : Offer). agree v sa.offer) same;
-          never_two = λ z. omega (arith, z);
-          linked = λ z. absurd (omega (arith, z));
-        },
-        first p,
-      )
-    where
-      first : (a.phase ≡ Detecting) ⊎ (a.phase ≡ Negotiating) → rank a.phase ≤ 1
-      first q0 = grind (arith)
+  commanded p info offer f i = grind (arith)
 
   early-a : (2 ≤ r → 1 ≤ rank a.phase) → hears.EarlyWays (Hears (KnowsA so sa r) (SentO so r) turn a) turn a
-  early-a met = record {
-    ignores = λ x f k. stays-a;
-    detects = λ p s. role-a s;
-    detected = λ p s k. owing-a answers.Adp refl;
-    xid = λ p s pf info offer f k. commanded p info offer f k.1.1;
-    agrees = λ p s. role-a s;
-    sabme_first = λ p s pf k. let from : rank a.phase ≡ 0 = ap rank p in let late = met k.1 in absurd (omega (arith, late, from));
-    sabme = λ p s pf k. moves-a Negotiating Connected _ p (omega arith) (omega arith) (omega arith) (inr k.1);
-    ua = λ p. absurd (h.never_two (ap rank p));
-    disc = λ p pf k. owing-a (answers.Dm pf) refl;
-    closes = λ p frame f k. moves-a Releasing Closed _ p (omega arith) (omega arith) (omega arith) (inl (omega arith));
-  }
+  early-a met = grind (arith)
 
   hears-a : (2 ≤ r → 1 ≤ rank a.phase) → (x : Arrived) (b : Account) → hear turn x a ≡ Ok b → OnArrived (SentO so r) x → LaterA (face b)
   hears-a met x b e = hears.by-ways (Hears (KnowsA so sa r) (SentO so r) turn a) turn a (record {
@@ -395,11 +308,7 @@ knows-as q0 so sa x b lx y ly e h = grind (arith)
 
 -- what was sent goes on to be so
 sent-weaker : (P Q : Frame → Type 0) → ((frame : Frame) → P frame → Q frame) → (s : Sent) → OnSent P s → OnSent Q s
-sent-weaker P Q f slots.Mark h = tt
-sent-weaker P Q f slots.Odp h = tt
-sent-weaker P Q f slots.Adp h = tt
-sent-weaker P Q f slots.Flags h = tt
-sent-weaker P Q f (slots.Frame frame) h = f frame h
+sent-weaker P Q f s h = grind (arith)
 
 all-weaker : (P Q : Frame → Type 0) → ((frame : Frame) → P frame → Q frame) → (line : List Slot) → AllSent P line → AllSent Q line
 all-weaker P Q f [] h = tt
@@ -425,17 +334,10 @@ sent_a-later : (sa : Setup) (r m s n : ℕ) → r ≤ s → m ≤ n → (frame :
 sent_a-later sa r m s n l k frame h = (λ e. more r s (h.0 e) l, kind_a-later sa m n k frame h.1)
 
 orig-later : (so sa : Setup) (m n : ℕ) (o : Face) → m ≤ n → KnowsO so sa m o → KnowsO so sa n o
-orig-later so sa m n o l h =
-    record { setup_is = h.setup_is; due = h.due; terms_are = h.terms_are; met = λ z. let one : 1 ≤ m = h.met z in omega (arith, one, l) }
+orig-later so sa m n o l h = grind (arith)
 
 answ-later : (so sa : Setup) (r s : ℕ) (a : Face) → r ≤ s → KnowsA so sa r a → KnowsA so sa s a
-answ-later so sa r s a l h = record {
-  setup_is = h.setup_is;
-  due = h.due;
-  terms_are = h.terms_are;
-  never_two = h.never_two;
-  linked = λ z. more r s (h.linked z) l;
-}
+answ-later so sa r s a l h = grind (arith)
 
 -- what arrives at the end of a role
 abbrev pub ArrivesAt : Role → Setup → Setup → Account → Account → Arrived → Type 0
@@ -446,11 +348,7 @@ pub nothing-arrives : (role : Role) (so sa : Setup) (x y : Account) → ArrivesA
 nothing-arrives q0 so sa x y = grind (arith)
 
 on-arrives : (P : Frame → Type 0) (s : Sent) → OnSent P s → OnArrived P (arrives s)
-on-arrives P slots.Mark h = tt
-on-arrives P slots.Odp h = tt
-on-arrives P slots.Adp h = tt
-on-arrives P slots.Flags h = tt
-on-arrives P (slots.Frame frame) h = h
+on-arrives P s h = grind (arith)
 
 pub first-arrives : (role : Role) (so sa : Setup) (x : Account) (slot : Slot) (left : List Slot) (y : Account) (ly : List Slot)
     → KnowsAt role so sa x (slot ∷ left) y ly → ArrivesAt (other role) so sa y x (arrives slot.sent)
@@ -490,33 +388,17 @@ record Farther (f g : Face) : Type 0 where
   two : rank f.phase ≢ 2 → rank g.phase ≢ 2
 
 farther : (f g : Face) → (g.phase ≡ f.phase) ⊎ ((f.phase ≡ Connected) × (g.phase ≡ Releasing)) → Farther f g
-farther f g (inl e) = let same : rank g.phase ≡ rank f.phase = ap rank e in record {
-  later = omega (arith, same);
-  from = λ n few h. omega (arith, same, h);
-  two = λ not z. not (omega (arith, same, z));
-}
-farther f g (inr (c, r)) =
-    let old : rank f.phase ≡ 3 = ap rank c in
-    let new : rank g.phase ≡ 4 = ap rank r in
-    record { later = omega (arith, old, new); from = λ n few h. omega (arith, old, few); two = λ not z. omega (arith, new, z) }
+farther f g given = grind (arith)
 
 left-due : (x y : Option Answer) → (y ≡ x) ⊎ (y ≡ None) → y ≡ Some answers.Xid → x ≡ Some answers.Xid
 left-due x y q2 z = grind (arith)
 
 own-o : (so sa : Setup) (m s : ℕ) (f : Face) → KnowsO so sa m f → rank f.phase ≤ s → (frame : Frame) → OwnFrame f frame → SentO so s frame
-own-o so sa m s f h l frame own =
-    (λ e. let three : rank f.phase ≡ 3 = ap rank (own.0 e) in omega (arith, three, l), kind frame own.1)
-  where
-    kind : (frame : Frame) → OwnKind f frame → KindO so s frame
-    kind frame k = grind (arith)
+own-o so sa m s f h l frame own = grind (arith)
 
 own-a : (so sa : Setup) → Reads so sa → (r : ℕ) (f : Face) → KnowsA so sa r f → (frame : Frame) → OwnFrame f frame
     → SentA sa r (rank f.phase) frame
-own-a so sa reads r f h frame own =
-    (λ e. let three : rank f.phase ≡ 3 = ap rank (own.0 e) in h.linked (omega (arith, three)), kind frame own.1)
-  where
-    kind : (frame : Frame) → OwnKind f frame → KindA sa (rank f.phase) frame
-    kind frame k = grind (arith)
+own-a so sa reads r f h frame own = grind (arith)
 
 pub knows-spoken : (role : Role) (so sa : Setup) → Reads so sa → (x : Account) (lx : List Slot) (y : Account) (ly : List Slot) (turn : ℕ)
     (release : Bool) (said : Said) (slot : Slot) → slot.sent ≡ said.sent → speak turn release x ≡ Ok said → KnowsAt role so sa x lx y ly
@@ -587,8 +469,7 @@ check-sent role so sa x lx y ly turn release said e h =
 -- and its hearer has it
 pub check-heard : (role : Role) (so sa : Setup) (x : Account) (slot : Slot) (left : List Slot) (y : Account) (ly : List Slot)
     → KnowsAt role so sa x (slot ∷ left) y ly → OnSent (λ frame. has_number frame ≡ true → check_of y ≡ agreed_check so sa) slot.sent
-check-heard Originator so sa x slot left y ly h = grind (arith, check-by)
-check-heard Answerer so sa x slot left y ly h = grind (arith, check-by)
+check-heard role so sa x slot left y ly h = grind (arith, check-by)
 
 -- two ends before their first turns
 pub knows-first : (so sa : Setup) → Knows so sa (face (fresh so)) (face (fresh sa)) [] []

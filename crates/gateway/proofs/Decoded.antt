@@ -139,11 +139,7 @@ pub decoded-on : (line : LineKind) (mode : Mode) (old new : SampleDecoder) (past
     → HasDecoded line mode old past bits → new.samples ≡ old.samples + read → read ≤ length more
     → (decoding_of new.reader).lost ≡ None → ReadsAs line mode new.reader (past ++ take read more) bits
     → HasDecoded line mode new (past ++ take read more) bits
-decoded-on line mode old new past more bits read h samples within lost reads = record {
-  reads = reads;
-  counted = omega (arith, samples, h.counted, length-append {A = Sample} past (take read more), length-take-le read more within);
-  ended = λ symbol e. none-some symbol (sym lost ∙ e);
-}
+decoded-on line mode old new past more bits read h samples within lost reads = grind (arith, length-append, length-take-le, none-some)
 
 -- and one that did
 pub decoded-until : (line : LineKind) (mode : Mode) (old new : SampleDecoder) (past more : List Sample) (bits : List Bool) (read symbol : ℕ)
@@ -173,8 +169,4 @@ decoded-until line mode old new past more bits read symbol h runs samples within
 pub decoded-given : (line : LineKind) (mode : Mode) (old new : SampleDecoder) (samples : List Sample) (before after : List Bool)
     → HasDecoded line mode old samples before → new.samples ≡ old.samples → (decoding_of new.reader).lost ≡ (decoding_of old.reader).lost
     → ReadsAs line mode new.reader samples after → HasDecoded line mode new samples after
-decoded-given line mode old new samples before after h same lost reads = record {
-  reads = reads;
-  counted = same ∙ h.counted;
-  ended = λ symbol e. h.ended symbol (sym lost ∙ e);
-}
+decoded-given line mode old new samples before after h same lost reads = grind (arith)

@@ -1,6 +1,6 @@
 -- What a reader's tail and its bits make of the line's end.
-use Rattle.gateway.proofs.Names.{ℕ, Bool, List, ◌++◌, at_beginning, Read, ReadsAs, LineKind, DemodulatorStands, Reading, SamplesRead, Mode}
-use Rattle.gateway.proofs.Names.{point_of, Sample, next_state}
+use Rattle.gateway.proofs.Names.{arith, ℕ, Bool, List, ◌++◌, at_beginning, Read, ReadsAs, LineKind, DemodulatorStands, Reading, SamplesRead}
+use Rattle.gateway.proofs.Names.{Mode, point_of, Sample, next_state}
 use Rattle.exact_decoder.specs.Surviving.V32.{line_depth}
 use Rattle.line_coding.specs.Reading.{IsFinished}
 use Rattle.line_coding.specs.declared.demodulator.Demodulator.{Demodulator}
@@ -17,10 +17,7 @@ pub begun-ends : (line : LineKind) (mode : Mode) (r : Reading Demodulator) (samp
     → IsFinished next_state point_of (DemodulatorStands mode) at_beginning samples before tail d)
     → ((labels : List ℕ) → DemodulatorStands mode d labels before → Read (DemodulatorStands mode) (labels ++ tail) (before ++ more))
     → ReadsAs line mode (readers.Begun r) samples before → Ends line mode samples before more
-begun-ends lines.Begun mode r samples before more tail d finish put start =
-    let f = finish start in record { labels = f.labels ++ tail; least = f.least; carried = put f.labels f.read }
-begun-ends lines.Middle mode r samples before more tail d finish put start = absurd start
-begun-ends lines.Quarters mode r samples before more tail d finish put start = absurd start
+begun-ends line mode r samples before more tail d finish put start = grind (arith)
 
 pub quarters-end : (line : LineKind) (mode : Mode) (r : Reading QuarterDemodulator) (samples : List Sample) (before more : List Bool)
     (tail : List ℕ) (d : QuarterDemodulator)
@@ -29,7 +26,4 @@ pub quarters-end : (line : LineKind) (mode : Mode) (r : Reading QuarterDemodulat
     → ((labels : List ℕ) → QuarterDemodulatorStands mode d labels before
     → Read (QuarterDemodulatorStands mode) (labels ++ tail) (before ++ more))
     → ReadsAs line mode (readers.Quarters r) samples before → Ends line mode samples before more
-quarters-end lines.Begun mode r samples before more tail d finish put start = absurd start
-quarters-end lines.Middle mode r samples before more tail d finish put start = absurd start
-quarters-end lines.Quarters mode r samples before more tail d finish put start =
-    let f = finish start in record { labels = f.labels ++ tail; least = f.least; carried = put f.labels f.read }
+quarters-end line mode r samples before more tail d finish put start = grind (arith)

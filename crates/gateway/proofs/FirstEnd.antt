@@ -1,9 +1,8 @@
 -- Where a frame alone ends among the bits of a slot.
-use Rattle.gateway.proofs.Names.{ℕ, zero, suc, ◌+◌, ◌-◌, ◌*◌, ◌≡◌, ◌<◌, ◌≤◌, ◌∷◌, ◌++◌, Bool, true, false, List, [], Option, Some, None}
-use Rattle.gateway.proofs.Names.{nat_eq, get_or, length, take, refl, ap, sym, subst, ◌∙◌, arith, append_assoc, length-append, is_some}
-use Rattle.gateway.proofs.Names.{line_bits, answer_of, pieces_of, opening, slot_bits, Flags, given}
+use Rattle.gateway.proofs.Names.{ℕ, zero, suc, ◌+◌, ◌-◌, ◌*◌, ◌≡◌, ◌<◌, ◌≤◌, ◌∷◌, ◌++◌, Bool, true, false, List, [], Option, Some, nat_eq}
+use Rattle.gateway.proofs.Names.{get_or, length, take, refl, ap, sym, subst, ◌∙◌, arith, append_assoc, length-append, is_some, line_bits}
+use Rattle.gateway.proofs.Names.{answer_of, pieces_of, opening, slot_bits, Flags, given}
 use Rattle.std.proofs.Common.{zero-add}
-use Rattle.std.proofs.Common.{true≢false}
 use Rattle.std.specs.Option.{option_map}
 use Rattle.std.specs.Prelude.{All}
 use Rattle.std.proofs.lemmas.List.{append-nil}
@@ -30,12 +29,7 @@ given-grows (suc more) n k e octets =
 only-end : (at : Option Found) (added tail : List Found) (place : ℕ) (found : Found) → is_some (option_map (λ f. f.piece) at) ≡ true
     → added ≡ listed at
     → All (λ f. (place < f.place) × (f.place ≤ place + 1)) added → listed at ++ tail ≡ found ∷ [] → place + 1 ≡ found.place
-only-end None added tail place found some same places whole = absurd (true≢false (sym some))
-only-end (Some f) added tail place found some same places whole =
-    let here : (place < f.place) × (f.place ≤ place + 1) =
-    (subst (λ (fs : List Found). All (λ g. (place < g.place) × (g.place ≤ place + 1)) fs) same places) 0 f (omega arith) in
-    let is_found : f ≡ found = ap (λ fs. get_or fs 0 f) whole in
-    let e : place + 1 ≡ f.place = omega (arith, here.0, here.1) in e ∙ ap (λ g. g.place) is_found
+only-end at added tail place found some same places whole = grind (arith)
 
 not-listed : (at : Option Found) → is_some (option_map (λ f. f.piece) at) ≡ false → listed at ≡ []
 not-listed q0 none = grind (arith)

@@ -1,7 +1,7 @@
 -- The bits that octets say by their lowest, one after another.
-use Rattle.std.proofs.Common.{ℕ, zero, suc, ◌+◌, ◌%◌, ◌≡◌, ◌<◌, ◌≤◌, ◌∷◌, ◌++◌, Bool, List, [], Option, None, nat_eq, get_or, length, refl}
-use Rattle.std.proofs.Common.{ap, sym, subst, append_assoc, ◌∙◌, arith, length-append, eq-or-lt_of_le, inl, inr}
-use Rattle.gateway.specs.Given.{heard}
+use Rattle.gateway.proofs.Names.{ℕ, zero, suc, ◌+◌, ◌%◌, ◌≡◌, ◌<◌, ◌≤◌, ◌∷◌, ◌++◌, Bool, List, [], Option, None, nat_eq, get_or, length}
+use Rattle.gateway.proofs.Names.{refl, ap, sym, append_assoc, ◌∙◌, arith, length-append, heard}
+use Rattle.std.proofs.Common.{eq-or-lt_of_le}
 
 pub length-heard : (k : ℕ) (octets : List ℕ) → length (heard k octets) ≡ k
 length-heard zero octets = refl
@@ -19,7 +19,4 @@ length-heard-behind past octets k = length-append past (heard k octets) ∙ ap (
 pub none_more : {X : Type 0} (does : List Bool → Option X) (past : List Bool) (bits : List ℕ) (k k' : ℕ) → k' ≡ suc k
     → ((n : ℕ) → 0 < n → n ≤ k → does (past ++ heard n bits) ≡ None) → does (past ++ heard k' bits) ≡ None
     → (n : ℕ) → 0 < n → n ≤ k' → does (past ++ heard n bits) ≡ None
-none_more does past bits k k' e before last n low high = elim (eq-or-lt_of_le high) [
-  | inl same ↦ subst (λ (m : ℕ). does (past ++ heard m bits) ≡ None) (sym same) last
-  | inr less ↦ before n low (omega (arith, less, e))
-]
+none_more does past bits k k' e before last n low high = grind (arith, eq-or-lt_of_le, heard)

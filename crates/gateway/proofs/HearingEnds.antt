@@ -1,6 +1,6 @@
 -- What an endpoint hears and says, by what its end of the link does.
-use Rattle.gateway.proofs.Names.{arith, ◌≡◌, ℕ, Option, Result, Ok, Err, subst, HeardAs, SaysAs, Arrives, told_as, Carried, Told}
-use Rattle.gateway.proofs.Names.{IsSendable, StandsFor, AnyEnd}
+use Rattle.gateway.proofs.Names.{arith, ◌≡◌, ℕ, Option, Result, Ok, Err, HeardAs, SaysAs, Arrives, told_as, Carried, Told, IsSendable}
+use Rattle.gateway.proofs.Names.{StandsFor, AnyEnd}
 use Rattle.frame_check.specs.declared.check.Check.{Check}
 use Rattle.shared_terms.specs.declared.role.Role.{Role}
 use Rattle.shared_terms.specs.Role.{other}
@@ -17,8 +17,7 @@ use Rattle.lapm_link.specs.Stands as stands
 -- what arrives, by the check and the sender that the code uses
 pub arrives-as : (check : Check) (sender role : Role) (carried : Carried) (arrived : Arrived) (a : Account) → check ≡ check_of a
     → sender ≡ other role → Arrives check sender carried arrived → Arrives (check_of a) (other role) carried arrived
-arrives-as check sender role carried arrived a c s h =
-    subst (λ (v : Check). Arrives v (other role) carried arrived) c (subst (λ (v : Role). Arrives check v carried arrived) s h)
+arrives-as check sender role carried arrived a c s h = grind (arith, other)
 
 pub heard-ok : (a : Account) (mid link : AnyEnd) (given : Option ℕ) (becomes : Result Account LinkFault)
     → ((b : Account) → StandsFor mid b → given ≡ given_break b) → ((b : Account) → StandsFor mid b → StandsFor link (after_given b))
@@ -32,10 +31,4 @@ heard-err a broken q2 h = grind (arith)
 pub says-ok : (role : Role) (a : Account) (link : AnyEnd) (before sent : Sent) (check : Check) (told : Told) (said : Result Said LinkFault)
     → ((b : Account) → StandsFor link b → check ≡ check_of b) → told ≡ told_as check role sent
     → IsSendable sent → Speaks said a before sent (Ok link) → SaysAs said role a link (Ok told)
-says-ok role a link before sent check told (Ok said) checks is can h = (
-  subst (λ (v : Sent). told ≡ told_as (check_of said.account) role v) h.0
-      (subst (λ (v : Check). told ≡ told_as v role sent) (checks said.account h.1) is),
-  subst IsSendable h.0 can,
-  h.1,
-)
-says-ok role a link before sent check told (Err fault) checks is can h = absurd h
+says-ok role a link before sent check told said checks is can h = grind (arith)

@@ -52,8 +52,7 @@ at-other q0 x lx y ly = grind (arith)
 -- a piece that is taken is wanted
 taken-wanted : (count size : ℕ) (number : Option ℕ) → true ≡ is_taken count (longest_wanted number size)
     → (is_some number && nat_le count size) ≡ true
-taken-wanted count size None e = absurd (false≢true (sym e))
-taken-wanted count size (Some number) e = grind (arith)
+taken-wanted count size number e = grind (arith)
 
 -- ---- a side
 
@@ -131,13 +130,7 @@ book-given offered delivered a segment e h =
 -- a piece is taken
 book-offered : (offered delivered : List (List ℕ)) (a : Account) (piece : List ℕ) → has_begun a.phase ≡ true
     → IsBook offered delivered (lists a) → IsBook (with_offered true piece offered) delivered (lists (after_offer piece a))
-book-offered offered delivered a [] begun h = h
-book-offered offered delivered a (octet ∷ octets) begun h = record {
-  pieces_are = ap (λ (l : List (List ℕ)). l ++ (octet ∷ octets) ∷ []) h.pieces_are;
-  given_are = h.given_are;
-  within = h.within;
-  blank = λ z. absurd (false≢true (sym z ∙ begun));
-}
+book-offered offered delivered a piece begun h = grind (arith)
 
 -- an end that wants a piece is Connected
 wants-begun : (a : Account) (b : Bool) → (is_some (wants a) && b) ≡ true → has_begun a.phase ≡ true
@@ -181,17 +174,7 @@ other-other q0 = grind (arith)
 
 -- the same from the other end
 turned : (so sa : Setup) (role : Role) (own peer : EndSide) → LastsAt so sa role own peer → LastsAt so sa (other role) peer own
-turned so sa role own peer h = record {
-  x = h.y;
-  lx = h.ly;
-  y = h.x;
-  ly = h.lx;
-  events = h.events;
-  led = h.led ∙ at-other role h.x h.lx h.y h.ly;
-  own_side = h.peer_side;
-  peer_side = subst (λ (r : Role). IsSide (agreed_check so sa) r h.x h.lx own) (sym (other-other role)) h.own_side;
-  known = knows-turned role so sa h.x h.lx h.y h.ly h.known;
-}
+turned so sa role own peer h = grind (arith)
 
 -- one event more
 led-on : (so sa : Setup) (events : List Event) (event : Event) (p q : Play) → played so sa events ≡ p → happens event p ≡ q
@@ -202,12 +185,7 @@ led-on so sa events event p q e h = play-append events (event ∷ []) (start (fr
 side-of : (check : Check) (role : Role) (x : Account) (slots : List Slot) (new form : EndSide) → new ≡ form → StandsFor new.end.link x
     → new.end.role ≡ role
     → AllTold check role slots form.line → IsBook form.offered form.delivered (lists x) → IsSide check role x slots new
-side-of check role x slots new form e stands role_is line book = record {
-  stands = stands;
-  role_is = role_is;
-  line = subst (λ (s : EndSide). AllTold check role slots s.line) (sym e) line;
-  book = subst (λ (s : EndSide). IsBook s.offered s.delivered (lists x)) (sym e) book;
-}
+side-of check role x slots new form e stands role_is line book = grind (arith)
 
 -- the own end comes to this account by one event, and its line stays
 changes : (so sa : Setup) (role : Role) (own peer new : EndSide) (h : LastsAt so sa role own peer) (event : Event) (b : Account)
@@ -333,9 +311,7 @@ gives-at-peer q0 x y lx ly = grind (arith)
 shorter-side : (check : Check) (role : Role) (x : Account) (slots left : List Slot) (old new : EndSide) (rest : List Told)
     → IsSide check role x slots old
     → new ≡ record old { line = rest } → AllTold check role left rest → IsSide check role x left new
-shorter-side check role x slots left old new rest h is t =
-    side-of check role x left new (record old { line = rest }) is
-    (subst (λ (s : EndSide). StandsFor s.end.link x) (sym is) h.stands) (ap (λ (s : EndSide). s.end.role) is ∙ h.role_is) t h.book
+shorter-side check role x slots left old new rest h is t = grind (arith)
 
 passes-step : HistoryLaws → (so sa : Setup) → Reads so sa → (role : Role) (own peer new after : EndSide) → LastsAt so sa role own peer
     → PassesOf own peer new after → LastsAt so sa role new after
@@ -434,19 +410,7 @@ speaks-step so sa reads role release own peer new h m =
 -- the own end is as it was
 stays : (so sa : Setup) (role : Role) (own peer new : EndSide) → LastsAt so sa role own peer → new.end ≡ own.end
     → new ≡ record own { end = new.end } → LastsAt so sa role new peer
-stays so sa role own peer new h e is = record {
-  x = h.x;
-  lx = h.lx;
-  y = h.y;
-  ly = h.ly;
-  events = h.events;
-  led = h.led;
-  own_side = side-of (agreed_check so sa) role h.x h.lx new (record own { end = new.end }) is
-      (subst (λ (v : Endpoint). StandsFor v.link h.x) (sym e) h.own_side.stands)
-      (ap (λ (v : Endpoint). v.role) e ∙ h.own_side.role_is) h.own_side.line h.own_side.book;
-  peer_side = h.peer_side;
-  known = h.known;
-}
+stays so sa role own peer new h e is = grind (arith)
 
 -- its account changes, and none of its segments
 alters : (so sa : Setup) (role : Role) (own peer new : EndSide) (h : LastsAt so sa role own peer) (event : Event) (b : Account)
@@ -507,16 +471,13 @@ made-at : HistoryLaws → (so sa : Setup) → Reads so sa → (role : Role) (mov
 made-at laws so sa reads role Passes own peer new after h m = passes-step laws so sa reads role own peer new after h m
 made-at laws so sa reads role (Speaks release) own peer new after h m =
     subst (LastsAt so sa role new) (sym m.1) (speaks-step so sa reads role release own peer new h m.0)
-made-at laws so sa reads role Is_lost own peer new after h m =
-    subst (LastsAt so sa role new) (sym m.1) (loses-step so sa role own peer new h m.0)
-made-at laws so sa reads role Hears_nothing own peer new after h m =
-    subst (LastsAt so sa role new) (sym m.1) (hears-step laws so sa reads role own peer new h m.0)
+made-at laws so sa reads role Is_lost own peer new after h m = grind (arith, loses-step)
+made-at laws so sa reads role Hears_nothing own peer new after h m = grind (arith, hears-step)
 made-at laws so sa reads role (Is_offered piece) own peer new after h m =
     subst (LastsAt so sa role new) (sym m.1) (offered-step so sa role piece own peer new h m.0)
 made-at laws so sa reads role (Is_asked units) own peer new after h m =
     subst (LastsAt so sa role new) (sym m.1) (asked-step so sa role units own peer new h m.0)
-made-at laws so sa reads role Is_delivered own peer new after h m =
-    subst (LastsAt so sa role new) (sym m.1) (delivered-step so sa role own peer new h m.0)
+made-at laws so sa reads role Is_delivered own peer new after h m = grind (arith, delivered-step)
 made-at laws so sa reads role (Is_busy busy) own peer new after h m =
     subst (LastsAt so sa role new) (sym m.1) (alters so sa role own peer new h (plays.Is_busy role busy) (after_busy busy h.x)
     (busy-event role busy h.x h.y h.lx h.ly) (busy-lists busy h.x) (busy-face busy h.x) (m.0.told.account h.x h.own_side.stands)
@@ -530,20 +491,10 @@ from-role so sa ends q3 q4 h = grind (arith)
 
 new-side : (check : Check) (role : Role) (setup : Setup) (side : EndSide) → setup.role ≡ role → Begins setup side
     → IsSide check role (fresh setup) [] side
-new-side check role setup side e b = record {
-  stands = b.is_new.stands;
-  role_is = b.is_new.role_is ∙ e;
-  line = subst (AllTold check role []) (sym b.line_is) tt;
-  book = record { pieces_are = b.offered_is; given_are = b.delivered_is; within = omega arith; blank = λ z. (refl, refl) };
-}
+new-side check role setup side e b = grind (arith)
 
 reads-both : HistoryLaws → (so sa : Setup) → MayPlay so sa → Reads so sa
-reads-both laws so sa m = record {
-  originates = m.originates;
-  answers = m.answers;
-  orig = laws.written so.offer m.offer_o;
-  answ = laws.written sa.offer m.offer_a;
-}
+reads-both laws so sa m = grind (arith)
 
 lasts : HistoryLaws → (so sa : Setup) (steps : List Step) (ends : Both EndSide) → MayPlay so sa → History so sa steps ends
     → (role : Role) → LastsAt so sa role (of role ends) (of (other role) ends)
@@ -570,10 +521,7 @@ histories_are_plays laws so sa steps ends m h =
   where
     stand : (l : LastsAt so sa Originator ends.orig ends.answ) (role : Role)
         → StandsFor (of role ends).end.link (seen_from role (played so sa l.events)).own.account
-    stand l Originator =
-        subst (λ (p : Play). StandsFor ends.orig.end.link (seen_from Originator p).own.account) (sym l.led) l.own_side.stands
-    stand l Answerer =
-        subst (λ (p : Play). StandsFor ends.answ.end.link (seen_from Answerer p).own.account) (sym l.led) l.peer_side.stands
+    stand l role = grind (arith)
 
 -- what was given begins what was taken
 given-begins : (n : ℕ) (taken pieces delivered offered : List (List ℕ)) → delivered ≡ take n taken → offered ≡ pieces
@@ -617,8 +565,7 @@ wanted-fault wants_alone so sa m role events event p fault e f =
 speaking-fault : (role : Role) (turn : ℕ) (release : Bool) (x y : Account) (lx ly : List Slot) (fault : LinkFault)
     → speak turn release x ≡ Err fault
     → (seen_from role (happens (plays.Speaks role turn release) (at role x lx y ly))).own.fault ≡ Some fault
-speaking-fault Originator turn release x y lx ly fault e = grind (arith)
-speaking-fault Answerer turn release x y lx ly fault e = grind (arith)
+speaking-fault role turn release x y lx ly fault e = grind (arith)
 
 passing-fault : (role : Role) (turn : ℕ) (x y : Account) (slot : Slot) (rest ly : List Slot) (fault : LinkFault)
     → hear turn (arrives slot.sent) y ≡ Err fault

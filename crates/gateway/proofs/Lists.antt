@@ -1,7 +1,7 @@
 -- What hearing and speaking make of the segments of an account: those offered, those taken, and how many are given.
-use Rattle.gateway.proofs.Names.{arith, ◌≡◌, ◌∙◌, ◌⊎◌, inl, inr, ℕ, Bool, true, false, List, [], ◌++◌, refl, sym, ap, Ok, Arrived}
-use Rattle.gateway.proofs.Names.{KeepsTaken, Account, hear, Said, speak, linked-alike, tries-alike, has_begun, Phase, Detecting}
-use Rattle.gateway.proofs.Names.{Negotiating, Establishing, Connected, Releasing, Closed}
+use Rattle.gateway.proofs.Names.{arith, ◌≡◌, ◌∙◌, ◌⊎◌, inl, ℕ, Bool, true, false, List, [], ◌++◌, refl, sym, ap, Ok, Arrived, KeepsTaken}
+use Rattle.gateway.proofs.Names.{Account, hear, Said, speak, linked-alike, tries-alike, has_begun, Phase, Detecting, Negotiating, Connected}
+use Rattle.gateway.proofs.Names.{Releasing, Closed}
 use Rattle.link_account.proofs.Names.{append-nil, Outgoing, Incoming, after_take, after_kind, kind_of, offset, Took}
 use Rattle.link_account.proofs.Names.{trying}
 use Rattle.lapm_receiver.specs.Incoming.{after_asked}
@@ -75,22 +75,10 @@ module _ (keeps : KeepsTaken) (turn : ℕ) (a : Account) where
   }
 
   offered : (a.phase ≡ Detecting) ⊎ (a.phase ≡ Negotiating) → record (lists a) { begun = has_begun Negotiating } ≡ lists a
-  offered (inl p) = moved a Negotiating Detecting p refl
-  offered (inr p) = moved a Negotiating Negotiating p refl
+  offered given = grind (arith, moved)
 
   early : hears.EarlyWays Hears turn a
-  early = record {
-    ignores = λ x f. same a refl;
-    detects = λ p r. same a (moved a Negotiating Detecting p refl);
-    detected = λ p r. same a refl;
-    xid = λ p r pf info offer f. same a (offered p);
-    agrees = λ p r pf info offer f. same a (moved a Establishing Negotiating p refl);
-    sabme_first = λ p r pf. inr (ap has_begun p, refl);
-    sabme = λ p r pf. inr (ap has_begun p, refl);
-    ua = λ p. inr (ap has_begun p, refl);
-    disc = λ p pf. same a refl;
-    closes = λ p frame f. same a (moved a Closed Releasing p refl);
-  }
+  early = grind (arith, same, moved, offered)
 
   pub grows-heard : (arrived : Arrived) (b : Account) → hear turn arrived a ≡ Ok b → Grows a b
   grows-heard arrived b e =

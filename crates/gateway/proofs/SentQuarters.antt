@@ -1,8 +1,8 @@
 -- What was sent at 4800 bit/s comes back.
-use Rattle.gateway.proofs.Names.{◌≡◌, ◌∙◌, ℕ, ◌*◌, ◌<◌, Bool, List, [], ◌∷◌, ◌++◌, length, map, take, drop, get_or, Option, Some, None}
-use Rattle.gateway.proofs.Names.{refl, sym, ap, subst, arith, append-nil, append_assoc, length-append, take-append-drop, take-map}
-use Rattle.gateway.proofs.Names.{length-take-le, IsReleased, LostIs, decoding_of, HasEncoded, ReadsAs, FollowsSent, AnyReader}
-use Rattle.gateway.proofs.Names.{SampleEncoder, Descrambles_once, tap_of, Mode, Sample}
+use Rattle.gateway.proofs.Names.{◌≡◌, ◌∙◌, ℕ, ◌*◌, ◌<◌, Bool, List, [], ◌∷◌, ◌++◌, length, map, take, drop, get_or, Option, None, refl, sym}
+use Rattle.gateway.proofs.Names.{ap, subst, arith, append-nil, append_assoc, length-append, take-append-drop, take-map, length-take-le}
+use Rattle.gateway.proofs.Names.{IsReleased, LostIs, decoding_of, HasEncoded, ReadsAs, FollowsSent, AnyReader, SampleEncoder}
+use Rattle.gateway.proofs.Names.{Descrambles_once, tap_of, Mode, Sample}
 use Rattle.std.proofs.Common.{All}
 use Rattle.std.specs.List.{range_with_len}
 use Rattle.std.proofs.lemmas.List.Elements.{All-nil, All-cons, All-head, All-tail}
@@ -58,8 +58,7 @@ read-all released read labels front samples few near r =
 
 -- the line is never lost, whatever was heard
 never-lost : AllAreReleased → (depth : ℕ) (samples : List Sample) (lost : Option ℕ) → LostIs quarters depth samples lost → lost ≡ None
-never-lost released depth samples None h = refl
-never-lost released depth samples (Some symbol) h = grind (arith, length-take-le)
+never-lost released depth samples lost h = grind (arith, length-take-le)
 
 turns-small : (q places : List ℕ) → All (λ label. label < 4) (map (turned_at q) places)
 turns-small q [] = All-nil (λ label. label < 4)

@@ -1,7 +1,7 @@
 -- The bits of a slot, and the room that it needs.
 use Rattle.gateway.proofs.Names.{ℕ, zero, suc, ◌+◌, ◌-◌, ◌*◌, ◌/◌, ◌≡◌, ◌<◌, ◌≤◌, ◌∷◌, ◌++◌, List, [], Option, Some, None, get_or, length}
-use Rattle.gateway.proofs.Names.{take, refl, ap, sym, subst, ◌∙◌, arith, length-append, take_more, line_bits, opening, slot_bits, Flags}
-use Rattle.gateway.proofs.Names.{Signal, slots_of, low_bits, given}
+use Rattle.gateway.proofs.Names.{take, refl, ap, sym, ◌∙◌, arith, length-append, take_more, line_bits, opening, slot_bits, Flags, Signal}
+use Rattle.gateway.proofs.Names.{slots_of, low_bits, given}
 use Rattle.std.proofs.lemmas.Grind.{flat_map-append}
 use Rattle.std.proofs.Math.Logic.{∥∥₁_map}
 use Rattle.std.proofs.lemmas.List.{map-append}
@@ -59,7 +59,4 @@ slot-more symbols w phase signals signal out bits e phase_is count line put grow
 pub stands-behind : (writer : Writer) (symbols w : ℕ) (signals : List Signal) (signal : Signal) → w ≡ symbols
     → WriterStands writer (slots_of (4 * symbols) signals ++ slot_of (4 * w) signal ∷ [])
     → WriterStands writer (slots_of (4 * symbols) (signals ++ signal ∷ []))
-stands-behind writer symbols w signals signal e stands =
-    subst (λ (slots : List Slot). WriterStands writer slots)
-    ((λ i. slots_of (4 * symbols) signals ++ slot_of (4 * e i) signal ∷ [])
-    ∙ sym (map-append (slot_of (4 * symbols)) signals (signal ∷ []))) stands
+stands-behind writer symbols w signals signal e stands = grind (arith, map-append)

@@ -1,10 +1,8 @@
 -- A pair before its first round, and from round to round.
-use Rattle.link_pair.proofs.Names.{◌≡◌, ℕ, ◌+◌, ◌-◌, ◌^◌, ◌<◌, List, [], sym, subst, arith, refl, Result, Ok, Err, Written, link_of}
-use Rattle.link_pair.proofs.Names.{RunFault, CountsOver, FaultCountsOver, all_outputs, Awaits, FaultEnds, FaultEndsIn, First, Goes, Pair}
-use Rattle.link_pair.proofs.Names.{start, ScriptValue, SomeRose-earlier, CountsStand-trans, FolderState, CountsStand}
-use Rattle.outside_calls.specs.Folder.{Rose}
+use Rattle.link_pair.proofs.Names.{◌≡◌, ℕ, ◌+◌, ◌-◌, ◌^◌, ◌<◌, List, [], sym, arith, refl, Result, Written, link_of, RunFault, CountsOver}
+use Rattle.link_pair.proofs.Names.{FaultCountsOver, all_outputs, Awaits, FaultEnds, FaultEndsIn, First, Goes, Pair, start, ScriptValue}
+use Rattle.link_pair.proofs.Names.{FolderState, CountsStand}
 use Rattle.outside_calls.specs.Outputs.{Creates}
-use Rattle.outside_calls.proofs.Steps.{FaultsStand-trans}
 use Rattle.line_world.proofs.Reached.{files_at, knows-told}
 use Rattle.line_run.specs.declared.fault.RunFault.TheVariants as faults
 use Rattle.link_pair.specs.Pair.{IsFirst}
@@ -48,14 +46,8 @@ fault-ends script f n m round fault e = grind (arith)
 -- a fault behind rounds that counted nothing
 pub counts-later : (a b c : FolderState) (inputs outputs : List (List ℕ)) (fault : RunFault) → CountsStand a b
     → FaultCountsOver b c inputs outputs fault → FaultCountsOver a c inputs outputs fault
-counts-later a b c inputs outputs faults.ReadFault s h = SomeRose-earlier a.read_faults b.read_faults c.read_faults inputs s.faults.reads h
-counts-later a b c inputs outputs faults.WriteFault s h =
-    SomeRose-earlier a.write_faults b.write_faults c.write_faults outputs s.faults.writes h
-counts-later a b c inputs outputs faults.NoMemory s h =
-    (FaultsStand-trans s.faults h.0, subst (λ x. Rose x c.refusals) s.refusals h.1)
-counts-later a b c inputs outputs fault s h = CountsStand-trans s h
+counts-later a b c inputs outputs fault s h = grind (arith)
 
 pub counts-behind : {T : Type 0} (a b c : FolderState) (inputs outputs : List (List ℕ)) (result : Result T RunFault) → CountsStand a b
     → CountsOver b c inputs outputs result → CountsOver a c inputs outputs result
-counts-behind a b c inputs outputs (Ok done) s h = CountsStand-trans s h
-counts-behind a b c inputs outputs (Err fault) s h = counts-later a b c inputs outputs fault s h
+counts-behind a b c inputs outputs result s h = grind (arith, counts-later)

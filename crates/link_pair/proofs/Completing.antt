@@ -54,10 +54,7 @@ never-long f place (name ∷ names) word short (inl h) = file-fits (length (octe
 never-long f place (name ∷ names) word short (inr h) = never-long f (place + 1) names word short.1 h.1
 
 all-short : (old : FolderState) (n : Names) (script : ScriptValue) → AreRight old n script → AllShort old (files_of n)
-all-short old n script r = (
-  (r.first.orig_told, r.first.orig_short),
-  ((r.first.answ_told, r.first.answ_short), ((r.second.orig_told, r.second.orig_short), ((r.second.answ_told, r.second.answ_short), tt))),
-)
+all-short old n script r = grind (arith)
 
 never-refused : NoFaultInScripts → (old : FolderState) (n : Names) (script : ScriptValue) (answer : Status) → AreRight old n script
     → RefusesOwn LIMITS old n.script 5 (files_of n) 1 answer → ⊥
@@ -160,8 +157,7 @@ named-done laws script files others h f o oo end left leaves r =
     (laws.few_named script others i.second leaves h f.faint oo f.few i.second_runs))
 
 undisturbed-quiet : DoneLaws → (script : ScriptValue) → IsUndisturbed script → IsQuiet script
-undisturbed-quiet laws script u =
-    record { no_losses = u.no_losses; faint = laws.faint script (record { no_hits = u.no_hits; no_noises = u.no_noises }) }
+undisturbed-quiet laws script u = grind (arith)
 
 -- ---- over a sound folder the answer is that of the one pair that there is
 

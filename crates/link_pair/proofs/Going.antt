@@ -40,16 +40,11 @@ pub record AtGoing (h : Half) (script : ScriptValue) (beside : Role → ℕ → 
 pub at-going : (h : Half) (script : ScriptValue) (beside : Role → ℕ → Option Signal) (files : Both (List ℕ)) (round : ℕ) (p : Progress)
     → h.ended ≡ None → StandsFor h.ended h.modems files p → Lasts (wire_at script h.dlci beside) (link_of script files) round p
     → AtGoing h script beside files round p
-at-going h script beside files round p none stands = by p (subst (λ o. StandsFor o h.modems files p) none stands)
-  where
-    by : (p : Progress) → StandsFor None h.modems files p → Lasts (wire_at script h.dlci beside) (link_of script files) round p
-        → AtGoing h script beside files round p
-    by p may goes = grind (arith)
+at-going h script beside files round p none stands = grind (arith)
 
 pub modems-after : (h : Half) (script : ScriptValue) (beside : Role → ℕ → Option Signal) (files : Both (List ℕ)) (round : ℕ) (p : Progress)
     (a : AtGoing h script beside files round p) → ModemsAfter h.modems (wire_at script h.dlci beside) files a.ts a.ends
-modems-after h script beside files round p a =
-    record { run = a.goes.run; link = a.may.link; turn = a.may.turn; tally = a.may.tally; spoke = a.may.spoke }
+modems-after h script beside files round p a = grind (arith)
 
 -- its turn may be made
 pub ready-for : (h : Half) (l : Lines) (script : ScriptValue) (f : FolderState) (n : Written) (round : ℕ) → h.ended ≡ None
@@ -119,8 +114,7 @@ pub record Around (old new : FolderState) (n : Written) (files : Both (List ℕ)
 
 pub kept-none : (now next : FolderState) (name octets : List ℕ) → GoesOn now next → Holds now name octets → KeepsName now next name
     → Holds next name (octets ++ [])
-kept-none now next name octets on holds kept =
-    subst (Holds next name) (sym (append-nil octets)) (Holds-kept now next name octets on holds kept)
+kept-none now next name octets on holds kept = grind (arith, append-nil)
 
 abbrev more_of : Accounts → List ℕ → Left
 more_of mid text = record { got = record { orig = concat (deliveries mid.orig); answ = concat (deliveries mid.answ) }; trace = text }
@@ -215,20 +209,7 @@ module _ (delivers : HearingsDeliver) (speaks : SpeakingTakesNothing) (m : Modem
 
   adds-turn : (s : StopsInTurn m l c links streams old new n files ts ends)
       → AddsTurn c (link_of c.script s.others) ts ends (more_of s.mid (turn_text (length ts) s.turn))
-  adds-turn s = record {
-    turn = s.turn;
-    mid = s.mid;
-    outcome = s.outcome;
-    heard = s.makes.heard;
-    is = s.makes.is;
-    got_is = got;
-    trace_is = refl;
-  }
-    where
-      got : (role : Role) → of role (record { orig = concat (deliveries s.mid.orig); answ = concat (deliveries s.mid.answ) }) ≡ concat
-          (deliveries (of role s.mid))
-      got Originator = refl
-      got Answerer = refl
+  adds-turn s = grind (arith)
 
   stops-so : (s : StopsInTurn m l c links streams old new n files ts ends)
       → LinkStops c (link_of c.script s.others) new n (length ts) (Goes ts ends)
@@ -401,10 +382,7 @@ came-to delivers speaks h m l l' script beside links streams old new n files rou
 pub came-going : (h : Half) (l : Lines) (c : Wire) (links : ℕ) (streams : Both (List Carried)) (f : FolderState) (n : Written)
     (files : Both (List ℕ)) (round : ℕ) (p : Progress) → h.ended ≡ None → h.modems.dlci ≡ c.dlci
     → CameTo h.modems l c links streams f n files round p (Ok None) → HasCome h l c links streams f n round p
-came-going h l c links streams f n files round p none channel a =
-    subst (λ x. HasCome h l c links streams f n round x) (sym a.is)
-    (subst (λ k. HasCome h l c links streams f n k (Goes a.ts a.ends)) a.count
-    (has-gone h l c links streams f n files a.ts a.ends none channel a.comes))
+came-going h l c links streams f n files round p none channel a = grind (arith, has-gone)
 
 pub came-ended : (h : Half) (l m : Lines) (c : Wire) (links : ℕ) (streams : Both (List Carried)) (f : FolderState) (n : Written)
     (files : Both (List ℕ)) (round : ℕ) (p : Progress) (found : LinkEnd) → h.ended ≡ Some found → h.modems.dlci ≡ c.dlci
@@ -418,14 +396,9 @@ came-ended h l m c links streams f n files round p found is channel waits a =
 pub came-halted : (m : Modems) (l : Lines) (c : Wire) (links : ℕ) (streams : Both (List Carried)) (f : FolderState) (n : Written)
     (files : Both (List ℕ)) (round : ℕ) (p : Progress) (fault : RunFault) → CameTo m l c links streams f n files round p (Err fault)
     → HalfEnds c f n files round p fault
-came-halted m l c links streams f n files round p fault a =
-    subst (λ x. HalfEnds c f n files round x fault) (sym a.is)
-    (subst (λ k. HalfEnds c f n files k (Goes a.ts a.ends) fault) a.count a.comes)
+came-halted m l c links streams f n files round p fault a = grind (arith)
 
 -- what a turn counted is what the pair counts by it
 pub sorted-counts : (a b : FolderState) (n : Written) (answer : Result Step RunFault) (r : Result (Option LinkEnd) RunFault)
     → r ≡ sorted answer → TurnCounts a b n answer → CountsOver a b (inputs_of n) (outputs_of n) r
-sorted-counts a b n answer r e h = subst (CountsOver a b (inputs_of n) (outputs_of n)) (sym e) (go answer h)
-  where
-    go : (answer : Result Step RunFault) → TurnCounts a b n answer → CountsOver a b (inputs_of n) (outputs_of n) (sorted answer)
-    go answer h = grind (arith)
+sorted-counts a b n answer r e h = grind (arith)

@@ -1,11 +1,11 @@
 -- From every answer to the headline.
-use Rattle.link_pair.proofs.Names.{arith, ◌≡◌, ◌⊎◌, inl, inr, ℕ, Bool, true, false, List, [], ◌++◌, Some, Err, refl, sym, ◌∙◌, ap, subst}
-use Rattle.link_pair.proofs.Names.{last-only, Answers, both_done_line, Status, Stop, AreOctets, may-run, runs-over, IsFaint, Left, Written}
-use Rattle.link_pair.proofs.Names.{Wire, link_of, held_of, answer_of, result_of, RanTo, EndsBy, pair_job, left_by, first_wire, second_wire}
-use Rattle.link_pair.proofs.Names.{PairEnd, BothDone, LeavesOf, PairRunsTo, by_links, by_line, FaintPairsAreIsolated, Progress, Goes, Ended}
-use Rattle.link_pair.proofs.Names.{turns_in, Lasts, Names, files_of, inputs_of, LastTurns, BreaksAreOctets, ScriptValue, IsInLimits}
-use Rattle.link_pair.proofs.Names.{delay_of, Holds-kept, FolderState, GoesOn, octets_at, Holds, HoldEach, KeepsAll, OnlyOutputs, RefusesOwn}
-use Rattle.link_pair.proofs.Names.{LIMITS, Both, of, Role, Originator, Answerer}
+use Rattle.link_pair.proofs.Names.{arith, ◌≡◌, ◌⊎◌, ℕ, Bool, true, false, List, [], ◌++◌, Some, Err, refl, sym, ◌∙◌, ap, subst, last-only}
+use Rattle.link_pair.proofs.Names.{Answers, both_done_line, Status, Stop, AreOctets, may-run, runs-over, IsFaint, Left, Written, Wire}
+use Rattle.link_pair.proofs.Names.{link_of, held_of, answer_of, result_of, RanTo, EndsBy, pair_job, left_by, first_wire, second_wire}
+use Rattle.link_pair.proofs.Names.{PairEnd, BothDone, LeavesOf, PairRunsTo, FaintPairsAreIsolated, Progress, Goes, Ended, turns_in, Lasts}
+use Rattle.link_pair.proofs.Names.{Names, files_of, inputs_of, LastTurns, BreaksAreOctets, ScriptValue, IsInLimits, delay_of, Holds-kept}
+use Rattle.link_pair.proofs.Names.{FolderState, GoesOn, octets_at, Holds, HoldEach, KeepsAll, OnlyOutputs, RefusesOwn, LIMITS, Both, of}
+use Rattle.link_pair.proofs.Names.{Role, Originator, Answerer}
 use Rattle.std.specs.Option.{option_map}
 use Rattle.outside_calls.proofs.Steps.{told_later}
 use Rattle.link_run.specs.Laws.{agreed_srej}
@@ -35,14 +35,11 @@ passed : HeadLaws → (c : Wire) (files : Both (List ℕ)) (rounds : ℕ) (p : P
 passed laws c files rounds (Goes ts ends) h l role =
     given-is ts ends role ∙ sym (laws.took (link_of c.script files) (delay_of c.script) ts ends
     (runs-over laws.runs c files ts ends h l.run) role)
-passed laws c files rounds (Ended ts ends end left) h l role =
-    laws.runs.passed c (link_of c.script files) end left (may-run laws.runs c files h) l.ran role
+passed laws c files rounds (Ended ts ends end left) h l role = grind (arith, may-run)
 
 read-off : HeadLaws → (c : Wire) (files : Both (List ℕ)) (rounds : ℕ) (p : Progress) → (l : Lasts c (link_of c.script files) rounds p)
     → AreReadOff c (heard_in c files rounds p l)
-read-off laws c files rounds (Goes ts ends) l = turns-read laws.runs.least c ts l.run.heard
-read-off laws c files rounds (Ended ts ends end left) l =
-    run-read laws.runs.least c (link_of c.script files) l.ran.turns l.ran.ends end left l.ran.run l.ran.ended
+read-off laws c files rounds p l = grind (arith, turns-read, run-read)
 
 cause-in : HeadLaws → (c : Wire) (files : Both (List ℕ)) (rounds : ℕ) (p : Progress) → IsInLimits c.script
     → (l : Lasts c (link_of c.script files) rounds p) → CauseIn c files rounds p l
@@ -74,14 +71,12 @@ left-same p text left k role = grind (arith)
 first-same : (script : ScriptValue) (files others : Both (List ℕ)) (end : PairEnd) (left leaves : Left)
     → (r : PairRunsTo script files others end left leaves) → (role : Role)
     → of role left.got ≡ of role (left_by (came_of script files others end left leaves r).p).got
-first-same script files others end left leaves (by_links first second e is) role = refl
-first-same script files others end left leaves (by_line link round cause e is) role = left-same e.p _ left e.first_leaves role
+first-same script files others end left leaves r role = grind (arith, left-same)
 
 second-same : (script : ScriptValue) (files others : Both (List ℕ)) (end : PairEnd) (left leaves : Left)
     → (r : PairRunsTo script files others end left leaves) → (role : Role)
     → of role leaves.got ≡ of role (left_by (came_of script files others end left leaves r).q).got
-second-same script files others end left leaves (by_links first second e is) role = refl
-second-same script files others end left leaves (by_line link round cause e is) role = left-same e.q _ leaves e.second_leaves role
+second-same script files others end left leaves r role = grind (arith, left-same)
 
 -- of told octets each link runs as it does alone where the noise is faint
 pub isolated-of : FaintPairsAreIsolated → BreaksAreOctets → (old before : FolderState) (n : Names) (end : PairEnd)
@@ -151,8 +146,7 @@ own-ends words old new n s t a e f =
 pub not-refused : {P : Type 0} → (old before : FolderState) (n : Names) (answer : Status)
     → (RefusesOwn LIMITS old n.script 5 (files_of n) 1 answer → ⊥)
     → (KeepsAll old before × RefusesOwn LIMITS old n.script 5 (files_of n) 1 answer) ⊎ P → P
-not-refused old before n answer never (inl r) = absurd (never r.1)
-not-refused old before n answer never (inr p) = p
+not-refused old before n answer never given = grind (arith)
 
 by-end : (old new : FolderState) (n : Names) (end : PairEnd) (stop : Stop) → Err stop ≡ result_of end → Ran old new n end
     → RanBy old new n (answer_of end)
@@ -179,10 +173,8 @@ ran-by laws words old new n s (status.PairLinkLost link role segment turn) a las
 ran-by laws words old new n s (status.PairNotDetected link turn) a last e = by-answer laws words old new n s _ a last (λ x. x) refl e
 ran-by laws words old new n s (status.LineLost role symbol) a last e = by-answer laws words old new n s _ a last (λ x. x) refl e
 ran-by laws words old new n s (status.ChanceMatch role turn) a last e = by-answer laws words old new n s _ a last (λ x. x) refl e
-ran-by laws words old new n s (status.LinkLost role segment turn) a last e =
-    by-answer laws words old new n s (status.LinkLost role segment turn) a last (λ x. x) refl e
-ran-by laws words old new n s (status.NotDetected turn) a last e =
-    by-answer laws words old new n s (status.NotDetected turn) a last (λ x. x) refl e
+ran-by laws words old new n s (status.LinkLost role segment turn) a last e = grind (arith, by-answer)
+ran-by laws words old new n s (status.NotDetected turn) a last e = grind (arith, by-answer)
 ran-by laws words old new n s t a last e = tt
 
 -- ---- both links are done

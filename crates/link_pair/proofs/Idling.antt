@@ -149,10 +149,7 @@ module _ (h : Half) (script : ScriptValue) (beside : Role → ℕ → Option Sig
   ends-of : (checks : Both Check) (end : LineEnd) (a : AtEnd h script beside files round p) → checks ≡ h.modems.heard_by
       → EndsLineBy (wire_at script h.dlci beside) (turns_on_line round p) (λ role. of role checks) end
       → EndsLine (wire_at script h.dlci beside) (turns_on_line round (Ended a.ts a.ends a.end a.left)) a.ends end
-  ends-of checks end a same e =
-      by-ends (wire_at script h.dlci beside) (turns_on_line round (Ended a.ts a.ends a.end a.left)) checks a.ends end
-      (λ role. ap (of role) same ∙ a.stopped.checks role)
-      (subst (λ x. EndsLineBy (wire_at script h.dlci beside) (turns_on_line round x) (λ role. of role checks) end) a.is e)
+  ends-of checks end a same e = grind (arith, by-ends)
 
   pub lost-idly : (f : FolderState) (n : Written) (checks : Both Check) (role : Role) (symbol : ℕ) (a : AtEnd h script beside files round p)
       → KnowsFiles f n files → HoldLeft f n p → checks ≡ h.modems.heard_by

@@ -1,12 +1,12 @@
 -- A pair, from turn to turn of its links.
-use Rattle.link_pair.proofs.Names.{◌≡◌, ◌⊎◌, inl, inr, ℕ, zero, suc, ◌+◌, ◌*◌, ◌^◌, ◌<◌, ◌≤◌, ◌||◌, Bool, true, false, List, [], ◌∷◌, ◌++◌}
-use Rattle.link_pair.proofs.Names.{length, arith, refl, sym, ◌∙◌, ap, subst, Option, Some, None, Left, Written, Wire, wire_at, link_of}
-use Rattle.link_pair.proofs.Names.{ScriptsHaveDelays, Carried, carry, and_sent, AreSent, LinesWait, AreDue, AreWithin, Lines, Modems}
-use Rattle.link_pair.proofs.Names.{run_end, StandsFor, HalfAt, HalfIsReady, Follows, both_ended, streams_at, Awaits, first_dlci}
-use Rattle.link_pair.proofs.Names.{second_dlci, slot_in, after_second, after_first, first_wire, second_wire, Which, First, Second, is_going}
-use Rattle.link_pair.proofs.Names.{firsts_at, AreFewRounds, AreShort, PairsHaveFewRounds, FirstSlotsAreDue, SecondSlotsAreDue, Progress}
-use Rattle.link_pair.proofs.Names.{Goes, Ended, turns_in, turns_on_line, Lasts, PairAt, both_sent, first_sent, LinkEnd, Endings, Pair, Link}
-use Rattle.link_pair.proofs.Names.{Accounts, Turn, Spoken, ScriptValue, IsInLimits, FolderState, Both, of, Role, Originator, Answerer}
+use Rattle.link_pair.proofs.Names.{◌≡◌, ◌⊎◌, ℕ, zero, suc, ◌+◌, ◌*◌, ◌^◌, ◌<◌, ◌≤◌, ◌||◌, Bool, true, false, List, ◌∷◌, ◌++◌, length, arith}
+use Rattle.link_pair.proofs.Names.{refl, sym, ◌∙◌, ap, Option, Some, None, Left, Written, Wire, wire_at, link_of, ScriptsHaveDelays}
+use Rattle.link_pair.proofs.Names.{Carried, carry, and_sent, AreSent, LinesWait, AreDue, AreWithin, Lines, Modems, run_end, StandsFor}
+use Rattle.link_pair.proofs.Names.{HalfAt, HalfIsReady, Follows, both_ended, streams_at, Awaits, first_dlci, second_dlci, slot_in}
+use Rattle.link_pair.proofs.Names.{after_second, after_first, first_wire, second_wire, Which, First, Second, is_going, firsts_at}
+use Rattle.link_pair.proofs.Names.{AreFewRounds, AreShort, PairsHaveFewRounds, FirstSlotsAreDue, SecondSlotsAreDue, Progress, Goes, Ended}
+use Rattle.link_pair.proofs.Names.{turns_in, turns_on_line, Lasts, PairAt, both_sent, first_sent, LinkEnd, Endings, Pair, Link, Accounts}
+use Rattle.link_pair.proofs.Names.{Turn, Spoken, ScriptValue, IsInLimits, FolderState, Both, of, Role}
 use Rattle.std.proofs.lemmas.List.{length-append}
 use Rattle.line_world.specs.Lines.{PassedFew, from}
 use Rattle.line_world.proofs.Waiting.{passed-few}
@@ -45,38 +45,24 @@ few-rounds law x f n m link a = go (either (is_going a.p) (is_going a.q) a.going
         (are-short a.others a.second_known.within) a.at
 
     go : (is_going a.p ≡ true) ⊎ ((is_going a.p ≡ false) × (is_going a.q ≡ true)) → x.round < 2 ^ 39
-    go (inl e) = omega (arith, (both.0 e).below, firsts-least link x.round)
-    go (inr e) = (both.1 e.1).below
+    go given = grind (arith, both, firsts-least)
 
 -- ---- the line between turns
 
 -- it waits for the same whatever goes beside, on every channel
 pub waits-over : (l : Lines) (script : ScriptValue) (dlci at : ℕ) (b d : Beside) (links : ℕ) (streams : Both (List Carried))
     → LinesWait l (wire_at script dlci b) links streams → LinesWait l (wire_at script at d) links streams
-waits-over l script dlci at b d links streams h = record {
-  directions = λ role.
-      let k = h.directions role in
-      assumption;
-  coders = λ role.
-      let k = h.coders role in
-      record { stands = k.stands; sends = k.sends; symbols = k.symbols; newest = k.newest };
-}
+waits-over l script dlci at b d links streams h = grind (arith)
 
 pub first-due : PairLaws → (script : ScriptValue) (files others : Both (List ℕ)) (round : ℕ) (p q : Progress) → IsInLimits script
     → PairAt script files others round round p q
     → AreDue (first_wire script (turns_in q)) 2 (turns_on_line round p) (streams_at First round p q)
-first-due laws script files others round p q h at Originator =
-    laws.first script files others round p q at Originator (laws.delays script h Originator)
-first-due laws script files others round p q h at Answerer =
-    laws.first script files others round p q at Answerer (laws.delays script h Answerer)
+first-due laws script files others round p q h at given = grind (arith)
 
 pub second-due : PairLaws → (script : ScriptValue) (files others : Both (List ℕ)) (round : ℕ) (p q : Progress) → IsInLimits script
     → PairAt script files others (suc round) round p q
     → AreDue (second_wire script (turns_in p)) 2 (turns_on_line round q) (streams_at Second round p q)
-second-due laws script files others round p q h at Originator =
-    laws.second script files others round p q at Originator (laws.delays script h Originator)
-second-due laws script files others round p q h at Answerer =
-    laws.second script files others round p q at Answerer (laws.delays script h Answerer)
+second-due laws script files others round p q h at given = grind (arith)
 
 -- how many slots both have sent
 one-carried : (dlci : ℕ) (o : Option Spoken) → length (carry dlci o) ≤ 1
@@ -84,16 +70,7 @@ one-carried dlci o = grind (arith)
 
 first-length : (role : Role) (ts us : List Turn) → AreSent role ts → AreSent role us → length ts ≡ suc (length us)
     → length (first_sent role ts us) ≤ 2 * length us + 1
-first-length role [] us h k e = omega arith
-first-length role (t ∷ ts) us h k e =
-    let same : length ts ≡ length us = omega (arith, e) in
-    omega (
-      arith,
-      both-length role ts us h.1 k same,
-      same,
-      one-carried first_dlci (of role t).sent,
-      length-append {A = Carried} (both_sent role ts us) (carry first_dlci (of role t).sent),
-    )
+first-length role ts us h k e = grind (arith, both-length, one-carried, length-append)
 
 stream-short : (script : ScriptValue) (files others : Both (List ℕ)) (link : Which) (round : ℕ) (p q : Progress)
     → PairAt script files others (firsts_at link round) round p q → (role : Role)
@@ -124,8 +101,7 @@ stream-short script files others First round p q at role = by role
         )
 
     by : (side : Role) → length (of side (streams_at First round p q)) ≤ 2 * round + 1
-    by Originator = count Originator
-    by Answerer = count Answerer
+    by side = grind (arith, count)
 stream-short script files others Second round p q at role = by role
   where
     P : List Turn
@@ -152,8 +128,7 @@ stream-short script files others Second round p q at role = by role
         )
 
     by : (side : Role) → length (of side (streams_at Second round p q)) ≤ 2 * round + 1
-    by Originator = count Originator
-    by Answerer = count Answerer
+    by side = grind (arith, count)
 
 passed : PairLaws → (x : Pair) (f : FolderState) (n m : Written) (link : Which) → Awaits x f n m link → PassedFew x.lines.directions
 passed laws x f n m link a = each
@@ -178,33 +153,11 @@ passed laws x f n m link a = each
 
 pub first-at : PairLaws → (x : Pair) (f : FolderState) (n m : Written) (a : Awaits x f n m First)
     → HalfAt x.first x.lines f n x.script (after_second (turns_in a.q)) 2 (streams_at First x.round a.p a.q) a.files x.round a.p
-first-at laws x f n m a =
-    let beside = after_second (turns_in a.q) in
-    let streams = streams_at First x.round a.p a.q in record {
-      lasts = subst (λ d. Lasts (wire_at x.script d beside) (link_of x.script a.files) x.round a.p) (sym a.first_dlci_is) a.at.first;
-      stands = a.first;
-      channel = a.first_wire_is;
-      waits = subst (λ d. LinesWait x.lines (wire_at x.script d beside) 2 streams) (sym a.first_dlci_is) a.lines;
-      due = subst (λ d. AreDue (wire_at x.script d beside) 2 (turns_on_line x.round a.p) streams) (sym a.first_dlci_is)
-          (first-due laws x.script a.files a.others x.round a.p a.q a.limits a.at);
-      knows = a.first_known;
-      holds = a.first_holds;
-    }
+first-at laws x f n m a = grind (arith, first-due)
 
 pub second-at : PairLaws → (x : Pair) (f : FolderState) (n m : Written) (a : Awaits x f n m Second)
     → HalfAt x.second x.lines f m x.script (after_first (turns_in a.p)) 2 (streams_at Second x.round a.p a.q) a.others x.round a.q
-second-at laws x f n m a =
-    let beside = after_first (turns_in a.p) in
-    let streams = streams_at Second x.round a.p a.q in record {
-      lasts = subst (λ d. Lasts (wire_at x.script d beside) (link_of x.script a.others) x.round a.q) (sym a.second_dlci_is) a.at.second;
-      stands = a.second;
-      channel = a.second_wire_is;
-      waits = waits-over x.lines x.script first_dlci x.second.dlci (after_second (turns_in a.q)) beside 2 streams a.lines;
-      due = subst (λ d. AreDue (wire_at x.script d beside) 2 (turns_on_line x.round a.q) streams) (sym a.second_dlci_is)
-          (second-due laws x.script a.files a.others x.round a.p a.q a.limits a.at);
-      knows = a.second_known;
-      holds = a.second_holds;
-    }
+second-at laws x f n m a = grind (arith, waits-over, second-due)
 
 pub first-ready : PairLaws → (x : Pair) (f : FolderState) (n m : Written) → Awaits x f n m First
     → HalfIsReady x.first x.lines x.script f n x.round
@@ -239,13 +192,7 @@ second-ready laws x f n m a = record {
 -- the slots of earlier rounds stay as they are
 follows-stays : (p next : Progress) (rounds : ℕ) → Follows p next → (is_going p ≡ true → length (turns_in p) ≡ rounds)
     → (dlci : ℕ) (role : Role) (round : ℕ) → round < rounds → slot_in dlci role (turns_in p) round ≡ slot_in dlci role (turns_in next) round
-follows-stays (Goes ts ends) (Goes us after) rounds (t, is) count dlci role round l =
-    subst (λ vs. slot_in dlci role ts round ≡ slot_in dlci role vs round) (sym is)
-    (sym (slot-stays dlci role t ts round (omega (arith, l, count refl))))
-follows-stays (Goes ts ends) (Ended us mid end left) rounds is count dlci role round l =
-    ap (λ vs. slot_in dlci role vs round) (sym is)
-follows-stays (Ended ts ends end left) next rounds is count dlci role round l =
-    ap (λ z. slot_in dlci role (turns_in z) round) (sym is)
+follows-stays p next rounds is count dlci role round l = grind (arith, slot-stays)
 
 pub counted : (c : Wire) (link : Link) (rounds : ℕ) (p : Progress) → Lasts c link rounds p → is_going p ≡ true
     → length (turns_in p) ≡ rounds
@@ -282,11 +229,7 @@ at-first delays script files others more round p q next h at follows l = record 
 -- what is on the line then
 pub after-first-turn : (sent : Turn) (round : ℕ) (p next q : Progress) → turns_on_line (suc round) next ≡ sent ∷ turns_on_line round p
     → streams_at Second round next q ≡ and_sent (streams_at First round p q) first_dlci sent
-after-first-turn sent round p next q e =
-    ap (λ ts. record {
-      orig = first_sent Originator ts (turns_on_line round q);
-      answ = first_sent Answerer ts (turns_on_line round q);
-    }) e
+after-first-turn sent round p next q e = grind (arith)
 
 second-more : (role : Role) (ts us : List Turn) (u : Turn) (count : ℕ) → length ts ≡ suc count
     → both_sent role ts (u ∷ us) ≡ first_sent role ts us ++ carry second_dlci (of role u).sent
@@ -295,15 +238,7 @@ second-more role ts us u count e = grind (arith)
 pub after-second-turn : (sent : Turn) (round : ℕ) (p q next : Progress) → length (turns_on_line (suc round) p) ≡ suc round
     → turns_on_line (suc round) next ≡ sent ∷ turns_on_line round q
     → streams_at First (suc round) p next ≡ and_sent (streams_at Second round p q) second_dlci sent
-after-second-turn sent round p q next long e =
-    ap (λ us. record {
-      orig = both_sent Originator (turns_on_line (suc round) p) us;
-      answ = both_sent Answerer (turns_on_line (suc round) p) us;
-    }) e
-    ∙ (λ k. record {
-      orig = second-more Originator (turns_on_line (suc round) p) (turns_on_line round q) sent round long k;
-      answ = second-more Answerer (turns_on_line (suc round) p) (turns_on_line round q) sent round long k;
-    })
+after-second-turn sent round p q next long e = grind (arith, second-more)
 
 -- ---- both have ended, or one goes on
 

@@ -1,19 +1,19 @@
 -- However a pair ends, each received file is as it was, or holds the beginning of the file of the other end of its link.
-use Rattle.link_pair.proofs.Names.{◌≡◌, inl, inr, ℕ, suc, List, [], ◌∷◌, ◌++◌, Some, Result, Ok, Err, refl, sym, ◌∙◌, ap, subst, arith}
+use Rattle.link_pair.proofs.Names.{◌≡◌, inl, inr, ℕ, suc, List, [], ◌++◌, Some, Result, Ok, Err, refl, sym, ◌∙◌, ap, subst, arith}
 use Rattle.link_pair.proofs.Names.{append-nil, concat, Stop, RunLaws, may-run, runs-over, hearing-in, Left, Written, Wire, LineRun, link_of}
 use Rattle.link_pair.proofs.Names.{AddsTurn, held_of, result_of, AreFiles, StopsInRound, EndsBy, left_by, LinkStops, LinkStopsReading}
 use Rattle.link_pair.proofs.Names.{first_wire, second_wire, Which, First, Second, BothDone, firsts_at, ArePrefixes, PairsLeavePrefixes}
 use Rattle.link_pair.proofs.Names.{DonePairsAreWhole, FaintPairsAreIsolated, Progress, Goes, Ended, turns_in, Lasts, PairAt, Names}
 use Rattle.link_pair.proofs.Names.{LastTurns, deliveries, Link, Accounts, Turn, BreaksAreOctets, ScriptValue, IsInLimits, delay_of}
-use Rattle.link_pair.proofs.Names.{FolderState, GoesOn, Holds, HoldEach, KeepsAll, KeepsEach, CreatesPart, LIMITS, Both, of, IsPrefixOf}
-use Rattle.link_pair.proofs.Names.{other, Role, Originator, Answerer}
+use Rattle.link_pair.proofs.Names.{FolderState, GoesOn, Holds, HoldEach, KeepsAll, CreatesPart, LIMITS, Both, of, IsPrefixOf, other, Role}
+use Rattle.link_pair.proofs.Names.{Originator, Answerer}
 use Rattle.std.proofs.lemmas.List.Folds.{concat-append}
-use Rattle.outside_calls.specs.Outputs.{HoldsPart, HoldPart, KeptOrEmpty}
+use Rattle.outside_calls.specs.Outputs.{HoldsPart, HoldPart}
 use Rattle.link_run.specs.Laws.{HoldPrefixes, TakesWhatPassed}
 use Rattle.command_base.specs.declared.stop.Stop.TheVariants as stops
 use Rattle.line_run.specs.Names as written
 use Rattle.run_inputs.specs.Files.{KeptOrPrefix}
-use Rattle.run_inputs.proofs.Files.{prefix-of, part-of, empty-of}
+use Rattle.run_inputs.proofs.Files.{prefix-of, part-of}
 use Rattle.link_pair.specs.Half.{AddsMore}
 use Rattle.link_pair.specs.Pair.{StopsTurn}
 use Rattle.link_pair.specs.Words.{outputs_of}
@@ -107,14 +107,11 @@ part-all f name octets piece holds told = (piece, ([], append-nil piece), holds 
 
 part-o : (f : FolderState) (n : Written) (left more : Left) → HoldPart f (written.outputs_of n) (held_of left) (held_of more)
     → HoldsPart f n.got_o left.got.orig more.got.orig
-part-o f n left more (inl h) = h.0
-part-o f n left more (inr h) = part-all f n.got_o left.got.orig more.got.orig h.0
+part-o f n left more given = grind (arith, part-all)
 
 part-a : (f : FolderState) (n : Written) (left more : Left) → HoldPart f (written.outputs_of n) (held_of left) (held_of more)
     → HoldsPart f n.got_a left.got.answ more.got.answ
-part-a f n left more (inl h) = part-none f n.got_a left.got.answ more.got.answ h.1.0
-part-a f n left more (inr (o, inl h)) = h.0
-part-a f n left more (inr (o, inr h)) = part-all f n.got_a left.got.answ more.got.answ h.0
+part-a f n left more given = grind (arith, part-none, part-all)
 
 link-stopped : HeadLaws → (old before : FolderState) (n : Written) (c : Wire) (files : Both (List ℕ)) (rounds : ℕ) (p : Progress)
     → GoesOn old before → IsInLimits c.script → AreFiles old n files → Lasts c (link_of c.script files) rounds p
@@ -186,38 +183,11 @@ both-stopped S to laws old before n g e = by e.stops.link e.stops.at e.stops.sto
           (to d (link_of e.script others) before n.second e.stops.round q k.1);
     }
 
--- an output was not created
-abbrev EachKeptOrEmpty : FolderState → FolderState → List (List ℕ) → Type 0
-EachKeptOrEmpty old new [] = Unit {0}
-EachKeptOrEmpty old new (name ∷ names) = KeptOrEmpty old new name × EachKeptOrEmpty old new names
-
-each-kept : (old new : FolderState) (names : List (List ℕ)) → KeepsEach old new names → EachKeptOrEmpty old new names
-each-kept old new [] k = tt
-each-kept old new (name ∷ names) k = (inl k.0, each-kept old new names k.1)
-
-each-created : (old new : FolderState) (names : List (List ℕ)) → CreatesPart old new names → EachKeptOrEmpty old new names
-each-created old new [] c = absurd c
-each-created old new (name ∷ names) (inl c) = (c.0, each-kept old new names c.1)
-each-created old new (name ∷ names) (inr c) = (inr c.0, each-created old new names c.1)
-
 both-creating : (old before : FolderState) (n : Names) → GoesOn old before → CreatesPart old before (outputs_of n) → BothPrefix old before n
-both-creating old before n g c =
-    let k = each-created old before (outputs_of n) c in record {
-      first = record {
-        got_o = empty-of old before n.first.got_o n.first.answ g k.0;
-        got_a = empty-of old before n.first.got_a n.first.orig g k.1.0;
-      };
-      second = record {
-        got_o = empty-of old before n.second.got_o n.second.answ g k.1.1.0;
-        got_a = empty-of old before n.second.got_a n.second.orig g k.1.1.1.0;
-      };
-    }
+both-creating old before n g c = grind (arith)
 
 both-kept : (old before : FolderState) (n : Names) → KeepsAll old before → BothPrefix old before n
-both-kept old before n kept = record {
-  first = record { got_o = inl (kept n.first.got_o); got_a = inl (kept n.first.got_a) };
-  second = record { got_o = inl (kept n.second.got_o); got_a = inl (kept n.second.got_a) };
-}
+both-kept old before n kept = grind (arith)
 
 both-by : HeadLaws → (old before : FolderState) (n : Names) (stop : Stop) → GoesOn old before → EndsBy LIMITS old before n stop
     → BothPrefix old before n

@@ -1,6 +1,6 @@
 -- A list of eleven words, and one of another length.
-use Rattle.std.proofs.Common.{◌≡◌, ℕ, ◌<◌, ◌≤◌, List, [], ◌∷◌, length, map, slice_index_or, None, refl, sym, arith}
-use Rattle.link_pair.specs.Words.{names_of}
+use Rattle.link_pair.proofs.Names.{◌≡◌, ℕ, ◌<◌, ◌≤◌, List, [], ◌∷◌, length, map, None, refl, sym, arith, names_of}
+use Rattle.std.proofs.Common.{slice_index_or}
 
 -- fewer words, or more, are no pair's
 pub none-few : {A : Type 0} (f : A → List ℕ) (ws : List A) → length ws < 11 → names_of (map f ws) ≡ None
@@ -52,12 +52,9 @@ listed (w0 ∷ w1 ∷ []) d0 d1 d2 d3 d4 d5 d6 d7 d8 d9 d10 l m e0 e1 e2 e3 e4 e
 listed (w0 ∷ w1 ∷ w2 ∷ []) d0 d1 d2 d3 d4 d5 d6 d7 d8 d9 d10 l m e0 e1 e2 e3 e4 e5 e6 e7 e8 e9 e10 = absurd (omega (arith, l))
 listed (w0 ∷ w1 ∷ w2 ∷ w3 ∷ []) d0 d1 d2 d3 d4 d5 d6 d7 d8 d9 d10 l m e0 e1 e2 e3 e4 e5 e6 e7 e8 e9 e10 = absurd (omega (arith, l))
 listed (w0 ∷ w1 ∷ w2 ∷ w3 ∷ w4 ∷ []) d0 d1 d2 d3 d4 d5 d6 d7 d8 d9 d10 l m e0 e1 e2 e3 e4 e5 e6 e7 e8 e9 e10 = absurd (omega (arith, l))
-listed (w0 ∷ w1 ∷ w2 ∷ w3 ∷ w4 ∷ w5 ∷ []) d0 d1 d2 d3 d4 d5 d6 d7 d8 d9 d10 l m e0 e1 e2 e3 e4 e5 e6 e7 e8 e9 e10 = absurd
-    (omega (arith, l))
-listed (w0 ∷ w1 ∷ w2 ∷ w3 ∷ w4 ∷ w5 ∷ w6 ∷ []) d0 d1 d2 d3 d4 d5 d6 d7 d8 d9 d10 l m e0 e1 e2 e3 e4 e5 e6 e7 e8 e9 e10 = absurd
-    (omega (arith, l))
-listed (w0 ∷ w1 ∷ w2 ∷ w3 ∷ w4 ∷ w5 ∷ w6 ∷ w7 ∷ []) d0 d1 d2 d3 d4 d5 d6 d7 d8 d9 d10 l m e0 e1 e2 e3 e4 e5 e6 e7 e8 e9 e10 = absurd
-    (omega (arith, l))
+listed (w0 ∷ w1 ∷ w2 ∷ w3 ∷ w4 ∷ w5 ∷ []) d0 d1 d2 d3 d4 d5 d6 d7 d8 d9 d10 l m e0 e1 e2 e3 e4 e5 e6 e7 e8 e9 e10 = grind (arith)
+listed (w0 ∷ w1 ∷ w2 ∷ w3 ∷ w4 ∷ w5 ∷ w6 ∷ []) d0 d1 d2 d3 d4 d5 d6 d7 d8 d9 d10 l m e0 e1 e2 e3 e4 e5 e6 e7 e8 e9 e10 = grind (arith)
+listed (w0 ∷ w1 ∷ w2 ∷ w3 ∷ w4 ∷ w5 ∷ w6 ∷ w7 ∷ []) d0 d1 d2 d3 d4 d5 d6 d7 d8 d9 d10 l m e0 e1 e2 e3 e4 e5 e6 e7 e8 e9 e10 = grind (arith)
 listed (w0 ∷ w1 ∷ w2 ∷ w3 ∷ w4 ∷ w5 ∷ w6 ∷ w7 ∷ w8 ∷ []) d0 d1 d2 d3 d4 d5 d6 d7 d8 d9 d10 l m e0 e1 e2 e3 e4 e5 e6 e7 e8 e9 e10 = absurd
     (omega (arith, l))
 listed (w0 ∷ w1 ∷ w2 ∷ w3 ∷ w4 ∷ w5 ∷ w6 ∷ w7 ∷ w8 ∷ w9 ∷ []) d0 d1 d2 d3 d4 d5 d6 d7 d8 d9 d10 l m e0 e1 e2 e3 e4 e5 e6 e7 e8 e9 e10 =

@@ -1,6 +1,6 @@
 -- What is refused is refused before the outputs are created.
-use Rattle.link_pair.proofs.Names.{arith, ◌≡◌, ◌∙◌, inl, inr, Result, Err, sym, ap, subst, Status, Stop, answer_of, result_of, EndsBy, Ends}
-use Rattle.link_pair.proofs.Names.{PairEnd, Names, LastTurns, FolderState, KeepsAll, LIMITS}
+use Rattle.link_pair.proofs.Names.{arith, ◌≡◌, ◌∙◌, Result, Err, sym, ap, Status, Stop, answer_of, result_of, EndsBy, Ends, PairEnd, Names}
+use Rattle.link_pair.proofs.Names.{LastTurns, FolderState, KeepsAll, LIMITS}
 use Rattle.command_base.specs.declared.stop.Stop.TheVariants as stops
 use Rattle.command_base.specs.Status.{IsRefusal}
 use Rattle.command_base.specs.Stops.{end_status}
@@ -21,12 +21,8 @@ own-answer answer end result e f = sym (ap end_status e) ∙ ap end_status f ∙
 
 own-refused : (old before : FolderState) (n : Names) (answer : Status) → IsRefusal answer → EndsBy LIMITS old before n (stops.Own answer)
     → KeepsAll old before
-own-refused old before n answer r (inl refused) = refused.0
-own-refused old before n answer r (inr e) =
-    absurd (no-refusal e.end (subst IsRefusal (own-answer answer e.end (Err (stops.Own answer)) (λ k. Err
-    (stops.Own answer)) e.result_is) r))
+own-refused old before n answer r given = grind (arith, no-refusal, own-answer)
 
 pub refused-by : (old before : FolderState) (n : Names) (end : Result LastTurns Stop) → Ends LIMITS old before n end
     → IsRefusal (end_status end) → KeepsAll old before
-refused-by old before n end ends =
-    refusal-own end (KeepsAll old before) (λ answer e r. own-refused old before n answer r (subst (Ends LIMITS old before n) e ends))
+refused-by old before n end ends = grind (arith, refusal-own, own-refused)

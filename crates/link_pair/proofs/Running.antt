@@ -3,10 +3,9 @@ use Rattle.link_pair.proofs.Names.{inr, ℕ, List, [], ◌∷◌, refl, ◌∙�
 use Rattle.link_pair.proofs.Names.{LineRunsEndSoon, RunFault, FaultCountsOver, KnowsFiles, result_of, IsBegun, RanTo, StopsInRound, EndsBy}
 use Rattle.link_pair.proofs.Names.{Ends, LinkStops, LinkStopsReading, FaultEnds, first_wire, second_wire, PairEnd, Progress, turns_in}
 use Rattle.link_pair.proofs.Names.{Lasts, Names, files_of, inputs_of, Link, ScriptValue, IsInLimits, SomeRose-earlier, FolderState, GoesOn}
-use Rattle.link_pair.proofs.Names.{KeepsName, CountsStand, IsNoneOf, AreApartFrom, KeepsEach, CreatesPart, OnlyOutputs, OnlyPuts, LIMITS}
-use Rattle.link_pair.proofs.Names.{Both}
+use Rattle.link_pair.proofs.Names.{CountsStand, AreApartFrom, KeepsEach, CreatesPart, OnlyOutputs, OnlyPuts, LIMITS, Both}
 use Rattle.outside_calls.specs.Folder.{OnlyReads}
-use Rattle.outside_calls.proofs.Steps.{GoesOn-trans, KeepsName-trans}
+use Rattle.outside_calls.proofs.Steps.{GoesOn-trans}
 use Rattle.outside_calls.specs.Outputs.{AreApart, AreNoneOf}
 use Rattle.outside_calls.proofs.Putting.{KeepsEach-reads, inputs-kept, none-fronts}
 use Rattle.command_base.proofs.Creating.{CreatesPart-earlier}
@@ -53,12 +52,7 @@ goes-on old mid now next n script p = GoesOn-trans p.begun.reads.goes_on (GoesOn
 -- the files are as they were before all of them
 files-kept : (old mid now next : FolderState) (n : Names) (script : ScriptValue) → Phases LIMITS old mid now next n script
     → KeepsEach old next (files_of n)
-files-kept old mid now next n script p = inputs-kept old next (files_of n) (outputs_of n) p.apart kept
-  where
-    kept : (other : List ℕ) → IsNoneOf other (outputs_of n) → KeepsName old next other
-    kept other none =
-        KeepsName-trans old mid next other p.begun.reads.goes_on (p.begun.reads.names other)
-        (KeepsName-trans mid now next other p.creates.goes_on (p.creates.names other none) (p.rounds.names other none))
+files-kept old mid now next n script p = grind (arith, inputs-kept)
 
 takes : (old mid now next : FolderState) (n : Names) (script : ScriptValue) (files others : Both (List ℕ))
     → Phases LIMITS old mid now next n script → KnowsFiles next n.first files → KnowsFiles next n.second others

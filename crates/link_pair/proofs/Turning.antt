@@ -1,12 +1,11 @@
 -- What a link's turn comes to for the pair.
 use Rattle.link_pair.proofs.Names.{◌≡◌, ◌⊎◌, ℕ, suc, ◌+◌, ◌<◌, max, true, false, List, [], length, arith, refl, sym, ◌∙◌, ap, subst, Option}
-use Rattle.link_pair.proofs.Names.{Some, None, Result, Ok, Err, append-nil, concat, Left, Written, outputs_of, Wire, LineEnd, wire_at}
-use Rattle.link_pair.proofs.Names.{link_of, Carried, RunFault, LinesWait, Lines, run_end, left_by, HoldLeft, Follows, HasCome}
-use Rattle.link_pair.proofs.Names.{IsEndedByLine, LinkStops, LinkStopsReading, IsStopped, HalfEnds, HalfAt, both_ended, streams_at, Awaits}
-use Rattle.link_pair.proofs.Names.{HaveEnded, FaultEndsIn, Comes, first_dlci, second_dlci, after_second, after_first, first_wire}
-use Rattle.link_pair.proofs.Names.{second_wire, First, Second, is_going, LeavesOf, by_links, by_line, Progress, Goes, Ended, turns_in}
-use Rattle.link_pair.proofs.Names.{HasEnded, Lasts, PairAt, Half, LinkEnd, Endings, Pair, Link, Accounts, Turn, trace_text, ScriptValue}
-use Rattle.link_pair.proofs.Names.{FolderState, OnlyPuts, Both, of, Role, Originator, Answerer}
+use Rattle.link_pair.proofs.Names.{Some, None, Result, Ok, Err, append-nil, Left, Written, outputs_of, Wire, LineEnd, wire_at, link_of}
+use Rattle.link_pair.proofs.Names.{Carried, RunFault, LinesWait, Lines, run_end, left_by, HoldLeft, Follows, HasCome, IsEndedByLine}
+use Rattle.link_pair.proofs.Names.{LinkStops, LinkStopsReading, IsStopped, HalfEnds, HalfAt, both_ended, streams_at, Awaits, HaveEnded}
+use Rattle.link_pair.proofs.Names.{FaultEndsIn, Comes, first_dlci, second_dlci, after_second, after_first, first_wire, second_wire, First}
+use Rattle.link_pair.proofs.Names.{Second, is_going, LeavesOf, by_links, by_line, Progress, Ended, turns_in, Lasts, PairAt, Half, LinkEnd}
+use Rattle.link_pair.proofs.Names.{Endings, Pair, Link, Accounts, Turn, ScriptValue, FolderState, OnlyPuts, Both}
 use Rattle.line_run.specs.Sampled as lines
 use Rattle.link_pair.specs.Pairs.Ends.{BothEnd}
 use Rattle.link_pair.specs.Pairs.Ends as pairs
@@ -52,39 +51,20 @@ ended-now p next rounds f g e count = grind (arith)
 -- its last turn is numbered by those before
 last-turn-is : (c : Wire) (link : Link) (rounds : ℕ) (p : Progress) (ts : List Turn) (ends : Accounts) (found : LinkEnd) (left : Left)
     → p ≡ Ended ts ends (run_end found) left → Lasts c link rounds p → last_turn found ≡ length ts
-last-turn-is c link rounds p ts ends found left e l = by found (subst (Lasts c link rounds) e l)
-  where
-    by : (found : LinkEnd) → HasEnded c link rounds ts ends (run_end found) left → last_turn found ≡ length ts
-    by found h = grind (arith)
+last-turn-is c link rounds p ts ends found left e l = grind (arith)
 
 over-pair : (script : ScriptValue) (files others : Both (List ℕ)) (firsts seconds : ℕ) (p q : Progress) (endings : Endings)
     → PairAt script files others firsts seconds p q → (o : AreOver endings p q)
     → firsts ≡ suc (max (length o.ts) (length o.us)) → seconds ≡ max (length o.ts) (suc (length o.us))
     → BothEnd script files others (run_end endings.first) (run_end endings.second) o.left o.leaves
-over-pair script files others firsts seconds p q endings at o e f =
-    let first = Ended o.ts o.ends (run_end endings.first) o.left in
-    let second = Ended o.us o.mids (run_end endings.second) o.leaves in record {
-      ts = o.ts;
-      us = o.us;
-      ends = o.ends;
-      mids = o.mids;
-      at = subst (λ k. PairAt script files others (suc (max (length o.ts) (length o.us))) k first second) f
-          (subst (λ k. PairAt script files others k seconds first second) e
-          (subst (λ z. PairAt script files others firsts seconds first z) o.second_is
-          (subst (λ z. PairAt script files others firsts seconds z q) o.first_is at)));
-    }
+over-pair script files others firsts seconds p q endings at o e f = grind (arith)
 
 one-more : (round : ℕ) → suc round ≡ round + 1
 one-more round = omega arith
 
 -- what is left of the other one, with nothing behind its trace
 leaves-none : (p : Progress) → LeavesOf p [] (left_by p)
-leaves-none (Goes ts ends) = record { got_is = is; trace_is = sym (append-nil (trace_text ts)) }
-  where
-    is : (role : Role) → of role (left_by (Goes ts ends)).got ≡ concat (of role ends).incoming.taken
-    is Originator = refl
-    is Answerer = refl
-leaves-none (Ended ts ends end left) = (refl, sym (append-nil left.trace))
+leaves-none p = grind (arith, append-nil)
 
 abbrev Stopping : Type 1
 Stopping = Wire → Link → FolderState → Written → ℕ → Progress → Type 0
@@ -171,17 +151,13 @@ module _ (laws : PairLaws) (x : Pair) (h : Half) (l : Lines) (old new : FolderSt
           (counted (first_wire x.script (turns_in a.q)) (link_of x.script a.files) x.round a.p a.at.first was)
 
       second-short : length o.us < x.round
-      second-short = subst (λ z. length (turns_in z) < x.round) o.second_is
-          (ended-before (second_wire x.script (turns_in a.p)) a.others x.round a.q a.at.second second-over)
+      second-short = grind (arith, o, ended-before, second-over)
 
       first-turn : last_turn endings.first ≡ length o.ts
-      first-turn = last-turn-is (first_wire x.script (turns_in a.q)) (link_of x.script k.others) (suc x.round) k.next o.ts o.ends
-          endings.first
-          o.left o.first_is k.lasts
+      first-turn = grind (arith, last-turn-is, k, o)
 
       second-turn : last_turn endings.second ≡ length o.us
-      second-turn = last-turn-is (second_wire x.script (turns_in a.p)) (link_of x.script a.others) x.round a.q o.us o.mids endings.second
-          o.leaves o.second_is a.at.second
+      second-turn = grind (arith, last-turn-is, o)
 
   line-first : (cause : LineEnd)
       → IsEndedByLine (wire_at x.script x.first.dlci (after_second (turns_in a.q))) new n a.files x.round a.p cause
@@ -251,8 +227,7 @@ module _ (laws : PairLaws) (x : Pair) (h : Half) (l : Lines) (old new : FolderSt
 
   pub comes-first : h.dlci ≡ x.first.dlci → (o : Option Endings) → both_ended h.ended x.second.ended ≡ o
       → Answers x.first x.lines x.script old new n x.round h l (Ok tt) → Comes x.script x.round First (first_moved x h l) new n m (Ok o)
-  comes-first same None none answers = (goes-to-second same none answers, refl)
-  comes-first same (Some endings) some answers = ends-first endings some answers
+  comes-first same o none answers = grind (arith, goes-to-second, ends-first)
 
 -- ---- the turn of the second link
 
@@ -342,16 +317,13 @@ module _ (laws : PairLaws) (x : Pair) (h : Half) (l : Lines) (old new : FolderSt
           (counted (second_wire x.script (turns_in a.p)) (link_of x.script a.others) x.round a.q a.at.second was)
 
       first-short : length o.ts < suc x.round
-      first-short = subst (λ z. length (turns_in z) < suc x.round) o.first_is
-          (ended-before (first_wire x.script (turns_in a.q)) a.files (suc x.round) a.p a.at.first first-over)
+      first-short = grind (arith, o, ended-before, first-over)
 
       first-turn : last_turn endings.first ≡ length o.ts
-      first-turn = last-turn-is (first_wire x.script (turns_in a.q)) (link_of x.script a.files) (suc x.round) a.p o.ts o.ends endings.first
-          o.left o.first_is a.at.first
+      first-turn = grind (arith, last-turn-is, o)
 
       second-turn : last_turn endings.second ≡ length o.us
-      second-turn = last-turn-is (second_wire x.script (turns_in a.p)) (link_of x.script k.others) (suc x.round) k.next o.us o.mids
-          endings.second o.leaves o.second_is k.lasts
+      second-turn = grind (arith, last-turn-is, k, o)
 
   line-second : (cause : LineEnd)
       → IsEndedByLine (wire_at x.script x.second.dlci (after_first (turns_in a.p))) new m a.others x.round a.q cause
@@ -422,5 +394,4 @@ module _ (laws : PairLaws) (x : Pair) (h : Half) (l : Lines) (old new : FolderSt
   pub comes-second : h.dlci ≡ x.second.dlci → (o : Option Endings) → both_ended x.first.ended h.ended ≡ o
       → Answers x.second x.lines x.script old new m x.round h l (Ok tt)
       → Comes x.script x.round Second (second_moved x h l) new n m (Ok o)
-  comes-second same None none answers = (goes-to-first same none answers, refl)
-  comes-second same (Some endings) some answers = ends-second endings some answers
+  comes-second same o none answers = grind (arith, goes-to-first, ends-second)

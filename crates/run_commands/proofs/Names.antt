@@ -1,7 +1,7 @@
 -- What the proofs of this crate name of the crates below, of the definitions, and of std.
 pub use Rattle.std.proofs.Common.{Bool, Err, IsTrue, List, None, Ok, Option, Result, Some, [], ap, append_assoc, arith, false, inl, inr}
-pub use Rattle.std.proofs.Common.{length, length-append, nat_eq, refl, rules, subst, suc, sym, take, true, zero, ℕ, ◌*◌, ◌++◌, ◌+◌, ◌<◌}
-pub use Rattle.std.proofs.Common.{◌∙◌, ◌∷◌, ◌≡◌, ◌≢◌, ◌≤◌, ◌⊎◌}
+pub use Rattle.std.proofs.Common.{length, length-append, map, nat_eq, refl, rules, string_bytes, subst, suc, sym, take, true, zero, ℕ, ◌*◌}
+pub use Rattle.std.proofs.Common.{◌++◌, ◌+◌, ◌<◌, ◌∙◌, ◌∷◌, ◌≡◌, ◌≢◌, ◌≤◌, ◌⊎◌}
 pub use Rattle.std.proofs.lemmas.Bool.{cases_lt}
 pub use Rattle.std.proofs.lemmas.Bool.Decides.{nat_tests}
 pub use Rattle.std.proofs.lemmas.List.{append-nil, take_all}
@@ -65,6 +65,7 @@ pub use Rattle.run_commands.specs.Peering.Turns.{Reached, fault_stop}
 pub use Rattle.run_commands.specs.Peering.Words.{Names, inputs_of, named, outputs_of, turn_names}
 pub use Rattle.run_commands.specs.Running.Ends.{EndsBy, IsBegun, RanBy, RanTo, StopsHeading, StopsInTurn, Takes, run_job}
 pub use Rattle.run_commands.specs.Running.Tapes.{HeadsPartly}
+pub use Rattle.run_commands.specs.Soaking.Drawing.{word_octets}
 pub use Rattle.run_commands.specs.Soaking.Ends.{Ends, SoakEnds, soak_files, soak_wire}
 pub use Rattle.run_commands.specs.Soaking.Folder.{HoldsFiles, soak_names}
 pub use Rattle.run_commands.specs.Soaking.Soak.{role_in_turn, soak_file, turn_lost}

@@ -1,5 +1,5 @@
 -- One thing is found of octets beside a text.
-use Rattle.trace_audit.proofs.Cited.{arith, ◌≡◌, ℕ, List, Result, Ok, Err, refl, ◌∙◌, ap, subst, AuditCause, text_of, FirstDiffers, IsCut}
+use Rattle.trace_audit.proofs.Cited.{arith, ◌≡◌, ℕ, List, Result, Err, refl, ◌∙◌, subst, AuditCause, text_of, FirstDiffers, IsCut}
 use Rattle.trace_audit.proofs.Cited.{DiffersIn, IsFound, Difference}
 use Rattle.trace_audit.specs.Verdict.{IsText, VerdictsAreOne}
 
@@ -35,10 +35,7 @@ module _ (laws : VerdictLaws) (text octets : List ℕ) where
       let same = one-difference d.line e.line d.cause e.cause a b in same-end d.line e.line d.cause e.cause same.0 same.1
 
   one-found : (a b : Result ℕ Difference) → IsFound text octets a → IsFound text octets b → a ≡ b
-  one-found (Ok m) (Ok n) a b = ap (λ (k : ℕ). Ok k) (one-count m n a b)
-  one-found (Ok m) (Err d) a b = absurd (never-both d.line d.cause a.same b)
-  one-found (Err d) (Ok n) a b = absurd (never-both d.line d.cause b.same a)
-  one-found (Err d) (Err e) a b = one-end d e a b
+  one-found a b a2 b2 = grind (arith, one-count, never-both, one-end)
 
 pub verdicts-are-one : VerdictLaws → VerdictsAreOne
 verdicts-are-one laws text octets a b h k = one-found laws text octets a b h k

@@ -30,8 +30,7 @@ found Q name (k ∷ among) shape each e =
         → option_map shape_of (cond b (Some k) (first_named name among)) ≡ Some shape
         → (option_map shape_of (first_named name among) ≡ Some shape → (kind : FrameKind) × Q name kind × (shape_of kind ≡ shape))
         → (kind : FrameKind) × Q name kind × (shape_of kind ≡ shape)
-    go true same e rest = (k, subst (λ n. Q n k) (sym (same-bytes name (parts_of_kind k).name same)) (each k), cc)
-    go false same e rest = rest e
+    go b same e rest = grind (arith, same-bytes)
 
 -- what holds of each name with its shape
 pub at-names : (P : List ℕ → Shape → Type 0) → ((kind : FrameKind) → P (parts_of_kind kind).name (shape_of kind))
@@ -116,13 +115,7 @@ abbrev pub Found : (List ℕ → Type 0) → List ℕ → List ℕ → Type 0
 Found P text rest = (front : List ℕ) × P front × (text ≡ front ++ rest)
 
 renamed : (shape : Shape) (name : List ℕ) (w : FrameWords) → shape_text shape (record w { name = name }) ≡ shape_text shape w
-renamed Numbered name w = refl
-renamed Supervisory name w = refl
-renamed Commanding name w = refl
-renamed Responding name w = refl
-renamed Rejecting name w = refl
-renamed Exchanging name w = refl
-renamed Unnumbered name w = refl
+renamed shape name w = grind (arith)
 
 frame-is : (text rest : List ℕ) → behind_frame text ≡ Some rest → Found IsFrameText text rest
 frame-is text rest e =
@@ -147,9 +140,7 @@ frame-is text rest e =
 -- ---- signals
 
 pub signal-reads : (text rest : List ℕ) → IsSignal text → Stops rest → behind_signal (text ++ rest) ≡ Some rest
-signal-reads text rest (odp e) s = ap (λ t. behind_signal (t ++ rest)) e
-signal-reads text rest (adp e) s = ap (λ t. behind_signal (t ++ rest)) e
-signal-reads text rest (frame f) s = (frame-reads text rest f s).signal
+signal-reads text rest given s = grind (arith, frame-reads)
 
 signal-is : (text rest : List ℕ) → behind_signal text ≡ Some rest → Found IsSignal text rest
 signal-is text rest e = elim (either (behind (codes "odp") text) (first_of (behind (codes "adp") text) (behind_frame text)) rest e) [
@@ -163,14 +154,10 @@ signal-is text rest e = elim (either (behind (codes "odp") text) (first_of (behi
 -- ---- what arrives
 
 heard-signal : (text rest : List ℕ) → IsSignal text → Stops rest → behind_heard (text ++ rest) ≡ Some rest
-heard-signal text rest (odp e) s = ap (λ t. behind_heard (t ++ rest)) e
-heard-signal text rest (adp e) s = ap (λ t. behind_heard (t ++ rest)) e
-heard-signal text rest (frame f) s = (frame-reads text rest f s).heard
+heard-signal text rest given s = grind (arith, frame-reads)
 
 pub heard-reads : (text rest : List ℕ) → IsHeard text → Stops rest → behind_heard (text ++ rest) ≡ Some rest
-heard-reads text rest (nothing e) s = ap (λ t. behind_heard (t ++ rest)) e
-heard-reads text rest (lost front f e) s = grind (arith, signal-reads)
-heard-reads text rest (passed f) s = heard-signal text rest f s
+heard-reads text rest given s = grind (arith, signal-reads, heard-signal)
 
 pub heard-is : (text rest : List ℕ) → behind_heard text ≡ Some rest → Found IsHeard text rest
 heard-is text rest e = elim (either (behind (codes "-") text) (first_of (behind_lost text) (behind_signal text)) rest e) [
@@ -190,15 +177,10 @@ heard-is text rest e = elim (either (behind (codes "-") text) (first_of (behind_
 -- ---- what is sent
 
 sent-signal : (text rest : List ℕ) → IsSignal text → Stops rest → behind_sent (text ++ rest) ≡ Some rest
-sent-signal text rest (odp e) s = ap (λ t. behind_sent (t ++ rest)) e
-sent-signal text rest (adp e) s = ap (λ t. behind_sent (t ++ rest)) e
-sent-signal text rest (frame f) s = (frame-reads text rest f s).sent
+sent-signal text rest given s = grind (arith, frame-reads)
 
 pub sent-reads : (text rest : List ℕ) → IsSent text → Stops rest → behind_sent (text ++ rest) ≡ Some rest
-sent-reads text rest (mark e) s = ap (λ t. behind_sent (t ++ rest)) e
-sent-reads text rest (flags e) s = ap (λ t. behind_sent (t ++ rest)) e
-sent-reads text rest (none e) s = ap (λ t. behind_sent (t ++ rest)) e
-sent-reads text rest (signal f) s = sent-signal text rest f s
+sent-reads text rest given s = grind (arith, sent-signal)
 
 pub sent-is : (text rest : List ℕ) → behind_sent text ≡ Some rest → Found IsSent text rest
 sent-is text rest e =
@@ -278,27 +260,13 @@ literal : (text word : List ℕ) (most : ℕ) → text ≡ word → IsShort most
 literal text word most e h = subst (IsShort most) (sym e) h
 
 frame-short : (text : List ℕ) → IsFrameText text → IsShort 57 text
-frame-short text f =
-    let n = short-name f.words.name f.shape f.named in
-    let a = length-append {A = ℕ} f.words.name (shape_text f.shape f.words) in
-    let l = length-shape f.shape f.words f.ranges in
-    literal text (f.words.name ++ shape_text f.shape f.words) 57 f.text_is (omega (arith, n.1, a), omega (arith, n.0, a, l))
+frame-short text f = grind (arith, short-name, length-append, length-shape, literal)
 
 signal-short : (text : List ℕ) → IsSignal text → IsShort 57 text
-signal-short text (odp e) = literal text (codes "odp") 57 e (omega arith, omega arith)
-signal-short text (adp e) = literal text (codes "adp") 57 e (omega arith, omega arith)
-signal-short text (frame f) = frame-short text f
+signal-short text given = grind (arith, literal, frame-short)
 
 pub heard-short : (text : List ℕ) → IsHeard text → IsShort 62 text
-heard-short text (nothing e) = literal text (codes "-") 62 e (omega arith, omega arith)
-heard-short text (lost front f e) =
-    let s = signal-short front f in
-    literal text (codes "lost " ++ front) 62 e
-    (omega (arith, length-append {A = ℕ} (codes "lost ") front), omega (arith, s.1, length-append {A = ℕ} (codes "lost ") front))
-heard-short text (passed f) = let s = signal-short text f in (s.0, omega (arith, s.1))
+heard-short text given = grind (arith, literal, signal-short, length-append)
 
 pub sent-short : (text : List ℕ) → IsSent text → IsShort 57 text
-sent-short text (mark e) = literal text (codes "mark") 57 e (omega arith, omega arith)
-sent-short text (flags e) = literal text (codes "flags") 57 e (omega arith, omega arith)
-sent-short text (none e) = literal text (codes "none") 57 e (omega arith, omega arith)
-sent-short text (signal f) = signal-short text f
+sent-short text given = grind (arith, literal, signal-short)

@@ -11,12 +11,10 @@ use Rattle.std.specs.Borrow.{Bor}
 
 pub chained : {A B : Type 0} (f : A → Option B) (o : Option A) (y : B) → option_and_then f o ≡ Some y
     → (x : A) × (o ≡ Some x) × (f x ≡ Some y)
-chained f None y e = absurd cc
-chained f (Some x) y e = (x, refl, e)
+chained f o y e = grind (arith)
 
 pub mapped : {A B : Type 0} (f : A → B) (o : Option A) (y : B) → option_map f o ≡ Some y → (x : A) × (o ≡ Some x) × (f x ≡ y)
-mapped f None y e = absurd cc
-mapped f (Some x) y e = (x, refl, cc)
+mapped f o y e = grind (arith)
 
 pub either : (a b : Option (List ℕ)) (y : List ℕ) → first_of a b ≡ Some y → (a ≡ Some y) ⊎ (b ≡ Some y)
 either a b y e = grind (arith)
@@ -49,8 +47,7 @@ behind-none label text none = go (behind label text) refl
 pub behind-stripped : (label text : List ℕ) (r : Option (Bor (List ℕ)))
     → MatchOption r ((rest : List ℕ) → text ≢ label ++ rest) (λ x. text ≡ label ++ x.now)
     → option_map (λ rest. rest.now) r ≡ behind label text
-behind-stripped label text None h = sym (behind-none label text h)
-behind-stripped label text (Some x) h = sym (ap (behind label) h ∙ behind-reads label x.now)
+behind-stripped label text r h = grind (arith, behind-none, behind, behind-reads)
 
 -- ---- octets that pass a test
 
@@ -65,16 +62,14 @@ front-rest test (x ∷ text) = go (test x) (front-rest test text)
   where
     go : (b : Bool) → front_of test text ++ rest_of test text ≡ text
         → cond b (x ∷ front_of test text) [] ++ cond b (rest_of test text) (x ∷ text) ≡ x ∷ text
-    go true e = ap (λ l. x ∷ l) e
-    go false e = refl
+    go b e = grind (arith)
 
 pub front-passes : (test : ℕ → Bool) (text : List ℕ) → list_all test (front_of test text) ≡ true
 front-passes test [] = refl
 front-passes test (x ∷ text) = go (test x) refl (front-passes test text)
   where
     go : (b : Bool) → test x ≡ b → list_all test (front_of test text) ≡ true → list_all test (cond b (x ∷ front_of test text) []) ≡ true
-    go true p e = rw (p, e) refl
-    go false p e = refl
+    go b p e = grind (arith)
 
 pub front-reads : (test : ℕ → Bool) (front rest : List ℕ) → list_all test front ≡ true → begins test rest ≡ false
     → front_of test (front ++ rest) ≡ front

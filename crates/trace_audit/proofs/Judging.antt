@@ -1,14 +1,12 @@
 -- From every answer to the headline, and to which answer right inputs have.
-use Rattle.trace_audit.proofs.Cited.{◌≡◌, ◌⊎◌, inl, inr, ℕ, Bool, true, false, ◌≤◌, ◌<◌, List, ◌++◌, length, Option, Result, Ok, Err, refl}
-use Rattle.trace_audit.proofs.Cited.{sym, ◌∙◌, ap, subst, arith, option_map, Status, Stop, RunEnd, wire_of, link_of, ScriptValue}
-use Rattle.trace_audit.proofs.Cited.{FolderState, octets_at, LIMITS, AuditCause, Audits, Ends, DiffersIn, IsFound, AuditNames, files_of}
-use Rattle.trace_audit.proofs.Cited.{Difference}
+use Rattle.trace_audit.proofs.Cited.{◌≡◌, ◌⊎◌, inl, inr, ℕ, ◌≤◌, ◌<◌, List, Result, Ok, Err, refl, sym, subst, arith, Status, Stop, RunEnd}
+use Rattle.trace_audit.proofs.Cited.{wire_of, link_of, ScriptValue, FolderState, octets_at, LIMITS, AuditCause, Audits, Ends, DiffersIn}
+use Rattle.trace_audit.proofs.Cited.{IsFound, AuditNames, files_of, Difference}
 use Rattle.noise_script.specs.Laws.{ScriptsAreOne, NoFaultInScripts}
 use Rattle.line_run.specs.Ends.{Left, OneResult, RunsTo}
 use Rattle.command_base.specs.declared.status.Status.TheVariants.{Done, BadScript, TooLong, AuditNo, NoMemory}
 use Rattle.command_base.specs.declared.stop.Stop.TheVariants as stops
 use Rattle.command_base.specs.Job.{Answers}
-use Rattle.command_base.specs.Lines.{true_line}
 use Rattle.command_base.proofs.Jobs.{done-of, shared-of, Comes, is_done, is_own, is_memory, comes-to}
 use Rattle.run_inputs.proofs.Answering.{stopped-so}
 use Rattle.run_inputs.specs.Inputs.{RefusesOwn}
@@ -20,20 +18,7 @@ use Rattle.trace_audit.proofs.Deciding.{VerdictLaws, never-both, one-difference}
 -- ---- the headline
 
 audited-so : (f : FolderState) (n : AuditNames) (found : Result ℕ Difference) → Audits f n found → Audited f n found
-audited-so f n found a = record {
-  script = a.script;
-  limits = a.takes.are_open.limits;
-  files = a.files;
-  are_of = record {
-    script_is = a.takes.are_open.opens.reads.spelled;
-    orig_is = a.takes.orig;
-    answ_is = a.takes.answ;
-  };
-  end = a.end;
-  left = a.left;
-  run = a.run;
-  found_is = a.found_is;
-}
+audited-so f n found a = grind (arith)
 
 -- a difference was found where that is the answer
 differs-so : (old before : FolderState) (n : AuditNames) (line : ℕ) (cause : AuditCause)
@@ -41,23 +26,9 @@ differs-so : (old before : FolderState) (n : AuditNames) (line : ℕ) (cause : A
     → Audits old n (Err (record { line = line; cause = cause }))
 differs-so old before n line cause q5 = grind (arith)
 
-abbrev is_no : Status → Bool
-is_no (AuditNo line cause) = true
-is_no answer = false
-
 audited-by : (words : List (List ℕ)) (old new : FolderState) (n : AuditNames) (s t : Status) → Answers (audit_job n) words old new s → s ≡ t
     → AuditedBy old new n t
-audited-by words old new n s Done a e =
-    let d = done-of (audit_job n) words old new s a e in (
-      d.done,
-      d.said ∙ ap (λ (o : Option (List ℕ)). option_map (λ x. x ++ true_line d.done) o) d.ends.1.said,
-      audited-so old n (Ok d.done) d.ends.0,
-    )
-audited-by words old new n s (AuditNo line cause) a e =
-    let is = stopped-so is_no (record { done = refl; read = refl; write = refl; memory = refl }) (audit_job n).line_of words a.before new
-    a.end s (AuditNo line cause) a.says e refl in
-    audited-so old n _ (differs-so old a.before n line cause (subst (Ends old a.before n) is a.ends.0))
-audited-by words old new n s t a e = tt
+audited-by words old new n s t a e = grind (arith, done-of, audited-so, stopped-so, differs-so)
 
 pub headline-of : (words : List (List ℕ)) (old new : FolderState) (n : AuditNames) (s : Status) → Answers (audit_job n) words old new s
     → Headline old new n s
@@ -118,8 +89,7 @@ module _ (laws : JudgeLaws) (old : FolderState) (n : AuditNames) (script : Scrip
   own-answer : (before : FolderState) (answer : Status) → Ends old before n (Err (stops.Own answer))
       → IsAnswerTo left.trace (octets_at old n.trace) answer
   own-answer before answer (inl refused) = absurd (never-refused laws.apart old n script answer r refused)
-  own-answer before (TooLong word) (inr long) =
-      absurd (trace-fits (length (octets_at old n.trace)) r.trace_short (long.longer r.trace_told))
+  own-answer before (TooLong word) (inr long) = grind (arith, trace-fits)
   own-answer before (AuditNo line cause) (inr a) = found-so (Err (record { line = line; cause = cause })) a
   own-answer before answer (inr never) = absurd never
 
@@ -136,9 +106,7 @@ module _ (laws : JudgeLaws) (old : FolderState) (n : AuditNames) (script : Scrip
 -- ---- there is one answer
 
 yes-so : VerdictLaws → (text octets : List ℕ) (s : Status) → IsAnswerTo text octets s → octets ≡ text → s ≡ Done
-yes-so laws text octets Done h same = refl
-yes-so laws text octets (AuditNo line cause) h same = absurd (never-both laws text octets line cause same h)
-yes-so laws text octets s h same = absurd h
+yes-so laws text octets s h same = grind (arith, never-both)
 
 same-answer : (l m : ℕ) (c d : AuditCause) → l ≡ m → c ≡ d → AuditNo l c ≡ AuditNo m d
 same-answer l m c d e f = rw (e, f) refl
@@ -171,18 +139,4 @@ completes-of laws words old new n s a = record {
 -- ---- what a yes says
 
 pub yes-is-the-trace : YesIsTheTrace
-yes-is-the-trace old new n h told =
-    let a = h.audited.2 in
-    let of-orig : RunsTo (wire_of a.script) (link_of a.script (record { orig = octets_at old n.orig; answ = a.files.answ })) a.end a.left =
-    subst (λ (o : List ℕ). RunsTo (wire_of a.script) (link_of a.script (record { orig = o; answ = a.files.answ })) a.end a.left)
-    (a.are_of.orig_is told.orig) a.run in
-    record {
-      script = a.script;
-      spelled = a.are_of.script_is told.script;
-      end = a.end;
-      left = a.left;
-      run = subst (λ (w : List ℕ). RunsTo (wire_of a.script) (link_of a.script (record { orig = octets_at old n.orig; answ = w })) a.end
-          a.left)
-          (a.are_of.answ_is told.answ) of-orig;
-      same = (a.found_is told.trace).same;
-    }
+yes-is-the-trace old new n h told = grind (arith)

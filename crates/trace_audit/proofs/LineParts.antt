@@ -28,9 +28,7 @@ abbrev pub IsFew : List ℕ → List ℕ → Type 0
 IsFew text rest = (length rest ≤ length text) × (length text - length rest ≤ 96)
 
 few : (text front rest : List ℕ) → text ≡ front ++ rest → length front ≤ 96 → IsFew text rest
-few text front rest e h =
-    let l : length text ≡ length front + length rest = ap (λ (t : List ℕ). length t) e ∙ length-append {A = ℕ} front rest in
-    (omega (arith, l), omega (arith, l, h))
+few text front rest e h = grind (arith, length-append)
 
 pub heard-few : (text rest : List ℕ) → behind_heard text ≡ Some rest → IsFew text rest
 heard-few text rest e = let p = heard-is text rest e in few text p.0 rest p.2 (omega (arith, (heard-short p.0 p.1).1))
@@ -82,9 +80,7 @@ ends-is : (n : ℕ) (rest : List ℕ) (given : Option ℕ) → ends_in (n, rest)
 ends-is n q1 given e = grind (arith)
 
 given-is : (text : List ℕ) (given : Option ℕ) → given_at text ≡ Some given → IsUnits given × (text ≡ break_word given)
-given-is [] given e =
-    let n : None ≡ given = cc in
-    subst (λ (o : Option ℕ). IsUnits o × ([] ≡ break_word o)) n (tt, refl)
+given-is [] given e = grind (arith)
 given-is (x ∷ text) given e =
     let c = chained ends_in (option_and_then (number_at 256) (behind (codes " break=") (x ∷ text))) given e in
     let d = chained (number_at 256) (behind (codes " break=") (x ∷ text)) c.0 c.1 in
@@ -140,8 +136,7 @@ role-is : (text : List ℕ) (role : Role) (rest : List ℕ) → role_at text ≡
 role-is text role rest e = grind (arith, same_Some, behind-is)
 
 begins-is : (turn : ℕ) (role : Role) (rest : List ℕ) → line_begins turn role ++ rest ≡ decimal turn ++ (piece role ++ rest)
-begins-is turn Originator rest = grind (arith, append_assoc)
-begins-is turn Answerer rest = grind (arith, append_assoc)
+begins-is turn role rest = grind (arith, append_assoc)
 
 -- ---- the line
 
@@ -186,8 +181,7 @@ BodyIs turn role rest t = (t.turn ≡ turn) × (t.role ≡ role)
     × (IsChance (line_begins t.turn t.role ++ rest) t ⊎ IsPlain (line_begins t.turn t.role ++ rest) t)
 
 chance-body : (turn : ℕ) (role : Role) (rest : List ℕ) → rest ≡ codes "chance" → BodyIs turn role rest (chance_parts turn role)
-chance-body turn role rest e =
-    (refl, refl, inl (record { arrived = refl; sent = refl; given = refl; line_is = ap (λ t. line_begins turn role ++ t) e }))
+chance-body turn role rest e = grind (arith)
 
 plain-body : (turn : ℕ) (role : Role) (rest : List ℕ) (t : LineText) → plain_at turn role rest ≡ Some t → BodyIs turn role rest t
 plain-body turn role rest t e =

@@ -1,7 +1,7 @@
 -- A text against lines, line by line.
 use Rattle.trace_audit.proofs.Cited.{◌≡◌, ◌≢◌, ℕ, ◌+◌, ◌<◌, List, [], ◌∷◌, ◌++◌, length, take, drop, refl, sym, ap, subst, ◌∙◌, arith}
-use Rattle.trace_audit.proofs.Cited.{append_assoc, length-append, append-nil, AuditCause, End, fed, text_of, GoesOnWith, LineDiffers}
-use Rattle.trace_audit.proofs.Cited.{RestDiffers, FirstDiffers}
+use Rattle.trace_audit.proofs.Cited.{append_assoc, length-append, append-nil, AuditCause, fed, text_of, GoesOnWith, LineDiffers}
+use Rattle.trace_audit.proofs.Cited.{FirstDiffers}
 use Rattle.std.proofs.Math.Seq.{drop-append_seam}
 use Rattle.std.proofs.lemmas.List.{nil_from_length}
 use Rattle.trace_audit.specs.Compared.{HasLines, DiffersIn}
@@ -51,16 +51,7 @@ module _ (text : List ℕ) (lines : List (List ℕ)) where
 
   pub differs-on : (number : ℕ) (line : List ℕ) (cause : AuditCause) → DiffersIn text lines number cause
       → DiffersIn text (lines ++ line ∷ []) number cause
-  differs-on number line cause d = record {
-    before = d.before;
-    line = d.line;
-    more = d.more ++ line ∷ [];
-    rest = d.rest;
-    lines_is = ap (λ l. l ++ line ∷ []) d.lines_is ∙ append_assoc d.before (d.line ∷ d.more) (line ∷ []);
-    text_is = d.text_is;
-    number_is = d.number_is;
-    differs = d.differs;
-  }
+  differs-on number line cause d = grind (arith, append_assoc)
 
   pub goes-beyond : (at count : ℕ) → HasLines text lines at count → at < length text → FirstDiffers lines text (count + 1) Beyond
   goes-beyond at count h more = record {
@@ -157,8 +148,7 @@ nothing-behind a b c e = nil_from_length c (omega (
 
 -- a text that goes on with a line doesn't differ from it
 pub no-difference : (line rest : List ℕ) (cause : AuditCause) → GoesOnWith line rest → LineDiffers line rest cause → ⊥
-no-difference line rest End g d = d.1 (nothing-behind (fed line) g.0 d.0 (ap (λ t. t ++ d.0) (sym g.1) ∙ d.2))
-no-difference line rest another g d = d.other g
+no-difference line rest another g d = grind (arith, nothing-behind)
 
 -- a text that has the lines up to one isn't first different before it
 pub not-before : (lines : List (List ℕ)) (text : List ℕ) (m n : ℕ) (c d : AuditCause) (a : FirstDiffers lines text m c)
@@ -168,13 +158,4 @@ not-before lines text m n c d a b h = grind (arith, split-more, text_of-append, 
 
 -- a text that is the lines' doesn't differ
 pub same-text : (lines : List (List ℕ)) (text : List ℕ) (n : ℕ) (c : AuditCause) → text ≡ text_of lines → FirstDiffers lines text n c → ⊥
-same-text lines text n c e a = go a.more refl
-  where
-    rest-is : a.rest ≡ text_of a.more
-    rest-is = front-same (text_of a.before) a.rest (text_of a.more)
-        (sym a.text_is ∙ e ∙ ap text_of a.lines_is ∙ text_of-append a.before a.more)
-
-    go : (more : List (List ℕ)) → a.more ≡ more → ⊥
-    go [] m = (subst (λ l. RestDiffers l a.rest c) m a.differs).1 (rest-is ∙ ap text_of m)
-    go (line ∷ more) m = no-difference line a.rest c (text_of more, rest-is ∙ ap text_of m)
-        (subst (λ l. RestDiffers l a.rest c) m a.differs)
+same-text lines text n c e a = grind (arith, front-same, text_of-append, no-difference)

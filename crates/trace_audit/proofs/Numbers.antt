@@ -1,21 +1,20 @@
 -- Numbers in decimal digits without leading zeros.
-use Rattle.std.proofs.Common.{◌≡◌, ℕ, zero, suc, ◌^◌, ◌<◌, ◌≤◌, Bool, true, false, ◌&&◌, cond, List, [], ◌∷◌, ◌++◌, length}
-use Rattle.std.proofs.Common.{get_or, Option, Some, None, refl, sym, ap, subst, ◌∙◌, arith, append_assoc}
-use Rattle.std.specs.Prelude.{decimal, nat_le, nat_lt}
-use Rattle.std.specs.List.{list_all}
-use Rattle.std.specs.Option.{option_map, option_and_then}
-use Rattle.std.proofs.lemmas.Bool.{and_parts, lt-ltb, le-ltb}
-use Rattle.std.proofs.lemmas.Bool.Decides.{nat_tests}
+use Rattle.trace_audit.proofs.Cited.{◌≡◌, ℕ, zero, suc, ◌^◌, ◌<◌, ◌≤◌, Bool, true, false, cond, List, ◌++◌, length, get_or, Option, Some}
+use Rattle.trace_audit.proofs.Cited.{None, refl, sym, ap, subst, ◌∙◌, arith, append_assoc, and_parts, nat_tests, list_all, option_map}
+use Rattle.trace_audit.proofs.Cited.{option_and_then, nat_le, at-most, is_digit, plain_number, behind, front_of, rest_of, number_at}
+use Rattle.trace_audit.proofs.Cited.{behind_number, behind_labelled}
+use Rattle.std.proofs.Common.{◌&&◌}
+use Rattle.std.specs.Prelude.{decimal, nat_lt}
+use Rattle.std.proofs.lemmas.Bool.{lt-ltb, le-ltb}
 use Rattle.std.proofs.lemmas.Fmt.{digits_decimal, digits_value-decimal, decimal-digits_value, first_decimal, decimal_digit}
-use Rattle.noise_script.specs.Numbers.{is_digit, is_number, value_of, leads_well, plain_number}
-use Rattle.noise_script.proofs.Decimals.{at-most, is-most, numerals, IsSmall, is-number}
-use Rattle.trace_audit.specs.Cutting.{behind, front_of, rest_of, if_below, number_at, behind_number, behind_labelled}
+use Rattle.noise_script.specs.Numbers.{is_number, value_of, leads_well}
+use Rattle.noise_script.proofs.Decimals.{is-most, numerals, IsSmall, is-number}
+use Rattle.trace_audit.specs.Cutting.{if_below}
 use Rattle.trace_audit.proofs.Fronts.{chained, mapped, behind-reads, behind-is, begins, front-rest, front-reads, rest-reads, join2}
 
 -- a zero leads no other digit
 no-zero : (word : List ℕ) → 48 < get_or word 0 0 → leads_well word ≡ true
-no-zero [] h = refl
-no-zero (x ∷ word) h = grind (arith, nat_tests)
+no-zero word h = grind (arith)
 
 alone : (word : List ℕ) → length word ≤ 1 → leads_well word ≡ true
 alone word h = let e : nat_le 2 (length word) ≡ false = grind (arith, nat_tests, h) in rw e refl
@@ -34,9 +33,7 @@ tested : (a b c : Bool) (v n : ℕ) → cond (a && (b && c)) (Some v) None ≡ S
 tested a b c v n e = grind (arith)
 
 led : (word : List ℕ) → leads_well word ≡ true → 0 < length word → get_or word 0 0 ≡ 48 → length word ≡ 1
-led [] l h z = omega (arith, h)
-led (x ∷ []) l h z = refl
-led (x ∷ y ∷ word) l h z = grind (arith, nat_tests, is-most)
+led word l h z = grind (arith, is-most)
 
 pub plain-is : (word : List ℕ) (n : ℕ) → plain_number word ≡ Some n → word ≡ decimal n
 plain-is word n e =
@@ -48,10 +45,7 @@ plain-is word n e =
     sym (decimal-digits_value numerals word q.1 some (led word t.2 some) small) ∙ ap decimal t.3
 
 bounded : (n bound m : ℕ) → if_below bound n ≡ Some m → (n ≡ m) × (m < bound)
-bounded n bound m e = go (nat_lt n bound) refl e
-  where
-    go : (b : Bool) → nat_lt n bound ≡ b → cond b (Some n) None ≡ Some m → (n ≡ m) × (m < bound)
-    go b t e = grind (arith)
+bounded n bound m e = grind (arith)
 
 -- ---- at the front of a text
 
@@ -100,10 +94,7 @@ behind-number-reads bound n rest h fits stops = ap (option_map (λ (r : ℕ × L
 
 pub behind-number-is : (bound : ℕ) (text rest : List ℕ) → behind_number bound text ≡ Some rest
     → (n : ℕ) × (n < bound) × (text ≡ decimal n ++ rest)
-behind-number-is bound text rest e =
-    let m = mapped (λ (r : ℕ × List ℕ). r.1) (number_at bound text) rest e in
-    let p = number-is bound text m.0.0 m.0.1 m.1 in
-    (m.0.0, p.0, p.1 ∙ ap (λ l. decimal m.0.0 ++ l) m.2)
+behind-number-is bound text rest e = grind (arith, mapped, number-is)
 
 -- behind a label
 pub labelled-reads : (label : List ℕ) (bound n : ℕ) (rest : List ℕ) → n < bound → bound ≤ 2 ^ 64 → begins is_digit rest ≡ false

@@ -1,7 +1,6 @@
 -- A text differs from lines first in one of them, and in one part of it.
-use Rattle.trace_audit.proofs.Cited.{◌≡◌, ℕ, ◌+◌, List, [], ◌∷◌, ◌++◌, length, sym, ap, subst, ◌∙◌, arith, ◌⊎◌, inl, inr, cases_lt}
-use Rattle.trace_audit.proofs.Cited.{AuditCause, End, Spelling, text_of, StopsIn, OwnDiffers, LineDiffers, RestDiffers, FirstDiffers}
-use Rattle.trace_audit.proofs.Cited.{LineText}
+use Rattle.trace_audit.proofs.Cited.{◌≡◌, ℕ, ◌+◌, List, ◌++◌, length, sym, ap, subst, ◌∙◌, arith, ◌⊎◌, inl, inr, cases_lt, AuditCause, End}
+use Rattle.trace_audit.proofs.Cited.{Spelling, text_of, StopsIn, OwnDiffers, LineDiffers, RestDiffers, FirstDiffers, LineText}
 use Rattle.trace_audit.proofs.LineParts.{one-reading}
 use Rattle.trace_audit.specs.Differences.{IsRead, PartsDiffer, ReadsDiffer, Departs}
 use Rattle.trace_audit.proofs.Lines.{not-before, split-same, front-same}
@@ -20,16 +19,7 @@ own-cases : (line own : List ℕ) (c : AuditCause) → OwnDiffers line own c →
 own-cases line own other p = grind (arith)
 
 own-one : (line own : List ℕ) (c d : AuditCause) → OwnDiffers line own c → OwnDiffers line own d → c ≡ d
-own-one line own c d p q = elim (own-cases line own c p) [
-  | inl a ↦ elim (own-cases line own d q) [
-    | inl b ↦ a.0 ∙ sym b.0
-    | inr b ↦ absurd (a.1 (b.other, b.other_is))
-  ]
-  | inr a ↦ elim (own-cases line own d q) [
-    | inl b ↦ absurd (b.1 (a.other, a.other_is))
-    | inr b ↦ reads-one line own c d a b
-  ]
-]
+own-one line own c d p q = grind (arith, own-cases, reads-one)
 
 line-cases : (line rest : List ℕ) (c : AuditCause) → LineDiffers line rest c → ((c ≡ End) × StopsIn line rest) ⊎ Departs line rest c
 line-cases line rest other p = grind (arith)
@@ -47,8 +37,7 @@ line-one line rest c d p q = elim (line-cases line rest c p) [
 ]
 
 rest-one : (more : List (List ℕ)) (rest : List ℕ) (c d : AuditCause) → RestDiffers more rest c → RestDiffers more rest d → c ≡ d
-rest-one [] rest c d p q = p.0 ∙ sym q.0
-rest-one (line ∷ more) rest c d p q = line-one line rest c d p q
+rest-one more rest c d p q = grind (arith, line-one)
 
 -- one first difference, and one cause
 pub one-difference : (lines : List (List ℕ)) (text : List ℕ) (m n : ℕ) (c d : AuditCause) → FirstDiffers lines text m c

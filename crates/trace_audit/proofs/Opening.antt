@@ -1,9 +1,8 @@
 -- From the phases of an audit to how it ends.
-use Rattle.trace_audit.proofs.Cited.{◌≡◌, inl, inr, ℕ, ◌<◌, List, [], ◌∷◌, length, Result, Ok, Err, refl, sym, ◌∙◌, ap, subst, take, arith}
-use Rattle.trace_audit.proofs.Cited.{take_all, stop-earlier, StopCounts, EndCounts, Status, Stop, Written, KnowsFiles, ScriptValue}
-use Rattle.trace_audit.proofs.Cited.{OnlyReads-trans, octets-kept, told_later, FolderState, octets_at, OnlyReads, CountsStand, LIMITS, Both}
-use Rattle.trace_audit.proofs.Cited.{trace_limit, Audits, Ends, RunFound, RunIs, IsFound, AuditNames, files_of, inputs_of, Difference}
-use Rattle.trace_audit.proofs.Cited.{file_limit}
+use Rattle.trace_audit.proofs.Cited.{◌≡◌, inl, inr, ℕ, List, [], ◌∷◌, Result, ◌∙◌, ap, subst, take, arith, take_all, stop-earlier}
+use Rattle.trace_audit.proofs.Cited.{StopCounts, EndCounts, Status, Stop, Written, KnowsFiles, ScriptValue, OnlyReads-trans, octets-kept}
+use Rattle.trace_audit.proofs.Cited.{told_later, FolderState, octets_at, OnlyReads, CountsStand, LIMITS, Both, trace_limit, Audits, Ends}
+use Rattle.trace_audit.proofs.Cited.{RunFound, RunIs, IsFound, AuditNames, files_of, inputs_of, Difference, file_limit}
 use Rattle.std.proofs.Common.{IsTrue}
 use Rattle.outside_calls.specs.declared.folder.FolderFault.{FolderFault}
 use Rattle.outside_calls.specs.declared.folder.FolderFault.TheVariants as folder
@@ -12,7 +11,7 @@ use Rattle.command_base.specs.declared.stop.Stop.TheVariants as stops
 use Rattle.command_base.specs.Inputs.{IsWithin, IsNotWithin}
 use Rattle.command_base.specs.Stops.{ReadFails}
 use Rattle.run_inputs.specs.Inputs.{Refuses}
-use Rattle.trace_audit.specs.Ends.{AreOpen, IsBegun, Takes, FailsLater, AnswersOwn, EndsBy}
+use Rattle.trace_audit.specs.Ends.{AreOpen, IsBegun, Takes, FailsLater, EndsBy}
 
 -- ---- the inputs
 
@@ -24,17 +23,7 @@ refused-first old new n q3 r = grind (arith)
 -- nor was the trace
 pub refused-trace : (old mid new : FolderState) (n : AuditNames) (script : ScriptValue) (stop : Stop) → AreOpen old n script
     → OnlyReads old mid → CountsStand old mid → IsNotWithin mid new n.trace 16777216 4 stop → EndsBy old new n stop
-refused-trace old mid new n script (stops.Own answer) are r stand h =
-    inr (subst (λ (s : Status). AnswersOwn old n s) (sym h.0) (record {
-      script = script;
-      are_open = are;
-      word_is = refl;
-      longer = λ told. subst (λ (o : List ℕ). 16777216 < length o) (octets-kept old mid n.trace (r.names n.trace) told)
-          (h.1 (told_later r.goes_on n.trace told));
-    }))
-refused-trace old mid new n script (stops.Read fault) are r stand h =
-    inr (record { script = script; are_open = are; fails = inl (stop-earlier old mid new (n.trace ∷ []) [] (stops.Read fault) stand h) })
-refused-trace old mid new n script other are r stand h = absurd h
+refused-trace old mid new n script other are r stand h = grind (arith)
 
 -- ---- what is counted
 
@@ -102,12 +91,7 @@ module _ (begin now new : FolderState) (n : AuditNames) (m : Written) (script : 
 
   pub ends-so : (end : Result ℕ Stop) → RunIs script new m n.trace end → EndCounts now new (n.orig ∷ n.answ ∷ n.trace ∷ []) [] end
       → Ends begin new n end
-  ends-so (Ok lines) r k = audits (Ok lines) r
-  ends-so (Err (stops.Own (status.AuditNo line cause))) r k = inr (audits (Err (record { line = line; cause = cause })) r)
-  ends-so (Err (stops.Read fault)) r k =
-      inr (fails fault (stop-earlier begin now new (n.orig ∷ n.answ ∷ n.trace ∷ []) [] (stops.Read fault) b.stand k))
-  ends-so (Err stops.NoMemory) r k = b.are_open.opens.reads.within
-  ends-so other r k = absurd r
+  ends-so other r k = grind (arith, audits, fails, stop-earlier)
 
 -- memory was not found
 pub no-memory : (begin now : FolderState) (n : AuditNames) (script : ScriptValue) → IsBegun begin now n script

@@ -1,9 +1,9 @@
 -- The octets of a text where it is to be read on.
-use Rattle.std.proofs.Common.{◌≡◌, ◌∙◌, ℕ, ◌-◌, ◌<◌, ◌≤◌, min, List, [], length, length-take, length-drop, take, take-take, drop, Some, sym}
-use Rattle.std.proofs.Common.{ap, arith}
-use Rattle.std.proofs.lemmas.List.{take_all, take_min, drop-take, drop_all}
-use Rattle.trace_audit.specs.Compared.{HasWindow, place_of}
-use Rattle.trace_audit.specs.declared.comparison.Comparison.{Comparison}
+use Rattle.trace_audit.proofs.Cited.{◌≡◌, ◌∙◌, ℕ, ◌-◌, ◌<◌, ◌≤◌, List, [], length, length-take, take, drop, Some, sym, ap, arith, take_all}
+use Rattle.trace_audit.proofs.Cited.{HasWindow, Comparison}
+use Rattle.std.proofs.Common.{min, length-drop, take-take}
+use Rattle.std.proofs.lemmas.List.{take_min, drop-take, drop_all}
+use Rattle.trace_audit.specs.Compared.{place_of}
 use Rattle.trace_audit.specs.declared.comparison.Comparison.TheVariants.{Agrees, Differs}
 
 -- they are those that are read, as far as the text ends at a limit

@@ -1,8 +1,8 @@
 -- Both lines of a turn are lines that are read.
-use Rattle.trace_audit.proofs.Cited.{◌≡◌, ℕ, ◌<◌, ◌≤◌, ◌^◌, true, false, List, [], ◌∷◌, length, arith, refl, sym, ◌∙◌, subst, Option, Some}
-use Rattle.trace_audit.proofs.Cited.{None, option_map, IfSome, Frame, Heard, Nothing, Passed, Lost, Chance, Sent, SendLaws, AsksInOctets}
-use Rattle.trace_audit.proofs.Cited.{LineRun, wire_of, link_of, is_chance, Outcome, Going, Turn, ScriptValue, IsInLimits, Both, of, Role}
-use Rattle.trace_audit.proofs.Cited.{count_bound, line_of, LinesAreRead, IsReadableSent, IsReadableSignal, IsReadableHeard, IsReadable}
+use Rattle.trace_audit.proofs.Cited.{◌≡◌, ℕ, ◌<◌, ◌≤◌, ◌^◌, true, false, List, [], ◌∷◌, length, arith, sym, ◌∙◌, subst, Option, Some}
+use Rattle.trace_audit.proofs.Cited.{option_map, IfSome, Frame, Heard, Sent, SendLaws, AsksInOctets, LineRun, wire_of, link_of, is_chance}
+use Rattle.trace_audit.proofs.Cited.{Outcome, Going, Turn, ScriptValue, IsInLimits, Both, of, Role, count_bound, line_of, LinesAreRead}
+use Rattle.trace_audit.proofs.Cited.{IsReadableSent, IsReadableSignal, IsReadableHeard, IsReadable}
 use Rattle.std.specs.Prelude.{unwrap_or}
 use Rattle.frame_check.specs.declared.sizes.TheConstants.{INFO}
 use Rattle.shared_terms.specs.Role.{other}
@@ -37,16 +37,7 @@ abbrev IsKnown : Option Spoken → Type 0
 IsKnown o = (slot : Spoken) → o ≡ Some slot → IsPlainSent slot.sent × IsShort slot.sent
 
 heard-read : (o : Option Spoken) (heard : Heard) → Crosses o heard → IsKnown o → IsReadableHeard heard × (is_chance heard ≡ false)
-heard-read None Nothing c f = (tt, refl)
-heard-read None (Passed s) c f = absurd c
-heard-read None (Lost s) c f = absurd c
-heard-read None Chance c f = absurd c
-heard-read (Some slot) Nothing c f = (tt, refl)
-heard-read (Some slot) (Passed s) c f =
-    let k = f slot refl in (subst IsReadableSignal (sym c.0) (signal-read slot.sent c.1 k.0 k.1), refl)
-heard-read (Some slot) (Lost s) c f =
-    let k = f slot refl in (subst IsReadableSignal (sym c.0) (signal-read slot.sent c.1 k.0 k.1), refl)
-heard-read (Some slot) Chance c f = absurd c
+heard-read o heard c f = grind (arith, signal-read)
 
 -- a break that is given is an octet
 given-read : (a : Account) → Owes a → IfSome (given_break a) (λ units. units < 256)
@@ -93,5 +84,4 @@ module _ (laws : SendLaws) (script : ScriptValue) (files : Both (List ℕ)) (ts 
       }
 
 pub lines-are-read : SendLaws → LinesAreRead
-lines-are-read laws script files ts ends t mid outcome h o r heard is early role =
-    line-read laws script files ts ends h o r t mid outcome heard is early role
+lines-are-read laws script files ts ends t mid outcome h o r heard is early role = grind (arith, line-read)

@@ -1,10 +1,10 @@
 -- The turns of an audit, one after the other, up to what is found.
-use Rattle.trace_audit.proofs.Cited.{◌≡◌, ℕ, ◌+◌, ◌<◌, ◌^◌, Bool, true, false, List, [], ◌∷◌, ◌++◌, length, Result, Ok, Err, refl, sym, ◌∙◌}
-use Rattle.trace_audit.proofs.Cited.{ap, subst, take, arith, length-append, IsTrue, StopCounts, EndCounts, Stop, Written, outputs_of}
-use Rattle.trace_audit.proofs.Cited.{link_of, IsApart, knows-later, KnowsFiles, WorldAfter, script_of, turn_of, World, Turn, start}
-use Rattle.trace_audit.proofs.Cited.{ScriptValue, octets-kept, FolderState, OnlyReads, CountsStand, Both, Compared, HasWindow, IsFew}
-use Rattle.trace_audit.proofs.Cited.{audited, trace_limit, text_of, FirstDiffers, IsCut, trace_lines, TurnMade, AreCompared, HasFew}
-use Rattle.trace_audit.proofs.Cited.{IsReading, RunFound, RunIs, audit_inputs, IsFound, Comparison, Difference}
+use Rattle.trace_audit.proofs.Cited.{◌≡◌, ℕ, ◌+◌, ◌<◌, ◌^◌, Bool, true, false, List, [], ◌∷◌, ◌++◌, length, Result, Ok, Err, refl, sym, ap}
+use Rattle.trace_audit.proofs.Cited.{subst, take, arith, length-append, IsTrue, StopCounts, EndCounts, Stop, Written, outputs_of, link_of}
+use Rattle.trace_audit.proofs.Cited.{IsApart, knows-later, KnowsFiles, WorldAfter, script_of, turn_of, World, Turn, start, ScriptValue}
+use Rattle.trace_audit.proofs.Cited.{octets-kept, FolderState, OnlyReads, CountsStand, Both, Compared, HasWindow, IsFew, audited}
+use Rattle.trace_audit.proofs.Cited.{trace_limit, text_of, FirstDiffers, IsCut, trace_lines, TurnMade, AreCompared, HasFew, IsReading}
+use Rattle.trace_audit.proofs.Cited.{RunFound, RunIs, audit_inputs, IsFound, Comparison, Difference}
 use Rattle.std.proofs.Common.{◌*◌}
 use Rattle.std.specs.Prelude.{MatchResult}
 use Rattle.outside_calls.proofs.OnlyOutputs.{told_earlier}
@@ -25,23 +25,8 @@ knows-read a b n files apart r k = knows-later a b n files apart (OnlyPuts-reads
 
 comes-read : (goes_on : Bool) (w : World) (a b : FolderState) (n : Written) (lines : List (List ℕ)) → IsApart n → OnlyReads a b
     → ComesTo goes_on w a n lines → ComesTo goes_on w b n lines
-comes-read true w a b n lines apart r h = record {
-  files = h.files;
-  knows = knows-read a b n h.files apart r h.knows;
-  turns = h.turns;
-  ends = h.ends;
-  world = h.world;
-  lines_is = h.lines_is;
-  whole = h.whole;
-}
-comes-read false w a b n lines apart r h = record {
-  files = h.files;
-  knows = knows-read a b n h.files apart r h.knows;
-  end = h.end;
-  left = h.left;
-  run = h.run;
-  cut = h.cut;
-}
+comes-read true w a b n lines apart r h = grind (arith, knows-read)
+comes-read false w a b n lines apart r h = grind (arith, knows-read)
 
 -- the octets of a name as they were before some reads
 before-read : (a b : FolderState) (name : List ℕ) → OnlyReads a b → IsTrue (b.tells name) → audited a name ≡ audited b name
@@ -52,13 +37,7 @@ before-read a b name r told = sym (ap (take trace_limit) (octets-kept a b name (
 module _ (w v : World) (old mid : FolderState) (n : Written) (trace : List ℕ) (c : Comparison) (early : turn_of w < 2 ^ 40)
     (h : AreCompared true w old n trace c) where
   count : length h.lines < 2 ^ 41
-  count = omega (
-    arith,
-    ap (λ (l : List (List ℕ)). length l) h.comes.lines_is,
-    trace-count h.comes.turns,
-    h.comes.world.modems.turn,
-    early,
-  )
+  count = grind (arith, trace-count)
 
   pub turn-few : (goes_on : Bool) (text : List ℕ) (m : TurnMade goes_on v mid n h.lines text) → HasFew (length m.lines) c
   turn-few goes_on text m = (length h.lines, omega (arith, count, m.few), h.few)
@@ -131,13 +110,7 @@ module _ (v : World) (mid new : FolderState) (n : Written) (trace : List ℕ) (c
   found-is : (octets : List ℕ) (found : Result ℕ Difference)
       → MatchResult found (λ count. (octets ≡ text_of h.lines) × (count ≡ length h.lines)) (λ d. FirstDiffers h.lines octets d.line d.cause)
       → IsFound h.comes.left.trace octets found
-  found-is octets (Ok lines) m = record {
-    lines = h.lines;
-    cut = h.comes.cut;
-    count_is = m.1;
-    same = m.0 ∙ sym h.comes.cut.text_is;
-  }
-  found-is octets (Err d) m = record { lines = h.lines; cut = h.comes.cut; first = m }
+  found-is octets found m = grind (arith)
 
   run-found : (window : List ℕ) (found : Result ℕ Difference) → IsApart n → OnlyReads mid new
       → (IsTrue (mid.tells trace) → HasWindow (audited mid trace) c 1 window)

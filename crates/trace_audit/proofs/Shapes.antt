@@ -18,10 +18,7 @@ pub direction-reads : (command : Bool) (rest : List ℕ) → behind_direction (k
 direction-reads command rest = grind (arith)
 
 pub direction-is : (text rest : List ℕ) → behind_direction text ≡ Some rest → (command : Bool) × (text ≡ kind_word command ++ rest)
-direction-is text rest e = elim (either (behind (codes " cmd") text) (behind (codes " rsp") text) rest e) [
-  | inl a ↦ (true, behind-is (codes " cmd") text rest a)
-  | inr b ↦ (false, behind-is (codes " rsp") text rest b)
-]
+direction-is text rest e = grind (arith, either, behind, behind-is)
 
 -- ---- the poll or final bit
 
@@ -29,10 +26,7 @@ pub poll-reads : (pf : Bool) (rest : List ℕ) → behind_poll (poll_word pf ++ 
 poll-reads pf rest = grind (arith)
 
 pub poll-is : (text rest : List ℕ) → behind_poll text ≡ Some rest → (pf : Bool) × (text ≡ poll_word pf ++ rest)
-poll-is text rest e = elim (either (behind (codes " p=0") text) (behind (codes " p=1") text) rest e) [
-  | inl a ↦ (false, behind-is (codes " p=0") text rest a)
-  | inr b ↦ (true, behind-is (codes " p=1") text rest b)
-]
+poll-is text rest e = grind (arith, either, behind, behind-is)
 
 poll-stops : (pf : Bool) (rest : List ℕ) → Stops (poll_word pf ++ rest)
 poll-stops pf rest = grind (arith)
@@ -79,9 +73,7 @@ labelled-break-is label text rest e =
 
 information-reads : (word : Option BreakWord) (n : ℕ) (rest : List ℕ) → IfSome word IsBreak → n < count_bound → Stops rest
     → behind_information (information_word word n ++ rest) ≡ Some rest
-information-reads None n rest w h s = count-reads n rest h s
-information-reads (Some (Brk number units)) n rest w h s = grind (arith, break-reads)
-information-reads (Some (Ack number units)) n rest w h s = grind (arith, break-reads)
+information-reads word n rest w h s = grind (arith, count-reads, break-reads)
 
 -- what the information is, with the count for what has none
 abbrev pub InformationIs : List ℕ → List ℕ → Type 0

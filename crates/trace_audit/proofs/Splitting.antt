@@ -69,12 +69,7 @@ module _ (Told : Type 0) (octets text rest : List ℕ) (start now : Comparison) 
   next-few line behind s = (m.few.0, omega (arith, m.few.1, count line behind s), m.few.2)
 
   pub shorter : (line behind : List ℕ) → Splits m.left line behind → length behind < length rest
-  shorter line behind s = omega (
-    arith,
-    ap (λ (x : List ℕ). length x) (m.rest_is ∙ ap text_of s.lines_is ∙ append_assoc line (10 ∷ []) (text_of s.more)),
-    length-append {A = ℕ} line (10 ∷ text_of s.more),
-    ap (λ (x : List ℕ). length x) s.rest_is,
-  )
+  shorter line behind s = grind (arith, append_assoc, length-append)
 
   pub midway-on : (line behind : List ℕ) (later : Comparison) → Splits m.left line behind
       → ((lines : List (List ℕ)) → Told → Compared octets lines now → Compared octets (lines ++ line ∷ []) later)
@@ -99,18 +94,14 @@ module _ (Told : Type 0) (octets text rest : List ℕ) (start now : Comparison) 
 
   -- none is left: the lines of the text were compared
   all-done : rest ≡ [] → (lines : List (List ℕ)) → IsCut text lines → m.done ≡ lines
-  all-done none lines cut =
-      let left : m.left ≡ [] = no-lines m.left (sym m.rest_is ∙ none) in
-      sym (append-nil m.done) ∙ ap (λ (l : List (List ℕ)). m.done ++ l) (sym left) ∙ one-cut text (m.done ++ m.left) lines m.cut cut
+  all-done none lines cut = grind (arith, no-lines, append-nil, one-cut)
 
   pub all-compared : rest ≡ [] → (before lines : List (List ℕ)) → IsCut text lines → Told → Compared octets before start
       → Compared octets (before ++ lines) now
-  all-compared none before lines cut told h =
-      subst (λ (l : List (List ℕ)). Compared octets (before ++ l) now) (all-done none lines cut) (m.compared before told h)
+  all-compared none before lines cut told h = grind (arith, all-done)
 
   pub all-counted : rest ≡ [] → (n : ℕ) (lines : List (List ℕ)) → IsCut text lines → IsFew n start → IsFew (n + length lines) now
-  all-counted none n lines cut h =
-      subst (λ (l : List (List ℕ)). IsFew (n + length l) now) (all-done none lines cut) (m.counted n h)
+  all-counted none n lines cut h = grind (arith, all-done)
 
 -- the octets of a name stay, where it is told
 pub same-octets : (a b : FolderState) (name : List ℕ) → OnlyReads a b → IsTrue (a.tells name) → audited b name ≡ audited a name

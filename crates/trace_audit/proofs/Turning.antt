@@ -231,5 +231,4 @@ module _ (w v : World) (old new : FolderState) (n : Written) (text : List ℕ) w
 
   pub end-counts : (step : Result Step RunFault) (end : Result Bool Stop) → Watched w v old new n step text → step_end step ≡ end
       → EndCounts old new (inputs_of n) [] end
-  end-counts step end h e =
-      subst (λ (x : Result Bool Stop). EndCounts old new (inputs_of n) [] x) e (step-counts h.refusals h.passed step h.counts)
+  end-counts step end h e = grind (arith, step-counts)

@@ -4,8 +4,7 @@ use Rattle.trace_audit.proofs.Cited.{Some, None, inl, inr, and_parts, nat_tests,
 use Rattle.trace_audit.proofs.Cited.{parts_of_kind, FrameKind, kind_word, poll_word, number_word, line_begins, break_word, at-most}
 use Rattle.trace_audit.proofs.Cited.{is_digit, role_word, Role, Shape, Numbered, Supervisory, Commanding, Responding, Rejecting, Exchanging}
 use Rattle.trace_audit.proofs.Cited.{Unnumbered, count_bound, FrameWords, AreInRange, IsBreak, count_word, information_word, shape_text}
-use Rattle.trace_audit.proofs.Cited.{IsFrameText, IsSignal, odp, adp, frame, IsHeard, nothing, lost, passed, IsSent, mark, flags, none}
-use Rattle.trace_audit.proofs.Cited.{signal, HasParts, LineText}
+use Rattle.trace_audit.proofs.Cited.{IsFrameText, IsSignal, IsHeard, IsSent, HasParts, LineText}
 use Rattle.std.proofs.lemmas.List.Folds.{list_all-append}
 use Rattle.noise_script.proofs.Decimals.{both, number-all}
 use Rattle.trace_audit.proofs.Frames.{at-names}
@@ -70,9 +69,7 @@ shape-whole Rejecting w r =
 shape-whole Exchanging w r =
     joined (kind_word w.command) _ (kind w.command)
     (joined (poll_word w.pf) (count_word w.count) (poll w.pf) (labelled (codes " n=") w.count refl r.count))
-shape-whole Unnumbered w r =
-    joined (kind_word w.command) _ (kind w.command)
-    (joined (poll_word w.pf) (information_word w.word w.count) (poll w.pf) (information w.word w.count r.word r.count))
+shape-whole Unnumbered w r = grind (arith, joined, kind, poll, information)
 
 is-literal : (text word : List ℕ) → text ≡ word → IsWhole word → IsWhole text
 is-literal text word e h = subst IsWhole (sym e) h
@@ -85,20 +82,13 @@ frame-whole text f =
     (shape-whole f.shape f.words f.ranges))
 
 signal-whole : (text : List ℕ) → IsSignal text → IsWhole text
-signal-whole text (odp e) = is-literal text (codes "odp") e refl
-signal-whole text (adp e) = is-literal text (codes "adp") e refl
-signal-whole text (frame f) = frame-whole text f
+signal-whole text given = grind (arith, is-literal, frame-whole)
 
 heard-whole : (text : List ℕ) → IsHeard text → IsWhole text
-heard-whole text (nothing e) = is-literal text (codes "-") e refl
-heard-whole text (lost front f e) = is-literal text (codes "lost " ++ front) e (joined (codes "lost ") front refl (signal-whole front f))
-heard-whole text (passed f) = signal-whole text f
+heard-whole text given = grind (arith, is-literal, joined, signal-whole)
 
 sent-whole : (text : List ℕ) → IsSent text → IsWhole text
-sent-whole text (mark e) = is-literal text (codes "mark") e refl
-sent-whole text (flags e) = is-literal text (codes "flags") e refl
-sent-whole text (none e) = is-literal text (codes "none") e refl
-sent-whole text (signal f) = signal-whole text f
+sent-whole text given = grind (arith, is-literal, signal-whole)
 
 given-whole : (given : Option ℕ) → IfSome given (λ units. units < 256) → IsWhole (break_word given)
 given-whole None h = refl

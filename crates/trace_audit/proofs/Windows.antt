@@ -46,8 +46,7 @@ rest-stops test [] = refl
 rest-stops test (x ∷ text) = go (test x) refl (rest-stops test text)
   where
     go : (b : Bool) → test x ≡ b → begins test (rest_of test text) ≡ false → begins test (cond b (rest_of test text) (x ∷ text)) ≡ false
-    go true e s = s
-    go false e s = e
+    go b e s = grind (arith)
 
 fed-behind : (behind : List ℕ) → behind ≢ [] → begins is_no_feed behind ≡ false → (tail : List ℕ) × (behind ≡ 10 ∷ tail)
 fed-behind q0 some stops = grind (arith)
@@ -100,10 +99,7 @@ longer (x ∷ front) tail h = let p = and_parts (is_no_feed x) (list_all is_no_f
 -- read lines with the same parts but the break are one, or differ in it
 pub given-differs : (line own : List ℕ) (a b : LineText) → HasParts line a → HasParts own b → a.turn ≡ b.turn → a.role ≡ b.role
     → a.arrived ≡ b.arrived → a.sent ≡ b.sent → (line ≡ own → ⊥) → a.given ≢ b.given
-given-differs line own a b h k turn role arrived sent apart given =
-    let same : b ≡ a = λ i. record { turn = sym turn i; role = sym role i; arrived = sym arrived i; sent = sym sent i; given = sym given i }
-    in
-    apart (one-line line own a h (subst (HasParts own) same k))
+given-differs line own a b h k turn role arrived sent apart given = grind (arith, one-line)
 
 module _ (line window rest : List ℕ) (whole : IsWhole line) (short : length line ≤ 160) (is_window : window ≡ take 162 rest) where
   -- the text ends with the line, without its line feed
@@ -180,8 +176,7 @@ module _ (line window rest : List ℕ) (whole : IsWhole line) (short : length li
       cut (x ∷ a) b (suc n) h = ap (λ t. x ∷ t) (cut a b n (omega (arith, h))) ∙ ap (λ k. x ∷ (a ++ take k b)) (one-less n (length a))
 
       feeds : (n : ℕ) → 0 < n → (b : List ℕ) → begins is_no_feed (take n (10 ∷ b)) ≡ false
-      feeds zero h b = absurd (omega (arith, h))
-      feeds (suc n) h b = refl
+      feeds n h b = grind (arith)
 
   -- where the text is read on from, its line is that of the window, or is too long to be read
   own-is : (own_line rest ≡ front_of is_no_feed window) ⊎ ((161 ≤ length (own_line rest)) × (161 ≤ length (front_of is_no_feed window)))
@@ -214,17 +209,7 @@ module _ (line window rest : List ℕ) (whole : IsWhole line) (short : length li
 
   -- what differs of the window's line differs of the text's
   own-differs : (cause : AuditCause) → OwnDiffers line (front_of is_no_feed window) cause → OwnDiffers line (own_line rest) cause
-  own-differs cause d = elim own-is [
-    | inl same ↦ subst (λ own. OwnDiffers line own cause) (sym same) d
-    | inr long ↦ go long.0 long.1 cause d
-  ]
-    where
-      unread : (own : List ℕ) → 161 ≤ length own → (t : LineText) → HasParts own t → ⊥
-      unread own l t h = omega (arith, l, h.short)
-
-      go : 161 ≤ length (own_line rest) → 161 ≤ length (front_of is_no_feed window) → (cause : AuditCause)
-          → OwnDiffers line (front_of is_no_feed window) cause → OwnDiffers line (own_line rest) cause
-      go long_own long_front another d = grind (arith)
+  own-differs cause d = grind (arith, own-is)
 
   -- the text has another line in the place of this one
   pub departs : (cause : AuditCause) → OwnDiffers line (front_of is_no_feed window) cause → (line ≡ front_of is_no_feed window → ⊥)

@@ -1,20 +1,20 @@
 -- What is written of a line has its parts.
-use Rattle.trace_audit.proofs.Cited.{◌≡◌, ℕ, ◌<◌, ◌≤◌, Bool, true, false, cond, List, [], ◌∷◌, ◌++◌, length, codes, decimal, Option, Some}
-use Rattle.trace_audit.proofs.Cited.{None, Result, Ok, Err, refl, sym, ap, subst, ◌∙◌, arith, append_assoc, length-append, append-nil, inl}
-use Rattle.trace_audit.proofs.Cited.{inr, length-decimal-le, IfSome, BreakWord, Brk, Ack, Frame, Heard, Nothing, Passed, Lost, Chance, Sent}
+use Rattle.trace_audit.proofs.Cited.{◌≡◌, ℕ, ◌<◌, ◌≤◌, Bool, true, false, cond, List, [], ◌++◌, length, codes, decimal, Option, Some, None}
+use Rattle.trace_audit.proofs.Cited.{Result, Ok, Err, refl, sym, ap, ◌∙◌, arith, append_assoc, length-append, append-nil, inr}
+use Rattle.trace_audit.proofs.Cited.{length-decimal-le, IfSome, BreakWord, Brk, Ack, Frame, Heard, Nothing, Passed, Lost, Chance, Sent}
 use Rattle.trace_audit.proofs.Cited.{kind_word, poll_word, number_word, break_word, is_chance, line_begins, TraceLine, role_word, Role}
 use Rattle.trace_audit.proofs.Cited.{Shape, Numbered, Supervisory, Commanding, Responding, Rejecting, Exchanging, Unnumbered, number_bound}
 use Rattle.trace_audit.proofs.Cited.{count_bound, shape_named, FrameWords, IsBreak, count_word, information_word, shape_text, IsFrameText}
 use Rattle.trace_audit.proofs.Cited.{IsSignal, odp, adp, frame, IsHeard, nothing, lost, passed, IsSent, mark, flags, none, signal, HasParts}
 use Rattle.trace_audit.proofs.Cited.{chance_parts, IsReadableSent, IsReadableSignal, IsReadableHeard, IsReadable, text_of_line}
 use Rattle.trace_audit.proofs.Cited.{parts_of_line}
-use Rattle.std.proofs.Common.{◌||◌, nat_eq, nat_lt}
+use Rattle.std.proofs.Common.{nat_lt}
 use Rattle.frame_check.specs.Octets.{AreOctets}
 use Rattle.lapm_frames.specs.declared.frame.Frame.TheVariants as frames
 use Rattle.lapm_frames.specs.declared.sent.Sent.TheVariants as slots
 use Rattle.lapm_frames.specs.Parts.{parts_of}
 use Rattle.break_signals.specs.declared.fault.BreakFault.{BreakFault}
-use Rattle.break_signals.specs.declared.fault.BreakFault.TheVariants.{Kind, Number, Length}
+use Rattle.break_signals.specs.declared.fault.BreakFault.TheVariants.{Kind, Number}
 use Rattle.break_signals.specs.Words.{word_in, spelled}
 use Rattle.break_signals.proofs.Spelling.{is_spelled_back_always}
 use Rattle.line_texts.specs.FrameText.{IsInformation, if_word, break_in, frame_text, information_words}
@@ -40,19 +40,13 @@ of-others : (kind : ℕ) (word : BreakWord) (fault : BreakFault) (a : Bool) → 
 of-others kind word fault a e = grind (arith)
 
 few-number : (info : List ℕ) (word : BreakWord) → word_in info ≡ Ok word → number_in word < 2
-few-number [] word e = absurd cc
-few-number (kind ∷ []) word e = of-others kind word (Length 1) (nat_eq kind 64 || nat_eq kind 96) e
-few-number (kind ∷ number ∷ []) word e = of-others kind word (Length 2) (nat_eq kind 64 || nat_eq kind 96) e
-few-number (kind ∷ number ∷ units ∷ []) word e = grind (arith, of-three)
-few-number (kind ∷ number ∷ units ∷ more ∷ rest) word e = grind (arith, of-others)
+few-number info word e = grind (arith, of-others, of-three)
 
 is-break : (word : BreakWord) → AreOctets (spelled word) → number_in word < 2 → IsBreak word
 is-break word small few = grind (arith)
 
 pub read-break : (info : List ℕ) (r : Result BreakWord BreakFault) → word_in info ≡ r → AreOctets info → IfSome (if_word r) IsBreak
-read-break info (Ok word) e small =
-    is-break word (subst AreOctets (sym (is_spelled_back_always info word e)) small) (few-number info word e)
-read-break info (Err fault) e small = tt
+read-break info r e small = grind (arith, is-break, is_spelled_back_always, few-number)
 
 -- ---- frames
 
@@ -64,8 +58,7 @@ of_words name command ns nr pf n word = record { name = name; command = command;
 
 framed : (shape : Shape) (w : FrameWords) (text : List ℕ) → shape_named w.name ≡ Some shape → w.ns < number_bound → w.nr < number_bound
     → w.count < count_bound → IfSome w.word IsBreak → text ≡ w.name ++ shape_text shape w → IsFrameText text
-framed shape w text named ns nr n word e =
-    record { words = w; shape = shape; named = named; ranges = record { ns = ns; nr = nr; count = n; word = word }; text_is = e }
+framed shape w text named ns nr n word e = grind (arith)
 
 supervised : (name : List ℕ) (command : Bool) (nr : ℕ) (pf : Bool) → shape_named name ≡ Some Supervisory → nr < number_bound
     → IsFrameText (name ++ kind_word command ++ [] ++ number_word (codes " r=") nr ++ poll_word pf ++ [])
@@ -92,8 +85,7 @@ informed shape name command pf n word last named low few e =
 
 -- what a UI frame's information is
 said : (word : Option BreakWord) (info : List ℕ) → information_words word (Some info) ≡ information_word word (length info)
-said None info = refl
-said (Some word) info = refl
+said word info = grind (arith)
 
 frame-is-text : (f : Frame) → IsReadableFrame f → IsFrameText (frame_text f)
 frame-is-text (frames.I ns nr pf info) h =
@@ -122,25 +114,17 @@ frame-is-text (frames.Test command pf info) h =
 -- what a frame says of a break, where a UI frame's information is octets
 pub breaks : (f : Frame) → ((command pf : Bool) (info : List ℕ) → f ≡ frames.Ui command pf info → AreOctets info)
     → IfSome (break_in f) IsBreak
-breaks (frames.Ui command pf info) h = read-break info (word_in info) refl (h command pf info refl)
-breaks other h = tt
+breaks other h = grind (arith, read-break)
 
 -- a frame whose numbers are below 128 and whose information is octets, at most INFO of them, is one that is read back
 pub octets-are-read : (f : Frame) → IfSome (parts_of f).ns (λ ns. ns < number_bound) → IfSome (parts_of f).nr (λ nr. nr < number_bound)
     → IfSome (parts_of f).info IsInformation → IsReadableFrame f
-octets-are-read f ns nr info =
-    (ns, nr, few (parts_of f).info info, breaks f (λ command pf octets e. (subst (λ x. IfSome (parts_of x).info IsInformation) e info).1))
-  where
-    few : (o : Option (List ℕ)) → IfSome o IsInformation → IfSome o (λ info. length info < count_bound)
-    few o h = grind (arith)
+octets-are-read f ns nr info = grind (arith, breaks)
 
 -- ---- lines
 
 signal-is-text : (s : Sent) → IsReadableSignal s → IsSignal (slot_word s)
-signal-is-text slots.Odp h = odp refl
-signal-is-text slots.Adp h = adp refl
-signal-is-text (slots.Frame f) h = frame (frame-is-text f h)
-signal-is-text other h = absurd h
+signal-is-text other h = grind (arith, odp, frame, frame-is-text)
 
 heard-is-text : (heard : Heard) → IsReadableHeard heard → is_chance heard ≡ false → IsHeard (heard_word heard)
 heard-is-text Nothing h c = nothing refl
@@ -156,8 +140,7 @@ slot-is-text slots.Flags h = flags refl
 slot-is-text (slots.Frame f) h = signal (frame (frame-is-text f h))
 
 sent-is-text : (sent : Option Sent) → IfSome sent IsReadableSent → IsSent (sent_word sent)
-sent-is-text None h = none refl
-sent-is-text (Some s) h = slot-is-text s h
+sent-is-text sent h = grind (arith, none, slot-is-text)
 
 length-role : (role : Role) → length (role_word role) ≤ 4
 length-role role = grind (arith)
@@ -174,25 +157,14 @@ length-begins turn role low = omega (
 
 length-break : (given : Option ℕ) → IfSome given (λ units. units < 256) → length (break_word given) ≤ 10
 length-break None h = omega arith
-length-break (Some units) h = omega (
-  arith,
-  length-append {A = ℕ} (codes " break=") (decimal units),
-  length-decimal-le 3 units (omega arith) (omega (arith, h)) (omega (arith, h)),
-)
+length-break (Some units) h = grind (arith, length-append, length-decimal-le)
 
 four : (a b c d : List ℕ) → a ++ b ++ codes " > " ++ c ++ d ≡ a ++ (b ++ (codes " > " ++ (c ++ d)))
-four a b c d =
-    append_assoc (a ++ b ++ codes " > ") c d ∙ append_assoc (a ++ b) (codes " > ") (c ++ d) ∙ append_assoc a b (codes " > " ++ (c ++ d))
+four a b c d = grind (arith, append_assoc)
 
 length-four : (a b c d : List ℕ) → length a ≤ 19 → length b ≤ 62 → length c ≤ 57 → length d ≤ 10
     → length (a ++ b ++ codes " > " ++ c ++ d) ≤ 160
-length-four a b c d ha hb hc hd = omega (
-  arith,
-  length-append {A = ℕ} (a ++ b ++ codes " > " ++ c) d,
-  length-append {A = ℕ} (a ++ b ++ codes " > ") c,
-  length-append {A = ℕ} (a ++ b) (codes " > "),
-  length-append {A = ℕ} a b,
-)
+length-four a b c d ha hb hc hd = grind (arith, length-append)
 
 plain-has-parts : (line : TraceLine) → IsReadable line → is_chance line.arrived ≡ false
     → HasParts (line_begins line.turn line.role ++ heard_word line.arrived ++ codes " > " ++ sent_word line.sent ++ break_word line.given)
@@ -218,11 +190,7 @@ plain-has-parts line h c =
 
 chance-has-parts : (turn : ℕ) (role : Role) → turn < count_bound
     → HasParts (line_begins turn role ++ codes "chance") (chance_parts turn role)
-chance-has-parts turn role low = record {
-  short = omega (arith, length-begins turn role low, length-append {A = ℕ} (line_begins turn role) (codes "chance"));
-  turn = low;
-  parts = inl (record { arrived = refl; sent = refl; given = refl; line_is = refl });
-}
+chance-has-parts turn role low = grind (arith, length-begins, length-append)
 
 -- what was written of a line is read as its parts
 pub line-has-parts : (line : TraceLine) → IsReadable line → HasParts (text_of_line line) (parts_of_line line)

@@ -1,10 +1,10 @@
 -- A link's turns depend on what went beside them by then, and on nothing that goes there later.
-use Rattle.link_pair.proofs.Names.{◌≡◌, ℕ, zero, suc, ◌+◌, ◌-◌, ◌<◌, ◌≤◌, Bool, false, cond, nat_eq, List, [], ◌∷◌, ◌++◌, length, drop}
-use Rattle.link_pair.proofs.Names.{arith, refl, sym, ◌∙◌, ap, subst, Option, Some, None, nat_tests, length-drop, signal_bits, Check, Heard}
-use Rattle.link_pair.proofs.Names.{SentAgo, sent-ago, RunEnd, IsDone, LinkLost, NotDetected, Left, EndsInTurn, and_then, signal_in, signals}
-use Rattle.link_pair.proofs.Names.{signals_before, ArrivesAs, IsHeardOf, HeardIn, LineRun, wire_at, check_of, signal_or_flags, slot_in}
-use Rattle.link_pair.proofs.Names.{lasting, last_ends, IsByLink, Progress, Goes, Ended, HearsIdly, IdlesFor, Lasts, sent_ago, Outcome, Link}
-use Rattle.link_pair.proofs.Names.{Accounts, Spoken, Turn, ScriptValue, delay_of, Records, of, other, Role}
+use Rattle.link_pair.proofs.Names.{◌≡◌, ℕ, zero, suc, ◌+◌, ◌-◌, ◌<◌, ◌≤◌, List, [], ◌∷◌, ◌++◌, length, drop, arith, refl, sym, ◌∙◌, ap}
+use Rattle.link_pair.proofs.Names.{subst, Option, Some, None, length-drop, signal_bits, Check, Heard, SentAgo, sent-ago, RunEnd, IsDone}
+use Rattle.link_pair.proofs.Names.{LinkLost, NotDetected, Left, EndsInTurn, and_then, signal_in, signals, signals_before, ArrivesAs}
+use Rattle.link_pair.proofs.Names.{IsHeardOf, HeardIn, LineRun, wire_at, slot_in, lasting, last_ends, IsByLink, Progress, Goes, Ended}
+use Rattle.link_pair.proofs.Names.{HearsIdly, IdlesFor, Lasts, sent_ago, Outcome, Link, Accounts, Spoken, Turn, ScriptValue, delay_of}
+use Rattle.link_pair.proofs.Names.{Records, of, other, Role}
 use Rattle.line_run.specs.Sampled.{IsHeardOver}
 use Rattle.line_run.specs.Ends.{EndsBy}
 use Rattle.link_pair.proofs.Pairs.Clear.{Beside, bits_in}
@@ -27,10 +27,7 @@ same-signals script dlci b d role (t ∷ ts) h =
 
 pub same-before : (script : ScriptValue) (dlci : ℕ) (b d : Beside) (role : Role) (ts : List Turn) → SameBelow (suc (length ts)) b d
     → signals_before (wire_at script dlci b) role ts ≡ signals_before (wire_at script dlci d) role ts
-same-before script dlci b d role ts h =
-    ap (λ l. and_then l (b role (length ts)))
-    (same-signals script dlci b d role ts (fewer (length ts) (suc (length ts)) b d (omega arith) h))
-    ∙ ap (and_then (signals (wire_at script dlci d) role ts)) (h role (length ts) (omega arith))
+same-before script dlci b d role ts h = grind (arith, same-signals, fewer)
 
 -- what is heard
 pub same-of : (script : ScriptValue) (dlci : ℕ) (b d : Beside) → ((role : Role) → 1 ≤ delay_of script role)
@@ -65,10 +62,7 @@ same-of script dlci b d delays sender ts hearing heard s = go (sent_ago delay se
 
 same-in : (script : ScriptValue) (dlci : ℕ) (b d : Beside) → ((role : Role) → 1 ≤ delay_of script role) → (ts : List Turn) (t : Turn)
     → SameBelow (length ts) b d → HeardIn (wire_at script dlci b) ts t → HeardIn (wire_at script dlci d) ts t
-same-in script dlci b d delays ts t s h role = record {
-  heard_of = same-of script dlci b d delays (other role) ts (of role t).check (of role t).heard s (h role).heard_of;
-  well = (h role).well;
-}
+same-in script dlci b d delays ts t s h role = grind (arith, same-of, other)
 
 same-over : (script : ScriptValue) (dlci : ℕ) (b d : Beside) → ((role : Role) → 1 ≤ delay_of script role) → (ts : List Turn)
     → SameBelow (length ts) b d → IsHeardOver (wire_at script dlci b) ts → IsHeardOver (wire_at script dlci d) ts
@@ -80,8 +74,7 @@ same-over script dlci b d delays (t ∷ ts) s h =
 same-run : (script : ScriptValue) (dlci : ℕ) (b d : Beside) → ((role : Role) → 1 ≤ delay_of script role) → (link : Link) (ts : List Turn)
     (ends : Accounts) → SameBelow (length ts) b d → LineRun (wire_at script dlci b) link ts ends
     → LineRun (wire_at script dlci d) link ts ends
-same-run script dlci b d delays link ts ends s r =
-    record { run = r.run; heard = same-over script dlci b d delays ts s r.heard }
+same-run script dlci b d delays link ts ends s r = grind (arith, same-over)
 
 abbrev same-last : (script : ScriptValue) (dlci : ℕ) (b d : Beside) → ((role : Role) → 1 ≤ delay_of script role) → (link : Link)
     (ts : List Turn) (ends : Accounts) (o : Outcome) (turn : ℕ) (left : Left) → SameBelow (length ts) b d
@@ -121,11 +114,7 @@ length-lasting (suc n) ts = omega (arith, length-lasting n ts)
 same-idly : (script : ScriptValue) (dlci : ℕ) (b d : Beside) → ((role : Role) → 1 ≤ delay_of script role)
     → (ts : List Turn) (ends : Accounts)
     → SameBelow (length ts) b d → HearsIdly (wire_at script dlci b) ts ends → HearsIdly (wire_at script dlci d) ts ends
-same-idly script dlci b d delays ts ends s h role = record {
-  heard = (h role).heard;
-  is = same-of script dlci b d delays (other role) ts (check_of (of role ends)) (h role).heard s (h role).is;
-  well = (h role).well;
-}
+same-idly script dlci b d delays ts ends s h role = grind (arith, same-of, other)
 
 same-idles : (script : ScriptValue) (dlci : ℕ) (b d : Beside) → ((role : Role) → 1 ≤ delay_of script role) → (ends : Accounts) (n : ℕ)
     (ts : List Turn) → SameBelow (n + length ts) b d → IdlesFor (wire_at script dlci b) ends n ts
@@ -139,11 +128,7 @@ same-idles script dlci b d delays ends (suc n) ts s h = (
 -- So a link came to the same in so many rounds.
 pub same-lasts : (script : ScriptValue) (dlci : ℕ) (b d : Beside) → ((role : Role) → 1 ≤ delay_of script role) → (link : Link) (rounds : ℕ)
     (p : Progress) → SameBelow rounds b d → Lasts (wire_at script dlci b) link rounds p → Lasts (wire_at script dlci d) link rounds p
-same-lasts script dlci b d delays link rounds (Goes ts ends) s h =
-    record {
-      run = same-run script dlci b d delays link ts ends (fewer (length ts) rounds b d (omega (arith, h.count)) s) h.run;
-      count = h.count;
-    }
+same-lasts script dlci b d delays link rounds (Goes ts ends) s h = grind (arith, same-run, fewer)
 same-lasts script dlci b d delays link rounds (Ended ts ends end left) s h =
     let few : length h.ran.turns ≤ rounds = omega (arith, ap length h.turns_are, h.before) in
     let near : SameBelow (length h.ran.turns) b d = fewer (length h.ran.turns) rounds b d few s in
@@ -166,11 +151,4 @@ same-lasts script dlci b d delays link rounds (Ended ts ends end left) s h =
 -- slots of earlier rounds stay as they are
 pub slot-stays : (dlci : ℕ) (role : Role) (t : Turn) (ts : List Turn) (round : ℕ) → round < length ts
     → slot_in dlci role (t ∷ ts) round ≡ slot_in dlci role ts round
-slot-stays dlci role t ts round l = go (nat_eq round (length ts)) (differs round (length ts) l)
-  where
-    differs : (m n : ℕ) → m < n → nat_eq m n ≡ false
-    differs m n k = grind (arith, nat_tests)
-
-    go : (x : Bool) → x ≡ false
-        → cond x (signal_or_flags dlci role (of role t).sent) (slot_in dlci role ts round) ≡ slot_in dlci role ts round
-    go x e = grind (arith)
+slot-stays dlci role t ts round l = grind (arith)

@@ -71,14 +71,7 @@ goes-on laws script files dlci beside rounds ts ends h l m = go m.outcome refl
     none-left = omega (arith, l.count)
 
     in-turn : (o : Outcome) → m.outcome ≡ o → EndsInTurn c link ts ends o (length ts) left
-    in-turn o e = record {
-      number = refl;
-      last = m.turn;
-      mid = m.mid;
-      heard = m.heard;
-      is = subst (TurnIs link ts ends m.turn m.mid) e m.is;
-      leaves = leaves-so m.mid (trace_text (m.turn ∷ ts));
-    }
+    in-turn o e = grind (arith, link, leaves-so)
 
     idle : IdlesFor c m.mid (suc rounds - suc (length ts)) ts
     idle = subst (λ n. IdlesFor c m.mid n ts) (sym none-left) tt

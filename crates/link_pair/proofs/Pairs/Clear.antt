@@ -214,10 +214,7 @@ due-heard laws script dlci beside sender ts hearing h agrees = go (sent_ago dela
 
 -- which is no chance match
 pub due-well : ClearLaws → (script : ScriptValue) (sender : Role) (ts : List Turn) → due script sender ts ≢ Chance
-due-well laws script sender ts = go (sent_ago (delay_of script sender) sender ts)
-  where
-    go : (o : Option Spoken) → due_of script sender (drop (delay_of script sender) ts) o ≢ Chance
-    go o e = grind (arith)
+due-well laws script sender ts = grind (arith)
 
 -- So the line isn't lost in that turn.
 pub not-lost : ClearLaws → (script : ScriptValue) (dlci : ℕ) (beside : Beside) (sender : Role) (ts : List Turn) (symbol : ℕ)

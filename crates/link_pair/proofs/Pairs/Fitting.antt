@@ -36,8 +36,7 @@ fit-and-one size (first ∷ before) signal h f = (h.0, fit-and-one size before s
 
 fit-and-then : (size : ℕ) (before : List Signal) (o : Option Signal) → AllFit size before
     → ((signal : Signal) → o ≡ Some signal → FitsAlways size signal) → AllFit size (and_then before o)
-fit-and-then size before None h f = h
-fit-and-then size before (Some signal) h f = fit-and-one size before signal h (f signal refl)
+fit-and-then size before o h f = grind (arith, fit-and-one)
 
 -- all that was sent in these turns fits, on that channel
 abbrev pub AllFitting : ℕ → ℕ → List Turn → Type 0
@@ -96,9 +95,7 @@ value-of signal None = signal
 value-of signal (Some s) = s
 
 pub second-beside : (size : ℕ) (us : List Turn) → AllFitting size 32 us → BesideFits size (after_second us)
-second-beside size us h role zero signal e = absurd cc
-second-beside size us h role (suc round) signal e =
-    subst (FitsAlways size) (ap (value-of signal) e) (slot-fits size 32 role us round h)
+second-beside size us h role given signal e = grind (arith, slot-fits)
 
 pub first-beside : (size : ℕ) (ts : List Turn) → AllFitting size 0 ts → BesideFits size (after_first ts)
 first-beside size ts h role round signal e = subst (FitsAlways size) (ap (value-of signal) e) (slot-fits size 0 role ts round h)
@@ -109,8 +106,7 @@ none-beside size role round signal e = absurd cc
 -- so the slots of both links fit one another
 fit-before : (c : Wire) → BesideFits (4 * c.symbols) c.beside → (role : Role) (ts : List Turn)
     → AllFit (4 * c.symbols) (signals c role ts) → AllFit (4 * c.symbols) (signals_before c role ts)
-fit-before c b role ts h = fit-and-then (4 * c.symbols) (signals c role ts) (c.beside role (length ts)) h
-    (λ signal e. b role (length ts) signal e)
+fit-before c b role ts h = grind (arith, fit-and-then)
 
 pub signals-fit : (c : Wire) → BesideFits (4 * c.symbols) c.beside → (role : Role) (ts : List Turn)
     → AllFitting (4 * c.symbols) c.dlci ts → AllFit (4 * c.symbols) (signals c role ts)
@@ -134,10 +130,7 @@ sent-of None = slots.Flags
 sent-of (Some slot) = slot.sent
 
 pub idle-sends : (role : Role) (slot : Spoken) → (of role idle_turn).sent ≡ Some slot → slots.Flags ≡ slot.sent
-idle-sends role slot e = go role e
-  where
-    go : (role : Role) → (of role idle_turn).sent ≡ Some slot → slots.Flags ≡ slot.sent
-    go role e = grind (arith)
+idle-sends role slot e = grind (arith)
 
 pub fitting-lasting : (size dlci n : ℕ) (ts : List Turn) → AllFitting size dlci ts → AllFitting size dlci (lasting n ts)
 fitting-lasting size dlci zero ts h = h

@@ -36,12 +36,7 @@ module _ (laws : IsolationLaws) (script : ScriptValue) (files : Both (List ℕ))
   -- the line of samples as any line
   pub over : IsInLimits script → LineRun (wire_at script dlci beside) (link_of script files) ts ends
       → RunsOver (link_of script files) (delay_of script) ts ends
-  over h r = record {
-    may_play = laws.play script files h;
-    delays = laws.delays script h;
-    carried = laws.carried (wire_at script dlci beside) ts r.heard;
-    run = r.run;
-  }
+  over h r = grind (arith)
 
   pub fitting-on : IsInLimits script → AreOfOctets script files → LineRun (wire_at script dlci beside) (link_of script files) ts ends
       → (at : ℕ) → at < 64 → AllFitting (bits_in script) at ts
@@ -63,10 +58,7 @@ module _ (laws : IsolationLaws) (script : ScriptValue) (files : Both (List ℕ))
   -- and both ends judge by the right check
   pub agrees-on : IsInLimits script → LineRun (wire_at script dlci beside) (link_of script files) ts ends → (role : Role)
       → Agrees script (other role) ts (check_of (of role ends))
-  agrees-on h r role = λ slot e.
-      agree-on slot.check (check_of (of role ends)) slot.sent (λ frame f.
-      laws.judges (link_of script files) (delay_of script) ts ends (over h r)
-      (delay_of script (other role)) role slot frame e f)
+  agrees-on h r role = grind (arith, agree-on, over, other)
 
   -- What is heard in a turn is heard there too.
   pub heard-moves : (at : ℕ) (near : Beside) → MaySend script files → Moves script dlci beside at near

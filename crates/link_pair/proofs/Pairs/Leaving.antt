@@ -1,10 +1,10 @@
 -- What a pair leaves of each link, and how many rounds it has.
 use Rattle.link_pair.proofs.Names.{◌≡◌, ℕ, ◌^◌, ◌<◌, true, List, arith, sym, subst, false≢true, LostLinksWereStarved, RunEnd, IsDone, Left}
-use Rattle.link_pair.proofs.Names.{SamplesAreCarried, LineRun, LineEnd, link_of, ScriptsMayPlay, ScriptsHaveDelays, wire_at}
-use Rattle.link_pair.proofs.Names.{LineRunsEndSoon, first_dlci, second_dlci, after_second, after_first, first_wire, second_wire, BothDone}
-use Rattle.link_pair.proofs.Names.{end_of, line_end, is_going, LeavesOf, by_links, by_line, ArePrefixes, PairsLeavePrefixes}
-use Rattle.link_pair.proofs.Names.{DonePairsAreWhole, AreFewRounds, AreShort, PairsHaveFewRounds, Progress, Goes, Ended, turns_in, Lasts}
-use Rattle.link_pair.proofs.Names.{Accounts, Turn, ScriptValue, IsInLimits, delay_of, Both, of, IsPrefixOf, other, Role}
+use Rattle.link_pair.proofs.Names.{SamplesAreCarried, LineEnd, link_of, ScriptsMayPlay, ScriptsHaveDelays, wire_at, LineRunsEndSoon}
+use Rattle.link_pair.proofs.Names.{first_dlci, second_dlci, after_second, after_first, first_wire, second_wire, BothDone, end_of, line_end}
+use Rattle.link_pair.proofs.Names.{is_going, LeavesOf, by_links, by_line, ArePrefixes, PairsLeavePrefixes, DonePairsAreWhole, AreFewRounds}
+use Rattle.link_pair.proofs.Names.{AreShort, PairsHaveFewRounds, Progress, Goes, Ended, turns_in, Lasts, Accounts, Turn, ScriptValue}
+use Rattle.link_pair.proofs.Names.{IsInLimits, delay_of, Both, of, IsPrefixOf, other, Role}
 use Rattle.link_run.specs.Laws.{TakesPrefixes}
 use Rattle.line_run.specs.Scripts.{NoLineRunIsLong}
 use Rattle.line_run.specs.Ends.{MayRun, RunsLeavePrefixes, DoneLeavesWhole}
@@ -103,18 +103,11 @@ paired-links-were-starved law script files others firsts seconds p q h a = (
 -- a link as any run
 is-run : SamplesAreCarried → (script : ScriptValue) (files : Both (List ℕ)) (dlci : ℕ) (beside : Beside) (rounds : ℕ) (p : Progress)
     → Lasts (wire_at script dlci beside) (link_of script files) rounds p → IsRunOver (link_of script files) script p
-is-run carried script files dlci beside rounds (Goes ts ends) l =
-    record { ends = ends; run = l.run.run; carried = carried (wire_at script dlci beside) ts l.run.heard }
-is-run carried script files dlci beside rounds (Ended ts ends end left) l =
-    let run : LineRun (wire_at script dlci beside) (link_of script files) ts l.ran.ends =
-    subst (λ us. LineRun (wire_at script dlci beside) (link_of script files) us l.ran.ends) l.turns_are l.ran.run in
-    record { ends = l.ran.ends; run = run.run; carried = carried (wire_at script dlci beside) ts run.heard }
+is-run carried script files dlci beside rounds (Goes ts ends) l = grind (arith)
+is-run carried script files dlci beside rounds (Ended ts ends end left) l = grind (arith)
 
 pub paired-links-run : SamplesAreCarried → PairedLinksRun
-paired-links-run carried script files others firsts seconds p q a = (
-  is-run carried script files first_dlci (after_second (turns_in q)) firsts p a.first,
-  is-run carried script others second_dlci (after_first (turns_in p)) seconds q a.second,
-)
+paired-links-run carried script files others firsts seconds p q a = grind (arith, is-run)
 
 few-rounds : LineRunsEndSoon → NoLineRunIsLong → (script : ScriptValue) (files : Both (List ℕ)) (dlci : ℕ) (beside : Beside) (rounds : ℕ)
     → IsInLimits script → AreShort files → (p : Progress) → Lasts (wire_at script dlci beside) (link_of script files) rounds p
@@ -128,7 +121,4 @@ few-rounds soon long script files dlci beside rounds h f (Goes ts ends) l e = re
 few-rounds soon long script files dlci beside rounds h f (Ended ts ends end left) l e = absurd (false≢true e)
 
 pub pairs-have-few-rounds : LineRunsEndSoon → NoLineRunIsLong → PairsHaveFewRounds
-pairs-have-few-rounds soon long script files others firsts seconds p q h f g a = (
-  few-rounds soon long script files first_dlci (after_second (turns_in q)) firsts h f p a.first,
-  few-rounds soon long script others second_dlci (after_first (turns_in p)) seconds h g q a.second,
-)
+pairs-have-few-rounds soon long script files others firsts seconds p q h f g a = grind (arith, few-rounds)

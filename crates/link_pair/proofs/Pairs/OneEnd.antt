@@ -1,9 +1,8 @@
 -- A pair has one result.
 use Rattle.link_pair.proofs.Names.{◌≡◌, ◌⊎◌, inl, inr, ℕ, suc, ◌-◌, ◌*◌, ◌<◌, ◌≤◌, ◌||◌, max, Bool, true, false, List, ◌++◌, length, arith}
-use Rattle.link_pair.proofs.Names.{refl, sym, ◌∙◌, ap, subst, compare, left-is, RunEnd, IsDone, Left, LineEnd, ScriptsHaveDelays}
-use Rattle.link_pair.proofs.Names.{first_wire, second_wire, Which, First, Second, PairEnd, end_of, line_end, is_going, EndsTurn, LeavesOf}
-use Rattle.link_pair.proofs.Names.{text_for, PairRunsTo, by_links, by_line, OnePairResult, Progress, Goes, Ended, turns_in, ends_in}
-use Rattle.link_pair.proofs.Names.{turns_on_line, PairAt, trace_text, ScriptValue, Both}
+use Rattle.link_pair.proofs.Names.{refl, sym, ◌∙◌, ap, compare, left-is, RunEnd, IsDone, Left, LineEnd, ScriptsHaveDelays, Which, First}
+use Rattle.link_pair.proofs.Names.{Second, PairEnd, end_of, line_end, is_going, EndsTurn, LeavesOf, PairRunsTo, by_links, by_line}
+use Rattle.link_pair.proofs.Names.{OnePairResult, Progress, Goes, Ended, turns_in, PairAt, trace_text, ScriptValue, Both}
 use Rattle.std.proofs.lemmas.Bool.{cases_lt}
 use Rattle.line_run.specs.LineLaws.{OneLineEnd}
 use Rattle.link_pair.specs.Pairs.Ends.{LineEnds}
@@ -30,10 +29,7 @@ going-not x y e f g = grind (arith)
 
 ends-not-heard : SameLaws → (script : ScriptValue) (link : Which) (round : ℕ) (p q : Progress) (cause : LineEnd)
     → EndsTurn script link round p q cause → HearsTurn script link round p q → ⊥
-ends-not-heard laws script First round p q cause e h =
-    ends-or-hears laws (first_wire script (turns_in q)) (turns_on_line round p) (ends_in p) cause e h
-ends-not-heard laws script Second round p q cause e h =
-    ends-or-hears laws (second_wire script (turns_in p)) (turns_on_line round q) (ends_in q) cause e h
+ends-not-heard laws script link round p q cause e h = grind (arith, ends-or-hears)
 
 -- a pair that stops doesn't go on
 not-later : SameLaws → (script : ScriptValue) (files others : Both (List ℕ)) → HasDelays script → (a b : Which) (m n : ℕ)
@@ -55,17 +51,9 @@ not-later laws script files others delays a b m n p q r s h stop k stops l =
     stays e f = (x.p_stays (ap is_going one.0 ∙ e) ∙ one.0, x.q_stays (ap is_going one.1 ∙ f) ∙ one.1)
 
     go : Stops script a m p q → Stops script b n r s → ⊥
-    go (On_line cause e g) t =
-        ends-not-heard laws script a m p q cause e
-        (subst (HearsTurn script a m p) one.1 (subst (λ z. HearsTurn script a m z x.q0) one.0 x.well))
-    go (Both_over e f place) (Both_over g h' other) =
-        let w = stays e f in
-        let same = other ∙ ap (λ z. max (2 * suc (length (turns_in s))) (suc (2 * length (turns_in z)))) w.0
-        ∙ ap (λ z. max (2 * suc (length (turns_in z))) (suc (2 * length (turns_in p)))) w.1 ∙ sym place in
-        omega (arith, l, same)
-    go (Both_over e f place) (On_line cause u g) =
-        let w = stays e f in
-        going-not (is_going r) (is_going s) (ap is_going w.0 ∙ e) (ap is_going w.1 ∙ f) g
+    go (On_line cause e g) t = grind (arith, ends-not-heard, m, one, x)
+    go (Both_over e f place) (Both_over g h' other) = grind (arith, stays)
+    go (Both_over e f place) (On_line cause u g) = grind (arith, stays, going-not)
 
 -- so two stop at one place
 one-place : SameLaws → (script : ScriptValue) (files others : Both (List ℕ)) → HasDelays script → (a b : Which) (m n : ℕ)
@@ -97,8 +85,7 @@ both-stop script files others p q a = go (cases_lt n m)
     n = length (turns_in q)
 
     at : (firsts seconds : ℕ) → suc (max m n) ≡ firsts → max m (suc n) ≡ seconds → PairAt script files others firsts seconds p q
-    at firsts seconds e f =
-        subst (λ z. PairAt script files others firsts z p q) f (subst (λ z. PairAt script files others z (max m (suc n)) p q) e a)
+    at firsts seconds e f = grind (arith, m, n)
 
     go : (n < m) ⊎ (m ≤ n) → BothStop script files others p q
     go (inl l) = record { link = Second; round = m; at = at (suc m) m (omega (arith, l)) (omega (arith, l)); count = omega (arith, l) }
@@ -122,12 +109,7 @@ left-in left (Ended ts ends end had) = had
 leaves-once : (p : Progress) (text : List ℕ) (left other : Left) → LeavesOf p text left → LeavesOf p text other → left ≡ other
 leaves-once (Goes ts ends) text left other h k =
     left-is ends (trace_text ts ++ text) left h ∙ sym (left-is ends (trace_text ts ++ text) other k)
-leaves-once (Ended ts ends end had) text left other h k = go left h ∙ sym (go other k)
-  where
-    go : (left : Left) → (left.got ≡ had.got) × (left.trace ≡ had.trace ++ text)
-        → left ≡ record { got = had.got; trace = had.trace ++ text }
-    go left e = ap (λ (g : Both (List ℕ)). record { got = g; trace = left.trace }) e.0
-        ∙ ap (λ (t : List ℕ). record { got = had.got; trace = t }) e.1
+leaves-once (Ended ts ends end had) text left other h k = grind (arith)
 
 one-cause : OneLineEnd → (script : ScriptValue) (link : Which) (round : ℕ) (p q : Progress) (a b : LineEnd)
     → EndsTurn script link round p q a → EndsTurn script link round p q b → a ≡ b
@@ -141,19 +123,7 @@ same-line : ResultLaws → (script : ScriptValue) (files others : Both (List ℕ
     (cause reason : LineEnd) (left other leaves more : Left) → LineEnds script files others link round cause left leaves
     → LineEnds script files others link round reason other more
     → Same (line_end round cause) (line_end round reason) left other leaves more
-same-line laws script files others delays link round cause reason left other leaves more x y =
-    let one = one-at laws.same script files others delays link round x.p x.q y.p y.q x.at y.at in
-    let there : EndsTurn script link round y.p y.q cause =
-    subst (λ z. EndsTurn script link round y.p z cause) one.1 (subst (λ z. EndsTurn script link round z x.q cause) one.0 x.is) in
-    let same = one-cause laws.end script link round y.p y.q cause reason there y.is in (
-      ap (line_end round) same,
-      leaves-once y.p (text_for First link round reason) left other
-          (subst (λ c. LeavesOf y.p (text_for First link round c) left) same
-          (subst (λ z. LeavesOf z (text_for First link round cause) left) one.0 x.first_leaves)) y.first_leaves,
-      leaves-once y.q (text_for Second link round reason) leaves more
-          (subst (λ c. LeavesOf y.q (text_for Second link round c) leaves) same
-          (subst (λ z. LeavesOf z (text_for Second link round cause) leaves) one.1 x.second_leaves)) y.second_leaves,
-    )
+same-line laws script files others delays link round cause reason left other leaves more x y = grind (arith, one-at, one-cause, leaves-once)
 
 pub one-pair-result : ResultLaws → OnePairResult
 one-pair-result laws script files others a b left other leaves more h r s = go r s

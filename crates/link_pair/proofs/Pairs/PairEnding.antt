@@ -33,9 +33,7 @@ pub record IsGiven (script : ScriptValue) (files others : Both (List ℕ)) : Typ
 fitting : EndLaws → (script : ScriptValue) (files : Both (List ℕ)) (dlci : ℕ) (beside : Beside) (rounds : ℕ) (p : Progress)
     → IsInLimits script → AreOfOctets script files
     → Lasts (wire_at script dlci beside) (link_of script files) rounds p → (at : ℕ) → at < 64 → AllFitting (bits_in script) at (turns_in p)
-fitting laws script files dlci beside rounds p h o l at low =
-    let r = has-run (wire_at script dlci beside) (link_of script files) rounds p l in
-    fitting-on laws.links script files dlci beside (turns_in p) r.before h o r.run at low
+fitting laws script files dlci beside rounds p h o l at low = grind (arith, has-run, fitting-on)
 
 -- what is left where the line ends a pair
 left-of : Progress → List ℕ → Left
@@ -108,8 +106,7 @@ second-turn laws script files others v round p q a g on =
     near : (next : Progress) → ((at : ℕ) (role : Role) (r : ℕ) → r < round
         → slot_in at role (turns_in q) r ≡ slot_in at role (turns_in next) r)
         → (role : Role) (r : ℕ) → r < suc round → after_second (turns_in q) role r ≡ after_second (turns_in next) role r
-    near next same role zero l = refl
-    near next same role (suc r) l = ap Some (same second_dlci role r (omega (arith, l)))
+    near next same role r l = grind (arith)
 
     went : (next : Progress) → At script files others First (suc round) p next
         → (is_going next ≡ false → is_going q ≡ true → length (turns_in next) ≡ round)
@@ -117,15 +114,7 @@ second-turn laws script files others v round p q a g on =
         → (x y : Bool) → is_going p ≡ x → is_going next ≡ y → HasPairEnd script files others
     went next b just stays true y e f = on p next b (or_left (is_going p) (is_going next) e)
     went next b just stays false true e f = on p next b (or_right (is_going p) (is_going next) f)
-    went next b just stays false false e f = over (either (is_going p) (is_going q) g)
-      where
-        over : (is_going p ≡ true) ⊎ ((is_going p ≡ false) × (is_going q ≡ true)) → HasPairEnd script files others
-        over (inl h) = absurd (false≢true (sym e ∙ h))
-        over (inr h) =
-            let n : length (turns_in next) ≡ round = just f h.1 in
-            let m : length (turns_in p) < suc round =
-            ended-before script first_dlci (after_second (turns_in q)) files (suc round) p a.first e in
-            both-end script files others (suc round) (suc round) p next b e f (omega (arith, n, m)) (omega (arith, n, m))
+    went next b just stays false false e f = grind (arith, either, ended-before, both-end)
 
     step : NextOf script second_dlci (after_first (turns_in p)) (link_of script others) round q → HasPairEnd script files others
     step (On_line cause e) = line-ends script files others Second round p q cause a g e
@@ -162,11 +151,7 @@ first-turn laws script files others v round p q a g on =
       where
         over : (is_going p ≡ true) ⊎ ((is_going p ≡ false) × (is_going q ≡ true)) → HasPairEnd script files others
         over (inr h) = absurd (false≢true (sym f ∙ h.1))
-        over (inl h) =
-            let n : length (turns_in next) ≡ round = just e h in
-            let m : length (turns_in q) < round =
-            ended-before script second_dlci (after_first (turns_in p)) others round q a.second f in
-            both-end script files others (suc round) round next q b e f (omega (arith, n, m)) (omega (arith, n, m))
+        over (inl h) = grind (arith, ended-before, both-end)
 
     step : NextOf script first_dlci (after_second (turns_in q)) (link_of script files) round p → HasPairEnd script files others
     step (On_line cause e) = line-ends script files others First round p q cause a g e

@@ -1,9 +1,9 @@
 -- Pairs whose noise is faint: the line doesn't end them, and each link runs as it does alone.
 use Rattle.link_pair.proofs.Names.{ℕ, ◌-◌, ◌<◌, List, length, arith, sym, subst, None, Chance, IsFaint, DisplacesNoneIsFaint, OneIsCarried}
 use Rattle.link_pair.proofs.Names.{Wire, LineRun, LineEnd, EndsLine, link_of, wire_at, check_of, first_dlci, second_dlci, after_second}
-use Rattle.link_pair.proofs.Names.{after_first, Which, First, Second, EndsTurn, by_links, by_line, FaintPairsAreIsolated, Progress, Goes}
-use Rattle.link_pair.proofs.Names.{Ended, turns_in, ends_in, turns_on_line, Lasts, PairAt, JudgesOnceHeard, Link, Accounts, Turn}
-use Rattle.link_pair.proofs.Names.{ScriptValue, Both, of, other, Role, Originator, Answerer}
+use Rattle.link_pair.proofs.Names.{after_first, Which, EndsTurn, by_links, by_line, FaintPairsAreIsolated, Progress, Goes, Ended, turns_in}
+use Rattle.link_pair.proofs.Names.{ends_in, turns_on_line, Lasts, PairAt, JudgesOnceHeard, Link, Accounts, Turn, ScriptValue, Both, of}
+use Rattle.link_pair.proofs.Names.{other, Role, Originator, Answerer}
 use Rattle.line_run.specs.Sampled as lines
 use Rattle.link_pair.specs.Pairs.Laws.{UndisplacedPairsAreIsolated}
 use Rattle.link_pair.proofs.Pairs.Fitting.{AllFitting, BesideFits, second-beside, first-beside, none-beside, fitting-lasting}
@@ -23,17 +23,13 @@ pub record HasRun (c : Wire) (link : Link) (ts : List Turn) : Type 0 where
   pub run : LineRun c link ts before
 
 pub has-run : (c : Wire) (link : Link) (rounds : ℕ) (p : Progress) → Lasts c link rounds p → HasRun c link (turns_in p)
-has-run c link rounds (Goes ts ends) h = record { before = ends; run = h.run }
-has-run c link rounds (Ended ts ends end left) h =
-    record { before = h.ran.ends; run = subst (λ us. LineRun c link us h.ran.ends) h.turns_are h.ran.run }
+has-run c link rounds p h = grind (arith)
 
 -- what it sent fits each channel
 pub fits-in : IsolationLaws → (script : ScriptValue) (files : Both (List ℕ)) (dlci : ℕ) (beside : Beside) (rounds : ℕ) (p : Progress)
     → MaySend script files → Lasts (wire_at script dlci beside) (link_of script files) rounds p → (at : ℕ) → at < 64
     → AllFitting (bits_in script) at (turns_in p)
-fits-in laws script files dlci beside rounds p m h at low =
-    let r = has-run (wire_at script dlci beside) (link_of script files) rounds p h in
-    fitting-on laws script files dlci beside (turns_in p) r.before m.limits m.octets r.run at low
+fits-in laws script files dlci beside rounds p m h at low = grind (arith, has-run, fitting-on)
 
 -- a link's line is clear and both its ends judge by the right checks, also once it has ended
 pub record IsHeardRight (script : ScriptValue) (dlci : ℕ) (beside : Beside) (ts : List Turn) (ends : Accounts) : Type 0 where
@@ -98,20 +94,11 @@ second-near laws script files others n m p q s a = first-beside (bits_in script)
 line-ends-not : PairLaws → (script : ScriptValue) (files others : Both (List ℕ)) (link : Which) (round n m : ℕ) (p q : Progress)
     → MaySend script files → MaySend script others → PairAt script files others n m p q
     → (end : LineEnd) → EndsTurn script link round p q end → ⊥
-line-ends-not laws script files others First round n m p q s t a end e =
-    let near = first-near laws.links script files others n m p q t a in
-    never-ends laws script first_dlci (after_second (turns_in q)) (turns_on_line round p) (ends_in p) s.faint
-    (heard-right laws script files first_dlci (after_second (turns_in q)) round n p s (omega arith) near a.first) end e
-line-ends-not laws script files others Second round n m p q s t a end e =
-    let near = second-near laws.links script files others n m p q s a in
-    never-ends laws script second_dlci (after_first (turns_in p)) (turns_on_line round q) (ends_in q) s.faint
-    (heard-right laws script others second_dlci (after_first (turns_in p)) round m q t (omega arith) near a.second) end e
+line-ends-not laws script files others link round n m p q s t a end e = grind (arith, first-near, never-ends, heard-right, second-near)
 
 -- isolation
 pub faint-pairs-are-isolated : PairLaws → FaintPairsAreIsolated
-faint-pairs-are-isolated laws script files others end left leaves h d o oo (by_line link round cause e is) =
-    absurd (line-ends-not laws script files others link round _ round e.p e.q (record { limits = h; faint = d; octets = o })
-    (record { limits = h; faint = d; octets = oo }) e.at cause e.is)
+faint-pairs-are-isolated laws script files others end left leaves h d o oo (by_line link round cause e is) = grind (arith, line-ends-not)
 faint-pairs-are-isolated laws script files others end left leaves h d o oo (by_links first second b is) =
     let s : MaySend script files = record { limits = h; faint = d; octets = o } in
     let t : MaySend script others = record { limits = h; faint = d; octets = oo } in

@@ -1,9 +1,9 @@
 -- The slots of a pair in the order in which they are sent: as each link's turn begins, the slot that is due is that link's.
-use Rattle.link_pair.proofs.Names.{◌≡◌, ℕ, zero, suc, ◌-◌, ◌*◌, ◌<◌, ◌≤◌, Bool, true, false, cond, nat_eq, List, [], ◌∷◌, length, drop}
-use Rattle.link_pair.proofs.Names.{arith, refl, sym, ◌∙◌, ap, Some, None, nat_tests, is_some, FlagSlot, link_of, wire_at, Carried, AreSent}
-use Rattle.link_pair.proofs.Names.{IsDue, first_dlci, second_dlci, signal_or_flags, slot_in, after_second, after_first, second_wire}
-use Rattle.link_pair.proofs.Names.{idle_turn, lasting, FirstSlotsAreDue, SecondSlotsAreDue, Progress, Goes, Ended, turns_in, turns_on_line}
-use Rattle.link_pair.proofs.Names.{Lasts, both_sent, first_sent, Link, Turn, ScriptValue, delay_of, of, Role, Originator, Answerer}
+use Rattle.link_pair.proofs.Names.{◌≡◌, ℕ, zero, suc, ◌-◌, ◌*◌, ◌<◌, ◌≤◌, Bool, true, false, cond, nat_eq, List, [], ◌∷◌, length, arith}
+use Rattle.link_pair.proofs.Names.{refl, sym, ◌∙◌, ap, Some, None, nat_tests, is_some, FlagSlot, link_of, wire_at, Carried, AreSent, IsDue}
+use Rattle.link_pair.proofs.Names.{first_dlci, second_dlci, signal_or_flags, slot_in, after_second, after_first, second_wire, idle_turn}
+use Rattle.link_pair.proofs.Names.{lasting, FirstSlotsAreDue, SecondSlotsAreDue, Progress, turns_in, turns_on_line, Lasts, both_sent}
+use Rattle.link_pair.proofs.Names.{first_sent, Link, Turn, ScriptValue, delay_of, of, Role}
 use Rattle.line_run.proofs.Streaming.{run-sent}
 use Rattle.link_pair.proofs.Pairs.Clear.{Beside}
 use Rattle.link_pair.proofs.Pairs.Pairing.{has-run}
@@ -15,21 +15,15 @@ lasting-sent role zero ts h = h
 lasting-sent role (suc n) ts h = (idle role, lasting-sent role n ts h)
   where
     idle : (role : Role) → is_some (of role idle_turn).sent ≡ true
-    idle Originator = refl
-    idle Answerer = refl
+    idle role = grind (arith)
 
 pub sent-on-line : (script : ScriptValue) (dlci : ℕ) (beside : Beside) (link : Link) (count rounds : ℕ) (p : Progress)
     → Lasts (wire_at script dlci beside) link count p → (role : Role) → AreSent role (turns_on_line rounds p)
-sent-on-line script dlci beside link count rounds (Goes ts ends) h role = run-sent link role ts ends h.run.run
-sent-on-line script dlci beside link count rounds (Ended ts ends end left) h role =
-    let r = has-run (wire_at script dlci beside) link count (Ended ts ends end left) h in
-    lasting-sent role (rounds - length ts) ts (run-sent link role ts r.before r.run.run)
+sent-on-line script dlci beside link count rounds p h role = grind (arith, run-sent, has-run, lasting-sent)
 
 pub length-on-line : (script : ScriptValue) (dlci : ℕ) (beside : Beside) (link : Link) (rounds : ℕ) (p : Progress)
     → Lasts (wire_at script dlci beside) link rounds p → length (turns_on_line rounds p) ≡ rounds
-length-on-line script dlci beside link rounds (Goes ts ends) h = h.count
-length-on-line script dlci beside link rounds (Ended ts ends end left) h =
-    omega (arith, length-lasting (rounds - length ts) ts, h.before)
+length-on-line script dlci beside link rounds p h = grind (arith, length-lasting)
 
 -- behind its last turn a link sends flags
 slot-behind : (dlci : ℕ) (role : Role) (ts : List Turn) (round : ℕ) → length ts ≤ round → slot_in dlci role ts round ≡ FlagSlot None
@@ -58,33 +52,21 @@ slot-lasting dlci role (suc n) ts round =
 
     go : (b : Bool) → (b ≡ true → round ≡ length (lasting n ts)) → slot_in dlci role (lasting n ts) round ≡ slot_in dlci role ts round
         → cond b (signal_or_flags dlci role (of role idle_turn).sent) (slot_in dlci role (lasting n ts) round) ≡ slot_in dlci role ts round
-    go false f h = h
-    go true f h = idle role ∙ sym (slot-behind dlci role ts round (omega (arith, f refl, length-lasting n ts)))
+    go b f h = grind (arith, idle, slot-behind, length-lasting)
 
 slot-on-line : (dlci : ℕ) (role : Role) (rounds : ℕ) (p : Progress) (round : ℕ)
     → slot_in dlci role (turns_on_line rounds p) round ≡ slot_in dlci role (turns_in p) round
-slot-on-line dlci role rounds (Goes ts ends) round = refl
-slot-on-line dlci role rounds (Ended ts ends end left) round = slot-lasting dlci role (rounds - length ts) ts round
+slot-on-line dlci role rounds p round = grind (arith, slot-lasting)
 
 -- a slot that is due beside one thing is due beside another that is the same
 due-beside : (script : ScriptValue) (dlci : ℕ) (b d : Beside) (role : Role) (ts : List Turn) (stream : List Carried) (lag : ℕ)
     → ((r : Role) (round : ℕ) → b r round ≡ d r round)
     → IsDue (wire_at script dlci b) role ts stream lag → IsDue (wire_at script dlci d) role ts stream lag
-due-beside script dlci b d role ts stream lag same h = record {
-  early = h.early;
-  late = h.late;
-  due = λ l. let w = h.due l in (
-    w.0,
-    w.1,
-    w.2,
-    w.3 ∙ same-before script dlci b d role (drop (delay_of script role) ts) (λ r round less. same r round),
-  );
-}
+due-beside script dlci b d role ts stream lag same h = grind (arith, same-before)
 
 second-same : (rounds : ℕ) (q : Progress) (role : Role) (round : ℕ)
     → after_second (turns_on_line rounds q) role round ≡ after_second (turns_in q) role round
-second-same rounds q role zero = refl
-second-same rounds q role (suc round) = ap Some (slot-on-line second_dlci role rounds q round)
+second-same rounds q role round = grind (arith, slot-on-line)
 
 first-same : (rounds : ℕ) (p : Progress) (role : Role) (round : ℕ)
     → after_first (turns_on_line rounds p) role round ≡ after_first (turns_in p) role round
@@ -121,5 +103,4 @@ second-slots-are-due script files others round p q a role some =
 
     go : (ts : List Turn) → length ts ≡ suc round → AreSent role ts
         → IsDue (second_wire script ts) role us (first_sent role ts us) (2 * delay_of script role)
-    go [] e h = absurd (omega (arith, e))
-    go (t ∷ ts) e h = second-due script role t ts us some h sent (omega (arith, e, count))
+    go ts e h = grind (arith, second-due, us, sent, count)

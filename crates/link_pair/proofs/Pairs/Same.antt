@@ -1,9 +1,8 @@
 -- What a link came to over a channel in so many rounds is one thing.
 use Rattle.link_pair.proofs.Names.{◌≡◌, ◌≢◌, ◌⊎◌, inl, inr, ℕ, ◌<◌, List, ◌∷◌, length, arith, refl, sym, ◌∙◌, ap, subst, hearing-in}
-use Rattle.link_pair.proofs.Names.{compare, left_of, left-is, RunEnd, IsDone, LinkLost, NotDetected, Left, Wire, IsHeardOf, HeardIn}
-use Rattle.link_pair.proofs.Names.{LineRun, LineEnd, EndsLine, check_of, Progress, Goes, Ended, last_ends, IsByLink, HearsIdly, HasEnded}
-use Rattle.link_pair.proofs.Names.{Lasts, Outcome, Going, Done, Broken, TurnIs, Link, Accounts, Turn, Hears, trace_text, of, other, Role}
-use Rattle.link_pair.proofs.Names.{Originator, Answerer}
+use Rattle.link_pair.proofs.Names.{compare, left_of, left-is, RunEnd, IsDone, LinkLost, NotDetected, Left, Wire, HeardIn, LineRun, LineEnd}
+use Rattle.link_pair.proofs.Names.{EndsLine, check_of, Progress, Ended, last_ends, IsByLink, HearsIdly, HasEnded, Lasts, Outcome, Going}
+use Rattle.link_pair.proofs.Names.{Done, Broken, TurnIs, Link, Accounts, Turn, Hears, trace_text, of, other, Role, Originator, Answerer}
 use Rattle.shared_terms.specs.declared.fault.LinkFault.TheVariants as faults
 use Rattle.link_run.specs.Laws.{heard_in, OneOutcome}
 use Rattle.line_run.specs.LineLaws.{HeardOnce, OneLineRun, EndsOrIsHeard}
@@ -19,11 +18,7 @@ pub record SameLaws : Type 0 where
 -- what both ends hear in a turn, by the checks that they had
 pub well-heard : (c : Wire) (ts : List Turn) (ends : Accounts) (t : Turn) (mid : Accounts) → Hears (length ts) ends t mid → HeardIn c ts t
     → HearsIdly c ts ends
-well-heard c ts ends t mid h k role = record {
-  heard = (of role t).heard;
-  is = subst (λ z. IsHeardOf c (other role) ts z (of role t).heard) (h role).check_is (k role).heard_of;
-  well = (k role).well;
-}
+well-heard c ts ends t mid h k role = grind (arith)
 
 same-heard : (laws : SameLaws) (c : Wire) (ts : List Turn) (ends : Accounts) (t u : Turn) (mid later : Accounts)
     → Hears (length ts) ends t mid → Hears (length ts) ends u later → HeardIn c ts t → HeardIn c ts u → heard_in t ≡ heard_in u
@@ -32,9 +27,7 @@ same-heard laws c ts ends t u mid later h k p q =
     ∙ ap (λ z. record { orig = u.orig.heard; answ = z }) (each Answerer)
   where
     each : (role : Role) → (of role t).heard ≡ (of role u).heard
-    each role = laws.heard c (other role) ts (check_of (of role ends)) (of role t).heard (of role u).heard
-        (subst (λ z. IsHeardOf c (other role) ts z (of role t).heard) (h role).check_is (p role).heard_of)
-        (subst (λ z. IsHeardOf c (other role) ts z (of role u).heard) (k role).check_is (q role).heard_of)
+    each role = grind (arith, other)
 
 -- one turn is made behind these, with one outcome
 same-turn : (laws : SameLaws) (c : Wire) (link : Link) (ts : List Turn) (ends : Accounts) (t u : Turn) (mid later : Accounts)
@@ -149,18 +142,7 @@ ended-once laws c link ts us ends others a b left leaves e f = go (compare (leng
 -- So what a link came to is one thing.
 pub lasts-once : (laws : SameLaws) (c : Wire) (link : Link) (rounds : ℕ) (p q : Progress) → Lasts c link rounds p → Lasts c link rounds q
     → p ≡ q
-lasts-once laws c link rounds (Goes ts ends) (Goes us others) h k =
-    let same = laws.run c link ts us ends others (h.count ∙ sym k.count) h.run k.run in
-    ap (λ vs. Goes vs ends) same.0 ∙ ap (Goes us) same.1
-lasts-once laws c link rounds (Goes ts ends) (Ended us others b leaves) h k =
-    absurd (ended-stays laws c link us others b leaves (ended-is c link rounds us others b leaves k) ts ends h.run
-    (omega (arith, k.before, h.count)))
-lasts-once laws c link rounds (Ended ts ends a left) (Goes us others) h k =
-    absurd (ended-stays laws c link ts ends a left (ended-is c link rounds ts ends a left h) us others k.run
-    (omega (arith, h.before, k.count)))
-lasts-once laws c link rounds (Ended ts ends a left) (Ended us others b leaves) h k =
-    ended-once laws c link ts us ends others a b left leaves (ended-is c link rounds ts ends a left h)
-    (ended-is c link rounds us others b leaves k)
+lasts-once laws c link rounds p q h k = grind (arith, ended-stays, ended-is, ended-once)
 
 -- where the line ends a turn, its slots aren't heard well
 pub ends-or-hears : (laws : SameLaws) (c : Wire) (ts : List Turn) (ends : Accounts) (end : LineEnd) → EndsLine c ts ends end

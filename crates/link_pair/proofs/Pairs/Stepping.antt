@@ -1,9 +1,9 @@
 -- Pairs turn by turn: what there was before the last turn, and that there was one thing.
 use Rattle.link_pair.proofs.Names.{◌≡◌, ◌⊎◌, inl, inr, ℕ, zero, suc, ◌+◌, ◌-◌, ◌*◌, ◌<◌, ◌≤◌, false, List, [], ◌∷◌, length, arith, refl}
-use Rattle.link_pair.proofs.Names.{sym, ◌∙◌, ap, subst, Some, false≢true, hearing-in, RunEnd, Left, link_of, wire_at, first_dlci}
-use Rattle.link_pair.proofs.Names.{second_dlci, slot_in, after_second, after_first, first_wire, second_wire, lasting, Which, First, Second}
-use Rattle.link_pair.proofs.Names.{is_going, firsts_at, Progress, Goes, Ended, turns_in, ends_in, turns_on_line, HearsIdly, IdlesFor, Lasts}
-use Rattle.link_pair.proofs.Names.{PairAt, Link, Accounts, Turn, start, ScriptValue, delay_of, Both, Role}
+use Rattle.link_pair.proofs.Names.{sym, ap, subst, Some, false≢true, hearing-in, RunEnd, Left, link_of, wire_at, first_dlci, second_dlci}
+use Rattle.link_pair.proofs.Names.{slot_in, after_second, after_first, first_wire, second_wire, lasting, Which, First, Second, is_going}
+use Rattle.link_pair.proofs.Names.{firsts_at, Progress, Goes, Ended, turns_in, ends_in, turns_on_line, HearsIdly, IdlesFor, Lasts, PairAt}
+use Rattle.link_pair.proofs.Names.{Link, Accounts, Turn, start, ScriptValue, delay_of, Both, Role}
 use Rattle.link_pair.proofs.Pairs.Clear.{Beside}
 use Rattle.link_pair.proofs.Pairs.Same.{SameLaws, well-heard, EndedIs, ended-is, lasts-once}
 use Rattle.line_run.proofs.Resulting.{same-or-less}
@@ -109,8 +109,7 @@ before-second script files others delays rounds p q a =
 
     beside : (role : Role) (round : ℕ) → round < suc rounds
         → after_second (turns_in q) role round ≡ after_second (turns_in e.earlier) role round
-    beside role zero l = refl
-    beside role (suc round) l = ap Some (e.same second_dlci role round (omega (arith, l)))
+    beside role round l = grind (arith, e)
 
 -- there is one thing that a pair came to in so many turns
 starts : (script : ScriptValue) (dlci : ℕ) (beside : Beside) (link : Link) (p : Progress) → Lasts (wire_at script dlci beside) link 0 p
@@ -124,12 +123,7 @@ OneAt script files others firsts seconds = (p q r s : Progress) → PairAt scrip
     → PairAt script files others firsts seconds r s → (p ≡ r) × (q ≡ s)
 
 one-start : (script : ScriptValue) (files others : Both (List ℕ)) → OneAt script files others 0 0
-one-start script files others p q r s a b = (
-  starts script first_dlci (after_second (turns_in q)) (link_of script files) p a.first
-      ∙ sym (starts script first_dlci (after_second (turns_in s)) (link_of script files) r b.first),
-  starts script second_dlci (after_first (turns_in p)) (link_of script others) q a.second
-      ∙ sym (starts script second_dlci (after_first (turns_in r)) (link_of script others) s b.second),
-)
+one-start script files others p q r s a b = grind (arith, starts)
 
 one-first : SameLaws → (script : ScriptValue) (files others : Both (List ℕ)) → HasDelays script → (n : ℕ) → OneAt script files others n n
     → OneAt script files others (suc n) n
@@ -165,9 +159,7 @@ At script files others link round p q = PairAt script files others (firsts_at li
 
 pub one-at : SameLaws → (script : ScriptValue) (files others : Both (List ℕ)) → HasDelays script → (link : Which) (round : ℕ)
     (p q r s : Progress) → At script files others link round p q → At script files others link round r s → (p ≡ r) × (q ≡ s)
-one-at laws script files others delays First round p q r s a b = one-round laws script files others delays round p q r s a b
-one-at laws script files others delays Second round p q r s a b =
-    one-first laws script files others delays round (one-round laws script files others delays round) p q r s a b
+one-at laws script files others delays link round p q r s a b = grind (arith, one-round, one-first)
 
 -- that turn's slots are heard well
 abbrev pub HearsTurn : ScriptValue → Which → ℕ → Progress → Progress → Type 0
@@ -202,21 +194,11 @@ back-first script files others delays round p q a =
 
 -- a turn of that number is one turn
 pub same-place : (P : Which → ℕ → Type 0) (a b : Which) (m n : ℕ) → turns_by a m ≡ turns_by b n → P a m → P b n
-same-place P First First m n e h = subst (P First) (omega (arith, e)) h
-same-place P Second Second m n e h = subst (P Second) (omega (arith, e)) h
-same-place P First Second m n e h = absurd (omega (arith, e))
-same-place P Second First m n e h = absurd (omega (arith, e))
+same-place P a b m n e h = grind (arith)
 
 joined : (script : ScriptValue) (files others : Both (List ℕ)) (a b : Which) (m n : ℕ) (p q : Progress)
     → (x : Earlier script files others a m p q) → Earlier script files others b n x.p0 x.q0 → Earlier script files others b n p q
-joined script files others a b m n p q x y = record {
-  p0 = y.p0;
-  q0 = y.q0;
-  at = y.at;
-  well = y.well;
-  p_stays = λ e. let same = y.p_stays e in x.p_stays (ap is_going same ∙ e) ∙ same;
-  q_stays = λ e. let same = y.q_stays e in x.q_stays (ap is_going same ∙ e) ∙ same;
-}
+joined script files others a b m n p q x y = grind (arith)
 
 -- a pair as it was so many turns before
 pub back-to : (script : ScriptValue) (files others : Both (List ℕ)) → HasDelays script → (more : ℕ) (a b : Which) (m n : ℕ) (p q : Progress)

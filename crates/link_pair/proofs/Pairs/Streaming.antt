@@ -1,9 +1,9 @@
 -- The slots of both links in one stream are those that each link's channel has.
-use Rattle.link_pair.proofs.Names.{◌≡◌, ℕ, zero, suc, ◌+◌, ◌-◌, ◌*◌, ◌<◌, ◌≤◌, Bool, true, cond, nat_eq, List, [], ◌∷◌, ◌++◌, length, map}
-use Rattle.link_pair.proofs.Names.{take, drop, arith, refl, sym, ◌∙◌, ap, subst, Option, Some, append-nil, nat_tests, length-drop, is_some}
-use Rattle.link_pair.proofs.Names.{Signal, Wire, signal_in, signals, signals_before, Carried, carry, AreSent, IsDue, first_dlci}
-use Rattle.link_pair.proofs.Names.{second_dlci, signal_or_flags, slot_in, after_second, after_first, first_wire, second_wire, both_sent}
-use Rattle.link_pair.proofs.Names.{first_sent, sent_ago, Spoken, Turn, ScriptValue, delay_of, of, Role}
+use Rattle.link_pair.proofs.Names.{◌≡◌, ℕ, zero, suc, ◌+◌, ◌-◌, ◌*◌, ◌<◌, ◌≤◌, true, List, [], ◌∷◌, ◌++◌, length, map, take, drop, arith}
+use Rattle.link_pair.proofs.Names.{refl, sym, ◌∙◌, ap, subst, Option, Some, append-nil, length-drop, is_some, Signal, Wire, signal_in}
+use Rattle.link_pair.proofs.Names.{signals, signals_before, Carried, carry, AreSent, IsDue, first_dlci, second_dlci, signal_or_flags}
+use Rattle.link_pair.proofs.Names.{slot_in, after_second, after_first, first_wire, second_wire, both_sent, first_sent, sent_ago, Spoken}
+use Rattle.link_pair.proofs.Names.{Turn, ScriptValue, delay_of, of, Role}
 use Rattle.std.proofs.Common.{length-append, append_assoc}
 use Rattle.std.proofs.lemmas.List.{map-append}
 use Rattle.line_run.specs.Stream.{carried_signal}
@@ -51,20 +51,12 @@ slot-dropped dlci role (suc n) (t ∷ ts) round l =
     slot-stays dlci role t ts round (omega (arith, l, length-drop n ts)) ∙ slot-dropped dlci role n ts round l
 
 second-dropped : (n : ℕ) (us : List Turn) → SameBelow (suc (length (drop n us))) (after_second (drop n us)) (after_second us)
-second-dropped n us role zero l = refl
-second-dropped n us role (suc round) l = ap Some (sym (slot-dropped second_dlci role n us round (omega (arith, l))))
+second-dropped n us role given l = grind (arith, slot-dropped)
 
 -- the slot of the newest turn
 newest : (dlci : ℕ) (role : Role) (t : Turn) (ts : List Turn) (n : ℕ) → n ≡ length ts
     → slot_in dlci role (t ∷ ts) n ≡ signal_or_flags dlci role (of role t).sent
-newest dlci role t ts n e = go (nat_eq n (length ts)) (same n (length ts) e)
-  where
-    same : (x y : ℕ) → x ≡ y → nat_eq x y ≡ true
-    same x y q = grind (arith, nat_tests)
-
-    go : (b : Bool) → b ≡ true
-        → cond b (signal_or_flags dlci role (of role t).sent) (slot_in dlci role ts n) ≡ signal_or_flags dlci role (of role t).sent
-    go b q = grind (arith)
+newest dlci role t ts n e = grind (arith)
 
 -- what the first link's channel has before its next slot
 pub first-signals : (script : ScriptValue) (role : Role) (ts us : List Turn) → AreSent role ts → AreSent role us → length ts ≡ length us
@@ -89,8 +81,7 @@ first-signals script role (t ∷ ts) (u ∷ us) h k e = go (first-signals script
     before = signals_before c role ts
 
     below : SameBelow (suc (length ts)) (after_second us) (after_second (u ∷ us))
-    below r zero l = refl
-    below r (suc round) l = ap Some (sym (slot-stays second_dlci r u us round (omega (arith, l, same))))
+    below r given l = grind (arith, slot-stays, same)
 
     near : signals_before (first_wire script us) role ts ≡ before
     near = same-before script first_dlci (after_second us) (after_second (u ∷ us)) role ts below
@@ -211,10 +202,7 @@ second-due script role t ts us some h k e = record {
     stream = both_sent role ts us ++ carry first_dlci (of role t).sent
 
     count : length stream ≡ 2 * length ts + 1
-    count =
-        let a = both-length role ts us h.1 k e in
-        let b = one-carried first_dlci (of role t).sent h.0 in
-        omega (arith, a, b, length-append {A = Carried} (both_sent role ts us) (carry first_dlci (of role t).sent))
+    count = grind (arith, both-length, one-carried, length-append)
 
     c : Wire
     c = second_wire script (t ∷ ts)

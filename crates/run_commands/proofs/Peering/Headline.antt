@@ -2,9 +2,9 @@
 use Rattle.run_commands.proofs.Names.{◌≡◌, ◌∙◌, ◌⊎◌, inl, inr, ℕ, Bool, true, false, IsTrue, List, [], ◌++◌, length, ◌≤◌, ◌<◌, Result, refl}
 use Rattle.run_commands.proofs.Names.{ap, subst, arith, option_map, refusal-own, last-only, done-of, shared-of, done-unless-memory, Comes}
 use Rattle.run_commands.proofs.Names.{is_done, is_own, is_memory, comes-to, IsWithin, Answers, done_line, IsSound, IsRefusal, end_status}
-use Rattle.run_commands.proofs.Names.{Status, Done, TooLong, NotDetected, LinkLost, NoMemory, Stop, Holds-kept, FolderState, octets_at}
-use Rattle.run_commands.proofs.Names.{KeepsAll, OnlyOutputs, HoldLeft, OneResult, PeerEnd, IsDone, GivesUp, RunsTo, Names, inputs_of}
-use Rattle.run_commands.proofs.Names.{outputs_of, stopped-so, LinkFault, FILE_LIMIT}
+use Rattle.run_commands.proofs.Names.{Status, Done, TooLong, NotDetected, LinkLost, NoMemory, Stop, FolderState, octets_at, KeepsAll}
+use Rattle.run_commands.proofs.Names.{OnlyOutputs, HoldLeft, OneResult, PeerEnd, IsDone, GivesUp, Names, inputs_of, outputs_of, stopped-so}
+use Rattle.run_commands.proofs.Names.{LinkFault, FILE_LIMIT}
 use Rattle.command_base.specs.declared.status.Status.TheVariants.{PeerFault}
 use Rattle.command_base.specs.declared.stop.Stop.TheVariants as stops
 use Rattle.run_commands.specs.Peering.Runs.{Left}
@@ -18,24 +18,12 @@ own-refused old before n answer r b = grind (arith)
 
 pub refused-by : (old before : FolderState) (n : Names) (end : Result ℕ Stop) → Ends old before n end → IsRefusal (end_status end)
     → KeepsAll old before
-refused-by old before n end e =
-    refusal-own end (KeepsAll old before) (λ answer is r. own-refused old before n answer r (subst (Ends old before n) is e))
+refused-by old before n end e = grind (arith, refusal-own, own-refused)
 
 -- ---- the headline
 
 ran-of : (old before new : FolderState) (n : Names) (end : PeerEnd) → OnlyOutputs before new [] → RanTo old before n end → Ran old new n end
-ran-of old before new n end last r = record {
-  file = r.file;
-  octets = r.octets;
-  file_is = r.takes.file_is;
-  bits_are = r.takes.bits_are;
-  left = r.left;
-  run = r.run;
-  holds = (
-    Holds-kept before new n.got r.left.got last.goes_on r.holds.0 (last.names n.got tt),
-    (Holds-kept before new n.trace r.left.trace last.goes_on r.holds.1.0 (last.names n.trace tt), tt),
-  );
-}
+ran-of old before new n end last r = grind (arith)
 
 -- answers of an end that gives its link up
 abbrev is_given_up : Status → Bool
@@ -84,9 +72,7 @@ never-long old n answer t b = grind (arith)
 
 inputs-run : (old before : FolderState) (n : Names) (end : PeerEnd) → AreTold old n → (r : RanTo old before n end)
     → InputsRunTo old n end r.left
-inputs-run old before n end t r =
-    subst (λ (file : List ℕ). RunsTo n.role file (octets_at old n.bits) end r.left) (r.takes.file_is t.file_told)
-    (subst (λ (octets : List ℕ). RunsTo n.role r.file octets end r.left) (r.takes.bits_are t.bits_told) r.run)
+inputs-run old before n end t r = grind (arith)
 
 -- it is the one end that the run has
 answered : OneResult → (old before new : FolderState) (n : Names) (s : Status) (found end : PeerEnd) (left : Left)

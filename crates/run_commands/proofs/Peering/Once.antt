@@ -1,7 +1,7 @@
 -- A role, a file and octets have one result at most.
 use Rattle.run_commands.proofs.Names.{◌≡◌, ◌≢◌, ◌∙◌, inl, inr, ℕ, ◌+◌, ◌<◌, List, [], ◌∷◌, length, refl, sym, ap, subst, arith, cases_lt}
 use Rattle.run_commands.proofs.Names.{Past, PeerTurn, Outcome, Going, Closed, Broken, party_of, LoneTurn, OneResult, PeerEnd, IsDone}
-use Rattle.run_commands.proofs.Names.{GivesUp, MakesTurn, RunsTo, left_of, left_after, slot_at, slots_before, other, Role}
+use Rattle.run_commands.proofs.Names.{GivesUp, MakesTurn, RunsTo, left_after, slot_at, slots_before, other, Role}
 use Rattle.link_account.specs.Account.{Account}
 use Rattle.link_run.specs.Alone.{LoneRun}
 use Rattle.line_world.specs.OneEnd.Peer.{HearsSlots}
@@ -16,8 +16,7 @@ pub record RunLaws : Type 0 where
 
 one-past : RunLaws → (role : Role) (file octets : List ℕ) (p q : Past) → IsPast role file octets p → IsPast role file octets q
     → length p.turns ≡ length q.turns → p ≡ q
-one-past laws role file octets p q h k e =
-    laws.run role p q h.run k.run (h.file_is ∙ sym k.file_is) (h.slots_are ∙ ap (slots_before octets) e ∙ sym k.slots_are)
+one-past laws role file octets p q h k e = grind (arith)
 
 -- the turn of that number in a longer run
 record Cut (role : Role) (file octets : List ℕ) (n : ℕ) : Type 0 where
@@ -44,9 +43,7 @@ cut-in role file octets (t ∷ ts) a n h k less = elim (cases_lt n (length ts)) 
 ]
 
 cut : (role : Role) (file octets : List ℕ) (p : Past) (n : ℕ) → IsPast role file octets p → n < length p.turns → Cut role file octets n
-cut role file octets p n h less =
-    cut-in role file octets p.turns p.account n (subst (λ (f : List ℕ). LoneRun (party_of role f) p.turns p.account) h.file_is h.run.run)
-    (subst (λ (s : List (List ℕ)). HearsSlots (other role) s p.turns) h.slots_are h.run.hears) less
+cut role file octets p n h less = grind (arith, cut-in, other)
 
 -- ---- what a run comes to
 
@@ -131,11 +128,7 @@ pub one-result : RunLaws → OneResult
 one-result laws role file octets a b left others h k = by (ended role file octets a left h) (ended role file octets b others k)
   where
     by : Ended role file octets a left → Ended role file octets b others → (a ≡ b) × (left ≡ others)
-    by (all turns x e) (all more y f) =
-        let count : turns ≡ more = x.all ∙ sym y.all in
-        let same : x.past ≡ y.past =
-        one-past laws role file octets x.past y.past x.is_past y.is_past (sym x.turns_are ∙ count ∙ y.turns_are) in
-        (e ∙ ap IsDone count ∙ sym f, x.left_is ∙ ap (left_of role) same ∙ sym y.left_is)
+    by (all turns x e) (all more y f) = grind (arith, one-past)
     by (all turns x e) (in_turn turn outcome m not f) = absurd (never-all laws role file octets turns turn outcome left others x m not)
     by (in_turn turn outcome m not e) (all turns y f) = absurd (never-all laws role file octets turns turn outcome others left y m not)
     by (in_turn n outcome x not e) (in_turn m result y never f) =

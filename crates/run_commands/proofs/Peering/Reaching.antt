@@ -3,12 +3,12 @@ use Rattle.run_commands.proofs.Names.{◌≡◌, inl, inr, ◌∙◌, ℕ, suc, 
 use Rattle.run_commands.proofs.Names.{length, take, refl, sym, ap, subst, arith, append_assoc, length-append, cases_lt, take_all}
 use Rattle.run_commands.proofs.Names.{concat-append, concat, stop-earlier, IsWithin, ReadTo, ReadFails, StopCounts, Read, slot_octets, Past}
 use Rattle.run_commands.proofs.Names.{PeerRun, PeerTurn, Outcome, Going, Closed, Broken, party_of, after, over, SingleAfter, file_limit}
-use Rattle.run_commands.proofs.Names.{Makes, Single, LoneTurn, LoneHearingsDeliver, LoneSpeakingTakesNothing, deliveries, KeepsEach-reads}
-use Rattle.run_commands.proofs.Names.{HoldEach-kept, OnlyPuts-reads, OnlyPuts-trans, GoesOn-trans, KeepsName-trans, octets-kept, told_later}
-use Rattle.run_commands.proofs.Names.{CountsStand-trans, FolderState, octets_at, GoesOn, KeepsName, OnlyReads, CountsStand, AreApart}
-use Rattle.run_commands.proofs.Names.{AreNoneOf, AreApartFrom, Holds, OnlyPuts, HoldPart, FolderFault, HoldLeft, PeerEnd, IsDone, GivesUp}
-use Rattle.run_commands.proofs.Names.{MakesTurn, RunsTo, left_of, left_after, slot_at, slots_before, Reached, fault_stop, Names, inputs_of}
-use Rattle.run_commands.proofs.Names.{outputs_of, turn_names, LinkFault, FILE_LIMIT, Role}
+use Rattle.run_commands.proofs.Names.{Makes, Single, LoneTurn, LoneHearingsDeliver, LoneSpeakingTakesNothing, deliveries, OnlyPuts-reads}
+use Rattle.run_commands.proofs.Names.{OnlyPuts-trans, GoesOn-trans, KeepsName-trans, octets-kept, told_later, CountsStand-trans}
+use Rattle.run_commands.proofs.Names.{FolderState, octets_at, GoesOn, KeepsName, OnlyReads, CountsStand, AreApart, AreNoneOf, AreApartFrom}
+use Rattle.run_commands.proofs.Names.{Holds, OnlyPuts, HoldPart, FolderFault, HoldLeft, PeerEnd, IsDone, GivesUp, MakesTurn, RunsTo}
+use Rattle.run_commands.proofs.Names.{left_of, left_after, slot_at, slots_before, Reached, fault_stop, Names, inputs_of, outputs_of}
+use Rattle.run_commands.proofs.Names.{turn_names, LinkFault, FILE_LIMIT, Role}
 use Rattle.std.proofs.Common.{append-nil}
 use Rattle.std.proofs.lemmas.Bool.{false≢true}
 use Rattle.outside_calls.specs.declared.folder.FolderFault.TheVariants as folder
@@ -17,10 +17,9 @@ use Rattle.line_world.specs.declared.one_end.step.SingleFault.TheVariants as fau
 use Rattle.line_world.specs.OneEnd.Peer.{turn_line}
 use Rattle.line_world.specs.OneEnd.Single.{KnowsFile}
 use Rattle.line_world.specs.OneEnd.Turn.{Stops, added, StopsInReading as TurnStopsInReading, EndsBy as TurnEndsBy, FaultCounts}
-use Rattle.command_base.specs.declared.stop.Stop.TheVariants.{Write}
 use Rattle.command_base.specs.Stops.{IsOwn}
 use Rattle.outside_calls.proofs.Putting.{HoldEach-add, HoldPart-add}
-use Rattle.command_base.proofs.Reading.{ReadTo-begins, ReadTo-kept}
+use Rattle.command_base.proofs.Reading.{ReadTo-begins}
 use Rattle.run_commands.specs.Peering.Runs.{Left}
 use Rattle.run_commands.specs.Peering.Ends.{Takes, held_of, RanTo, StopsBetween, StopsInTurn, StopsInReading, EndsBy, status_of}
 use Rattle.run_commands.proofs.Peering.Slots.{slots-front, slot-behind, full-slot, short-slot, slots-whole, slots-short, slots-more}
@@ -59,12 +58,7 @@ known-slot start now name limit at read slot r few end = elim (cases_lt (length 
 -- ---- what is known of the file
 
 known-later : (a b : FolderState) (name file : List ℕ) → GoesOn a b → KeepsName a b name → KnowsFile a name file → KnowsFile b name file
-known-later a b name file on kept k = record {
-  within = k.within;
-  told = λ tells.
-      let was : IsTrue (a.tells name) = subst IsTrue (on.tells name) tells in
-      k.told was ∙ ap (take file_limit) (sym (octets-kept a b name kept was));
-}
+known-later a b name file on kept k = grind (arith)
 
 file-is : (start now : FolderState) (name file : List ℕ) → GoesOn start now → KeepsName start now name → IsWithin start name FILE_LIMIT
     → KnowsFile now name file → IsTrue (start.tells name) → file ≡ octets_at start name
@@ -112,9 +106,7 @@ makes-turn role p octets slot rest turn outcome t given number count slots some 
     all = (octets ++ slot) ++ rest
 
     slots-behind : (ts : List LoneTurn) → slots_before all (length p.turns) ≡ slots_before octets (length p.turns)
-    slots-behind ts =
-        ap (λ xs. slots_before xs (length p.turns)) (append_assoc octets slot rest)
-        ∙ slots-front (length p.turns) octets (slot ++ rest) (omega (arith, count))
+    slots-behind ts = grind (arith, append_assoc, rest, slots-front, count)
 
 -- the outputs behind it
 made-holds : (mid next : FolderState) (n : Names) (p : Past) (slot : List ℕ) (outcome : Outcome) → GoesOn mid next
@@ -133,14 +125,10 @@ module _ (start mid next : FolderState) (n : Names) (p : Past) (octets slot : Li
   on-to = GoesOn-trans a.read.goes_on a.only.goes_on
 
   file-on : KeepsName start next n.file
-  file-on =
-      KeepsName-trans start mid next n.file a.read.goes_on a.file_kept
-      (a.only.names n.file (λ e. a.apart.0.0 (sym e), (λ e. a.apart.1.0.0 (sym e), tt)))
+  file-on = grind (arith)
 
   bits-on : ReadTo start next n.bits FILE_LIMIT (slot_octets * length p.turns + length slot) (octets ++ slot)
-  bits-on =
-      ReadTo-kept start mid next n.bits FILE_LIMIT _ (octets ++ slot) a.read a.only.goes_on
-      (a.only.names n.bits (λ e. a.apart.0.1.0 (sym e), (λ e. a.apart.1.0.1.0 (sym e), tt)))
+  bits-on = grind (arith)
 
   -- what a run took of the inputs
   taken : (others all : List ℕ) → KnowsFile next n.file others → (IsTrue (start.tells n.bits) → all ≡ octets_at start n.bits)
@@ -297,8 +285,7 @@ ends-short hearing speaking start mid next n p octets slot turn a number m run s
 -- ---- nothing more is read
 
 holds-read : (old mid : FolderState) (n : Names) (left : Left) → OnlyReads old mid → HoldLeft old n left → HoldLeft mid n left
-holds-read old mid n left r h =
-    HoldEach-kept old mid (outputs_of n) (held_of left) r.goes_on h (KeepsEach-reads old mid (outputs_of n) r)
+holds-read old mid n left r h = grind (arith)
 
 reads-file : (start old mid : FolderState) (n : Names) (s : Single) (r : Reached start old n s) → OnlyReads old mid
     → KeepsName start mid n.file
@@ -363,21 +350,7 @@ pub around : (start old mid next : FolderState) (n : Names) (s : Single) (r : Re
     → length slot ≤ slot_octets
     → (length slot < slot_octets → IsTrue (start.tells n.bits) → r.octets ++ slot ≡ octets_at start n.bits)
     → OnlyPuts mid next (outputs_of n) → CountsStand old mid → Around start mid next n r.past r.octets slot
-around start old mid next n s r slot apart reads read some few end only stand = record {
-  apart = apart;
-  read = read;
-  count = sym r.read.count;
-  some = some;
-  few = few;
-  end = end;
-  slots_are = r.slots_are;
-  file_within = r.file_within;
-  file_kept = reads-file start old mid n s r reads;
-  knows = known-later old mid n.file r.past.file reads.goes_on (reads.names n.file) r.knows;
-  holds = holds-read old mid n (left_of n.role r.past) reads r.holds;
-  only = only;
-  stand = CountsStand-trans r.stand stand;
-}
+around start old mid next n s r slot apart reads read some few end only stand = grind (arith)
 
 -- likewise where the slot is what a read left at the front of a piece
 pub around-slot : (start old mid next : FolderState) (n : Names) (s : Single) (r : Reached start old n s) (turn count : ℕ) (piece : List ℕ)
@@ -388,13 +361,7 @@ pub around-slot : (start old mid next : FolderState) (n : Names) (s : Single) (r
     → count < slot_octets → IsTrue (start.tells n.bits) → r.octets ++ take count piece ≡ octets_at start n.bits)
     → 1 ≤ count → count ≤ slot_octets → length (take count piece) ≡ count → OnlyPuts mid next (outputs_of n) → CountsStand old mid
     → Around start mid next n r.past r.octets (take count piece)
-around-slot start old mid next n s r turn count piece number apart reads more end some few long only stand =
-    let slot : List ℕ = take count piece in
-    let read : ReadTo start old n.bits FILE_LIMIT (slot_octets * turn) r.octets =
-    subst (λ x. ReadTo start old n.bits FILE_LIMIT (slot_octets * x) r.octets) (sym number) r.read in
-    around start old mid next n s r slot apart reads
-    (subst (λ x. ReadTo start mid n.bits FILE_LIMIT x (r.octets ++ slot)) (omega (arith, number, long)) (more read))
-    (omega (arith, long, some)) (omega (arith, long, few)) (λ less. end read (omega (arith, less, long))) only stand
+around-slot start old mid next n s r turn count piece number apart reads more end some few long only stand = grind (arith, around)
 
 -- ---- what a turn touches, and what it counts
 
@@ -423,10 +390,4 @@ own-fault role fault turn = grind (arith)
 pub fault-counts : (old mid next : FolderState) (n : Names) (turn : ℕ) (fault : SingleFault) → CountsStand old mid
     → FaultCounts mid next (n.file ∷ []) (outputs_of n) fault
     → StopCounts old next (inputs_of n) (outputs_of n) (fault_stop n.role turn fault)
-fault-counts old mid next n turn faults.ReadFault stand rose =
-    stop-earlier old mid next (inputs_of n) (outputs_of n) (Read folder.Failed) stand (file-fails mid next n folder.Failed rose)
-fault-counts old mid next n turn faults.WriteFault stand rose =
-    stop-earlier old mid next (inputs_of n) (outputs_of n) (Write folder.Failed) stand rose
-fault-counts old mid next n turn faults.NoMemory stand refused =
-    stop-earlier old mid next (inputs_of n) (outputs_of n) (Write folder.NoMemory) stand refused
-fault-counts old mid next n turn (faults.Link fault) stand counts = (own-fault n.role fault turn, CountsStand-trans stand counts)
+fault-counts old mid next n turn fault stand rose = grind (arith, stop-earlier, file-fails, own-fault)

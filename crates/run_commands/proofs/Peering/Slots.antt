@@ -1,17 +1,16 @@
 -- Octets cut into slots.
-use Rattle.std.proofs.Common.{◌≡◌, ◌∙◌, ℕ, zero, suc, ◌+◌, ◌*◌, ◌/◌, ◌<◌, ◌≤◌, List, [], ◌∷◌, ◌++◌, length, take, drop, refl, ap, subst}
-use Rattle.std.proofs.Common.{arith, append-nil, append_assoc}
-use Rattle.std.proofs.lemmas.List.{take-append-le, drop-append-le, take_all, length-drop}
+use Rattle.run_commands.proofs.Names.{◌≡◌, ◌∙◌, ℕ, zero, suc, ◌+◌, ◌*◌, ◌<◌, ◌≤◌, List, [], ◌∷◌, ◌++◌, length, take, refl, ap, subst, arith}
+use Rattle.run_commands.proofs.Names.{append_assoc, take_all, slot_octets, slot_at, slots_before}
+use Rattle.std.proofs.Common.{drop}
+use Rattle.std.proofs.Common.{append-nil}
+use Rattle.std.proofs.lemmas.List.{take-append-le, drop-append-le, length-drop}
 use Rattle.std.proofs.Math.Seq.{take-append_seam, drop-append_seam}
-use Rattle.line_world.specs.OneEnd.Heard.{slot_octets}
-use Rattle.run_commands.specs.Peering.Runs.{slot_at, slots_before, slots_in}
+use Rattle.run_commands.specs.Peering.Runs.{slots_in}
 
 -- a slot that stands among the first octets
 front-cut : (size n place : ℕ) (a b : List ℕ) → place ≡ size * n → place + size ≤ length a
     → take size (drop place (a ++ b)) ≡ take size (drop place a)
-front-cut size n place a b e h =
-    ap (take size) (drop-append-le place a b (omega (arith, h)))
-    ∙ take-append-le size (drop place a) b (omega (arith, h, length-drop place a))
+front-cut size n place a b e h = grind (arith, drop-append-le, take-append-le, length-drop)
 
 pub slot-front : (n : ℕ) (a b : List ℕ) → slot_octets * n + slot_octets ≤ length a → slot_at (a ++ b) n ≡ slot_at a n
 slot-front n a b h = front-cut slot_octets n (slot_octets * n) a b refl h
@@ -25,11 +24,7 @@ slots-front (suc n) a b h =
 -- the slot behind the first octets
 behind-cut : (size place : ℕ) (a slot rest : List ℕ) → length a ≡ place → take size (slot ++ rest) ≡ slot
     → take size (drop place ((a ++ slot) ++ rest)) ≡ slot
-behind-cut size place a slot rest e cut =
-    ap (λ xs. take size (drop place xs)) (append_assoc a slot rest)
-    ∙ subst (λ n. take size (drop n (a ++ (slot ++ rest))) ≡ take size (slot ++ rest)) e
-    (ap (take size) (drop-append_seam a (slot ++ rest)))
-    ∙ cut
+behind-cut size place a slot rest e cut = grind (arith, append_assoc, drop-append_seam)
 
 pub slot-behind : (n : ℕ) (a slot rest : List ℕ) → length a ≡ slot_octets * n → take slot_octets (slot ++ rest) ≡ slot
     → slot_at ((a ++ slot) ++ rest) n ≡ slot
@@ -49,19 +44,10 @@ short-slot slot h = short-cut slot_octets slot h
 
 -- how many slots there are
 pub slots-whole : (octets : List ℕ) (n : ℕ) → length octets ≡ 232 * n → n ≡ slots_in octets
-slots-whole octets n e = count (length octets) n e
-  where
-    count : (m n : ℕ) → m ≡ 232 * n → n ≡ (m + 231) / 232
-    count m n e = omega (arith, e)
+slots-whole octets n e = grind (arith)
 
 pub slots-short : (octets : List ℕ) (n more : ℕ) → length octets ≡ 232 * n + more → 1 ≤ more → more ≤ 232 → n + 1 ≡ slots_in octets
-slots-short octets n more e low high = count (length octets) n more e low high
-  where
-    count : (m n more : ℕ) → m ≡ 232 * n + more → 1 ≤ more → more ≤ 232 → n + 1 ≡ (m + 231) / 232
-    count m n more e low high = omega (arith, e, low, high)
+slots-short octets n more e low high = grind (arith)
 
 pub slots-more : (octets : List ℕ) (n : ℕ) → 232 * n < length octets → n < slots_in octets
-slots-more octets n h = count (length octets) n h
-  where
-    count : (m n : ℕ) → 232 * n < m → n < (m + 231) / 232
-    count m n h = omega (arith, h)
+slots-more octets n h = grind (arith)

@@ -1,11 +1,10 @@
 -- Before the first turn, and what a turn's answer says of a run.
-use Rattle.run_commands.proofs.Names.{◌≡◌, ◌∙◌, inl, inr, ℕ, ◌<◌, ◌≤◌, ◌+◌, List, [], ◌∷◌, length, take, refl, sym, subst, arith}
-use Rattle.run_commands.proofs.Names.{CreatesPart-earlier, stop-earlier, IsWithin, ReadFails, StopCounts, Stop, Own, Read, slot_octets}
-use Rattle.run_commands.proofs.Names.{Past, Going, PeerRun, after, over, SingleAfter, file_limit, Makes, Single, LoneHearingsDeliver}
-use Rattle.run_commands.proofs.Names.{LoneSpeakingTakesNothing, KeepsEach-reads, GoesOn-trans, KeepsName-trans, CountsStand-trans}
-use Rattle.run_commands.proofs.Names.{FolderState, octets_at, GoesOn, KeepsName, OnlyReads, CountsStand, KeepsAll, CreatesPart, Creates}
-use Rattle.run_commands.proofs.Names.{AreNoneOf, OnlyOutputs, FolderFault, IsDone, Reached, Names, turn_names, inputs_of, outputs_of}
-use Rattle.run_commands.proofs.Names.{FILE_LIMIT, Role}
+use Rattle.run_commands.proofs.Names.{◌≡◌, ◌∙◌, ℕ, ◌<◌, ◌≤◌, ◌+◌, List, [], ◌∷◌, length, take, refl, sym, subst, arith, stop-earlier}
+use Rattle.run_commands.proofs.Names.{IsWithin, ReadFails, StopCounts, Stop, slot_octets, Past, Going, after, over, SingleAfter, file_limit}
+use Rattle.run_commands.proofs.Names.{Makes, Single, LoneHearingsDeliver, LoneSpeakingTakesNothing, GoesOn-trans, KeepsName-trans}
+use Rattle.run_commands.proofs.Names.{CountsStand-trans, FolderState, octets_at, GoesOn, KeepsName, OnlyReads, CountsStand, KeepsAll}
+use Rattle.run_commands.proofs.Names.{CreatesPart, Creates, AreNoneOf, OnlyOutputs, FolderFault, IsDone, Reached, Names, turn_names}
+use Rattle.run_commands.proofs.Names.{inputs_of, outputs_of, FILE_LIMIT, Role}
 use Rattle.std.proofs.lemmas.List.{length-take}
 use Rattle.link_account.specs.Account.{fresh}
 use Rattle.line_world.specs.Station.{file_at}
@@ -39,17 +38,13 @@ pub ends-short-by : LoneHearingsDeliver → LoneSpeakingTakesNothing
     → Around start mid next n p octets slot
     → turn ≡ length p.turns → SingleAfter old p → old.role ≡ n.role → new.role ≡ old.role → GoesOnBy new mid next (turn_names n) p slot
     → length slot < slot_octets → RanTo start next n (IsDone (turn + 1))
-ends-short-by hearing speaking start mid next n old new p octets slot turn a number after-is role same g short =
-    ends-short hearing speaking start mid next n p octets slot turn a number
-    (subst (λ (r : Role). Makes r mid next (turn_names n) p slot Going) (same ∙ role) g.makes)
-    (subst (λ (r : Role). PeerRun r p) role after-is.run) short
+ends-short-by hearing speaking start mid next n old new p octets slot turn a number after-is role same g short = grind (arith, ends-short)
 
 -- ---- the outputs are created
 
 pub ends-creating : (begin mid now : FolderState) (n : Names) → IsBegun begin mid n → CreatesPart mid now (outputs_of n)
     → StopsCreating begin now n
-ends-creating begin mid now n b c = assumption (CreatesPart-earlier begin mid now (outputs_of n) b.reads.goes_on
-    (KeepsEach-reads begin mid (outputs_of n) b.reads) c)
+ends-creating begin mid now n b c = grind (arith)
 
 few : (octets : List ℕ) → length (take file_limit octets) ≤ file_limit
 few octets = omega (arith, length-take file_limit octets)
@@ -90,11 +85,7 @@ keeps-both old mid new first reads name = KeepsName-trans old mid new name first
 
 pub file-refused : (old mid new : FolderState) (n : Names) (stop : Stop) → OnlyReads old mid → CountsStand old mid → OnlyReads mid new
     → IsWithin old n.bits FILE_LIMIT → IsNotWithin mid new n.file FILE_LIMIT 2 stop → EndsBy old new n stop
-file-refused old mid new n (Own answer) first stand reads within why =
-    inl (keeps-both old mid new first reads, inr (why.0, within, longer-earlier old mid n.file FILE_LIMIT first why.1))
-file-refused old mid new n (Read fault) first stand reads within why =
-    inl (keeps-both old mid new first reads, inr (within, stop-earlier old mid new (n.file ∷ []) [] (Read fault) stand why))
-file-refused old mid new n other first stand reads within never = absurd never
+file-refused old mid new n other first stand reads within why = grind (arith, keeps-both, longer-earlier, stop-earlier)
 
 -- what was counted then: a fault of that input, or nothing
 pub refused-counts : (old new : FolderState) (n : Names) (name : List ℕ) (word : ℕ) (stop : Stop)

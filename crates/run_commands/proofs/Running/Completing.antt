@@ -1,10 +1,10 @@
 -- Where the inputs are right and the line carries their run to its end, the run is done, but for want of memory.
-use Rattle.run_commands.proofs.Names.{◌≡◌, ◌⊎◌, inl, inr, ℕ, ◌≤◌, ◌<◌, List, [], ◌∷◌, length, sym, ◌∙◌, ap, subst, arith, Result, Comes}
-use Rattle.run_commands.proofs.Names.{is_done, is_own, is_memory, comes-to, last-only, done-unless-memory, IsWithin, Answers, done_line}
-use Rattle.run_commands.proofs.Names.{Status, TooLong, NoMemory, Stop, Own, IsCarried, LostLinksWereStarved, ScriptRunsTo, RunEnd, Left}
-use Rattle.run_commands.proofs.Names.{wire_of, link_of, held_of, ScriptSpelling, ScriptValue, HoldEach-kept, FolderState, octets_at}
-use Rattle.run_commands.proofs.Names.{OnlyOutputs, KeepsEach, RanTo, RanBy, EndsBy, run_job, stopped-by, stopped-how, answer_of, RefusesOwn}
-use Rattle.run_commands.proofs.Names.{RunNames, files_of, texts_of, LIMITS, Both, of, Role}
+use Rattle.run_commands.proofs.Names.{◌≡◌, ◌⊎◌, inl, inr, ℕ, ◌≤◌, ◌<◌, List, [], ◌∷◌, sym, ◌∙◌, ap, subst, arith, Result, Comes, is_done}
+use Rattle.run_commands.proofs.Names.{is_own, is_memory, comes-to, last-only, done-unless-memory, Answers, done_line, Status, TooLong}
+use Rattle.run_commands.proofs.Names.{NoMemory, Stop, Own, IsCarried, LostLinksWereStarved, ScriptRunsTo, RunEnd, Left, wire_of, link_of}
+use Rattle.run_commands.proofs.Names.{held_of, ScriptSpelling, ScriptValue, HoldEach-kept, FolderState, octets_at, OnlyOutputs, KeepsEach}
+use Rattle.run_commands.proofs.Names.{RanTo, RanBy, EndsBy, run_job, stopped-by, stopped-how, answer_of, RefusesOwn, RunNames, files_of}
+use Rattle.run_commands.proofs.Names.{texts_of, LIMITS, Both, of, Role}
 use Rattle.frame_check.specs.Octets.{AreOctets}
 use Rattle.noise_script.specs.Laws.{ScriptsAreOne, NoFaultInScripts, SpelledIsInLimits, BreaksAreOctets}
 use Rattle.line_run.specs.Ends.{OneResult, GivesUp, LineEnds}
@@ -12,7 +12,6 @@ use Rattle.line_run.specs.Ends as runs
 use Rattle.line_ends.specs.Completes.{IsQuiet, EndsDone, AreOfOctets, NamesFew, IsUndisturbed, CompletesWithFewLosses}
 use Rattle.line_ends.specs.Completes.{CompletesWithFewNamed, CompletesQuiet, CompletesUndisturbed}
 use Rattle.command_base.specs.declared.status.Status.TheVariants.{BadScript}
-use Rattle.command_base.specs.Inputs.{IsLonger}
 use Rattle.outside_calls.specs.Outputs.{HoldEach}
 use Rattle.run_commands.specs.Running.Ends.{Ends}
 use Rattle.run_commands.specs.Running.Completes.{LosesFew, AreRight, files_at, DoneWhere, Answered, AnsweredByItsEnd, Completes}
@@ -26,16 +25,8 @@ file-fits count within longer = omega (arith, within, longer)
 -- right inputs are not refused
 never-refused : NoFaultInScripts → (old : FolderState) (n : RunNames) (script : ScriptValue) (answer : Status) → AreRight old n script
     → RefusesOwn LIMITS old n.script 3 (files_of n) 1 answer → ⊥
-never-refused law old n script (TooLong word) r (inl s) =
-    script-fits (length (octets_at old n.script)) r.script_short (s.longer r.script_told)
-never-refused law old n script (TooLong word) r (inr f) = by f.first
-  where
-    by : (((word ≡ 1) × IsLonger old n.names.orig LIMITS.file)
-        ⊎ (IsWithin old n.names.orig LIMITS.file
-        × (((word ≡ 2) × IsLonger old n.names.answ LIMITS.file) ⊎ (IsWithin old n.names.answ LIMITS.file × ⊥)))) → ⊥
-    by (inl o) = file-fits (length (octets_at old n.names.orig)) r.orig_short (o.1 r.orig_told)
-    by (inr (w, inl a)) = file-fits (length (octets_at old n.names.answ)) r.answ_short (a.1 r.answ_told)
-    by (inr (w, inr a)) = a.1
+never-refused law old n script (TooLong word) r (inl s) = grind (arith, script-fits)
+never-refused law old n script (TooLong word) r (inr f) = grind (arith, file-fits)
 never-refused law old n script (BadScript line cause) r s = law (octets_at old n.script) script line cause r.spelled (s.first r.script_told)
 never-refused law old n script answer r never = never
 

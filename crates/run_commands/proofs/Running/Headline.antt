@@ -1,9 +1,9 @@
 -- From every answer to the headline, and to when a run is done.
-use Rattle.run_commands.proofs.Names.{◌≡◌, ◌⊎◌, inl, inr, ℕ, true, List, [], ◌++◌, Some, refl, ◌∙◌, ap, subst, option_map, last-only}
-use Rattle.run_commands.proofs.Names.{done-of, shared-of, Answers, done_line, Status, Done, LineLost, NotDetected, LinkLost, ChanceMatch}
-use Rattle.run_commands.proofs.Names.{RunLaws, may-run, RunEnd, wire_of, link_of, delay_of, Holds-kept, told_later, FolderState, GoesOn}
-use Rattle.run_commands.proofs.Names.{Holds, KeepsAll, OnlyOutputs, RanTo, EndsBy, run_job, is_run_end, run-ends-own, stopped-so}
-use Rattle.run_commands.proofs.Names.{RefusesOwn, RunNames, files_of, LIMITS, Originator, Answerer}
+use Rattle.run_commands.proofs.Names.{arith, ◌≡◌, ◌⊎◌, ℕ, true, List, [], ◌++◌, Some, refl, ◌∙◌, ap, subst, option_map, last-only, done-of}
+use Rattle.run_commands.proofs.Names.{shared-of, Answers, done_line, Status, Done, LineLost, NotDetected, LinkLost, ChanceMatch, RunLaws}
+use Rattle.run_commands.proofs.Names.{may-run, RunEnd, wire_of, link_of, delay_of, Holds-kept, told_later, FolderState, GoesOn, Holds}
+use Rattle.run_commands.proofs.Names.{KeepsAll, OnlyOutputs, RanTo, EndsBy, run_job, is_run_end, run-ends-own, stopped-so, RefusesOwn}
+use Rattle.run_commands.proofs.Names.{RunNames, files_of, LIMITS, Originator, Answerer}
 use Rattle.link_run.specs.Laws.{agreed_srej}
 use Rattle.link_run.specs.Taken.{taken_octets}
 use Rattle.line_run.specs.Ends.{turns_heard}
@@ -69,8 +69,7 @@ own-ends words old new n s t a e f =
 pub not-refused : {P : Type 0} → (old before : FolderState) (n : RunNames) (answer : Status)
     → (RefusesOwn LIMITS old n.script 3 (files_of n) 1 answer → ⊥)
     → (KeepsAll old before × RefusesOwn LIMITS old n.script 3 (files_of n) 1 answer) ⊎ P → P
-not-refused old before n answer never (inl r) = absurd (never r.1)
-not-refused old before n answer never (inr p) = p
+not-refused old before n answer never given = grind (arith)
 
 ran-by : RunLaws → (words : List (List ℕ)) (old new : FolderState) (n : RunNames) (s t : Status) (a : Answers (run_job n) words old new s)
     → OnlyOutputs a.before new [] → s ≡ t → RanBy old new n t

@@ -1,7 +1,7 @@
 -- Outputs that are created, and recordings that get their headers.
-use Rattle.run_commands.proofs.Names.{◌≡◌, inr, ℕ, List, [], ◌∷◌, ◌++◌, sym, subst, append-nil, tapes_of, Wire, Holds-kept}
-use Rattle.run_commands.proofs.Names.{OnlyOutputs-trans, FolderState, Appended, GoesOn, CountsStand, Holds, Creates, KeepsEach, AreApart}
-use Rattle.run_commands.proofs.Names.{OnlyOutputs, FolderFault, header_of, RunNames, texts_of, mode_of, Role}
+use Rattle.run_commands.proofs.Names.{arith, ◌≡◌, ℕ, List, [], ◌∷◌, append-nil, tapes_of, Wire, Holds-kept, FolderState, Appended, GoesOn}
+use Rattle.run_commands.proofs.Names.{CountsStand, Holds, Creates, KeepsEach, AreApart, OnlyOutputs, FolderFault, header_of, RunNames}
+use Rattle.run_commands.proofs.Names.{texts_of, mode_of, Role}
 use Rattle.outside_calls.specs.Folder.{OnlyWrites}
 use Rattle.outside_calls.specs.declared.folder.FolderFault.TheVariants as folder
 use Rattle.outside_calls.proofs.Holding.{Holds-more}
@@ -20,12 +20,7 @@ heads a b name header on none put = Holds-more a b name [] header on none put
 pub begins : (tape : Tape) (a b : FolderState) (c : Wire) (role : Role) (name : List ℕ) → TapeStands tape c role [] []
     → tape.name.now ≡ name
     → GoesOn a b → Holds a name [] → Appended a b name (header_of (mode_of role)) → KeepsTape tape b c role []
-begins tape a b c role name stands is on none put = record {
-  body = [];
-  stands = stands;
-  holds = subst (λ n. Holds b n (header_of (mode_of role) ++ [])) (sym is)
-      (subst (Holds b name) (sym (append-nil (header_of (mode_of role)))) (Holds-more a b name [] (header_of (mode_of role)) on none put));
-}
+begins tape a b c role name stands is on none put = grind (arith, append-nil)
 
 -- outputs that were created and then kept
 pub creates-kept : (a b : FolderState) (names : List (List ℕ)) → GoesOn a b → KeepsEach a b names → Creates a names → Creates b names
@@ -47,21 +42,15 @@ creates-tapes f n c = c.1.1.1
 -- they are touched behind all
 pub touches-tapes : (old mid new : FolderState) (n : RunNames) → OnlyOutputs old mid (outputs_of n) → OnlyOutputs mid new (tapes_of n.tapes)
     → OnlyOutputs old new (outputs_of n)
-touches-tapes old mid new n first next =
-    OnlyOutputs-trans (outputs_of n) first
-    (record { goes_on = next.goes_on; names = λ other none. next.names other none.1.1.1 })
+touches-tapes old mid new n first next = grind (arith)
 
 -- a fault of one of them is one of the outputs'
 pub tapes-fail : (old mid new : FolderState) (n : RunNames) (fault : FolderFault) → CountsStand old mid
     → WriteFails mid new (tapes_of n.tapes) fault → WriteFails old new (outputs_of n) fault
-tapes-fail old mid new n folder.Failed stand rose =
-    write-earlier old mid new (outputs_of n) folder.Failed stand (inr (inr (inr rose)))
-tapes-fail old mid new n folder.NoMemory stand refused = write-earlier old mid new (outputs_of n) folder.NoMemory stand refused
+tapes-fail old mid new n fault stand rose = grind (arith, write-earlier)
 
 -- ---- two outputs, one behind the other
 
 pub touches-both : (a b c : FolderState) (name other : List ℕ) → OnlyWrites a b name → OnlyWrites b c other
     → OnlyOutputs a c (name ∷ other ∷ [])
-touches-both a b c name other first next =
-    OnlyOutputs-trans (name ∷ other ∷ []) (touches-first a b name (other ∷ []) first)
-    (record { goes_on = next.goes_on; names = λ any none. next.names any none.1.0 })
+touches-both a b c name other first next = grind (arith, touches-first)

@@ -6,7 +6,7 @@ use Rattle.run_commands.proofs.Names.{CreatesPart, AreApart, KeepsEach, AreApart
 use Rattle.run_commands.proofs.Names.{StopsHeading, EndsBy, HeadsPartly, RunNames, files_of, texts_of, LIMITS, Both}
 use Rattle.line_run.specs.Scripts.{LineRunsEndSoon}
 use Rattle.line_run.specs.declared.fault.RunFault.TheVariants as faults
-use Rattle.outside_calls.proofs.Putting.{KeepsEach-trans, SomeRose-earlier, none-fronts}
+use Rattle.outside_calls.proofs.Putting.{SomeRose-earlier, none-fronts}
 use Rattle.run_inputs.specs.declared.limits.Limits.{Limits}
 use Rattle.run_inputs.specs.Words.{inputs_of, outputs_of}
 use Rattle.run_inputs.specs.Inputs.{Refuses}
@@ -60,10 +60,7 @@ takes old mid now next n script files p k =
     on = GoesOn-trans p.begun.reads.goes_on (GoesOn-trans p.creates.goes_on p.turns.goes_on)
 
     kept : KeepsEach old next (files_of n)
-    kept = KeepsEach-trans old mid next (files_of n) p.begun.reads.goes_on (KeepsEach-reads old mid (files_of n) p.begun.reads)
-        (KeepsEach-trans mid now next (files_of n) p.creates.goes_on
-        (inputs-kept mid now (files_of n) (outputs_of n) p.apart p.creates.names)
-        (inputs-kept now next (files_of n) (outputs_of n) p.apart p.turns.names))
+    kept = grind (arith, inputs-kept)
 
 -- the run ended by itself
 pub ran-to : (old mid now next : FolderState) (n : RunNames) (script : ScriptValue) (end : RunEnd) → Phases LIMITS old mid now next n script

@@ -1,10 +1,10 @@
 -- However a run ends, each recording is as it was, or holds the beginning of its header and of what its end sends.
-use Rattle.run_commands.proofs.Names.{arith, inl, inr, ℕ, List, [], ◌∷◌, ◌++◌, Some, None, Result, Ok, Err, refl, subst, append_assoc}
-use Rattle.run_commands.proofs.Names.{Status, Stop, RunEnd, Tapes, Wire, wire_of, link_of, ScriptValue, Holds-kept, KeepsName-trans}
-use Rattle.run_commands.proofs.Names.{FolderState, GoesOn, Holds, KeepsAll, CreatesPart, OnlyOutputs, header_of, Takes, RanTo, StopsInTurn}
-use Rattle.run_commands.proofs.Names.{RanBy, EndsBy, HeadsPartly, stopped-by, RunNames, LIMITS, mode_of, Both, Role, Originator, Answerer}
+use Rattle.run_commands.proofs.Names.{arith, inl, inr, ℕ, List, [], ◌∷◌, ◌++◌, Some, None, Result, subst, append_assoc, Status, Stop}
+use Rattle.run_commands.proofs.Names.{RunEnd, Tapes, Wire, wire_of, link_of, ScriptValue, FolderState, GoesOn, KeepsAll, CreatesPart}
+use Rattle.run_commands.proofs.Names.{OnlyOutputs, header_of, Takes, RanTo, StopsInTurn, RanBy, EndsBy, HeadsPartly, stopped-by, RunNames}
+use Rattle.run_commands.proofs.Names.{LIMITS, mode_of, Both, Role, Originator, Answerer}
 use Rattle.outside_calls.specs.Outputs.{HoldsFront}
-use Rattle.outside_calls.proofs.Holding.{HoldsFront-part, HoldsFront-all, HoldsFront-kept}
+use Rattle.outside_calls.proofs.Holding.{HoldsFront-part, HoldsFront-all}
 use Rattle.link_run.specs.Run.{Accounts, Turn}
 use Rattle.link_run.specs.Outcomes.{Going, TurnIs}
 use Rattle.line_run.specs.Sampled.{LineRun}
@@ -20,27 +20,13 @@ use Rattle.run_commands.specs.Running.Tapes.{TapeBegun, TapesBegun}
 
 pub are-of : (f : FolderState) (n : RunNames) (script : ScriptValue) (files : Both (List ℕ)) → Takes LIMITS f n script files
     → AreOf f n script files
-are-of f n script files takes = record {
-  script_is = takes.opens.reads.spelled;
-  orig_is = takes.orig;
-  answ_is = takes.answ;
-  orig_octets = takes.opens.octets.0;
-  answ_octets = takes.opens.octets.1.0;
-}
+are-of f n script files takes = grind (arith)
 
 -- ---- once the last line is said
 
 pub tapes-last : (before new : FolderState) (tapes : Tapes) (c : Wire) (ts : List Turn) → OnlyOutputs before new []
     → HoldTapes before tapes c ts → HoldTapes new tapes c ts
-tapes-last before new None c ts last h = tt
-tapes-last before new (Some names) c ts last h = (one names.orig Originator h.0, one names.answ Answerer h.1)
-  where
-    one : (name : List ℕ) (role : Role) → HoldsTape before name c role ts → HoldsTape new name c role ts
-    one name role h = record {
-      body = h.body;
-      recorded = h.recorded;
-      holds = Holds-kept before new name (header_of (mode_of role) ++ h.body) last.goes_on h.holds (last.names name tt);
-    }
+tapes-last before new tapes c ts last h = grind (arith)
 
 pub begun-last : (old before new : FolderState) (n : RunNames) (tapes : Tapes) → OnlyOutputs before new [] → GoesOn old before
     → TapesBegun old before n tapes → TapesBegun old new n tapes
@@ -48,20 +34,7 @@ begun-last old before new n None last g h = tt
 begun-last old before new n (Some names) last g h = (one names.orig Originator h.0, one names.answ Answerer h.1)
   where
     one : (name : List ℕ) (role : Role) → TapeBegun old before n name role → TapeBegun old new n name role
-    one name role (inl kept) = inl (KeepsName-trans old before new name g kept (last.names name tt))
-    one name role (inr (inl front)) = inr (inl (HoldsFront-kept before new name _ last.goes_on front (last.names name tt)))
-    one name role (inr (inr h)) = inr (inr (record {
-      script = h.script;
-      limits = h.limits;
-      files = h.files;
-      are_of = h.are_of;
-      turns = h.turns;
-      ends = h.ends;
-      run = h.run;
-      body = h.body;
-      recorded = h.recorded;
-      holds = HoldsFront-kept before new name _ last.goes_on h.holds (last.names name tt);
-    }))
+    one name role given = grind (arith)
 
 -- ---- what they hold however the run ends
 
@@ -132,26 +105,17 @@ tapes-stopped old before n e = by e.taped
         both-parts old before n e.script e.files e.takes n.tapes e.stops.turns s.adds.turn e.stops.ends on.0 e.stops.run
         (record { run = (e.stops.ends, e.stops.run.run, on.1); heard = (s.adds.heard, e.stops.run.heard) }) s.taped
 
-empty-front : (f : FolderState) (name header : List ℕ) → Holds f name [] → HoldsFront f name header
-empty-front f name header h told = ([], (header, refl), h told)
-
 all-created : (old before : FolderState) (n : RunNames) → CreatesPart old before (outputs_of n) → TapesBegun old before n n.tapes
 all-created old before n b = grind (arith)
 
 tapes-headed : (old before : FolderState) (n : RunNames) (tapes : Tapes) → HeadsPartly before tapes → TapesBegun old before n tapes
-tapes-headed old before n None never = absurd never
-tapes-headed old before n (Some names) (inl (o, a)) =
-    (inr (inl o), inr (inl (empty-front before names.answ (header_of (mode_of Answerer)) a)))
-tapes-headed old before n (Some names) (inr (o, a)) =
-    (inr (inl (HoldsFront-all before names.orig (header_of (mode_of Originator)) o)), inr (inl a))
+tapes-headed old before n tapes never = grind (arith)
 
 all-kept : (old before : FolderState) (n : RunNames) (tapes : Tapes) → KeepsAll old before → TapesBegun old before n tapes
 all-kept old before n tapes kept = grind (arith)
 
 tapes-own : (old before : FolderState) (n : RunNames) (answer : Status) → RanBy LIMITS old before n answer → TapesBegun old before n n.tapes
-tapes-own old before n answer e =
-    let by = stopped-by (RanTo LIMITS old before n) answer e in
-    tapes-ran old before n by.0 by.2
+tapes-own old before n answer e = grind (arith, stopped-by, tapes-ran)
 
 tapes-by : (old before : FolderState) (n : RunNames) (stop : Stop) → EndsBy LIMITS old before n stop → TapesBegun old before n n.tapes
 tapes-by old before n (stops.Own answer) (inl refused) = all-kept old before n n.tapes refused.0
@@ -166,5 +130,4 @@ tapes-by old before n (stops.Say fault) never = absurd never
 
 pub tapes-of : (old before : FolderState) (n : RunNames) (end : Result ℕ Stop) → EndsSo LIMITS old before n end
     → TapesBegun old before n n.tapes
-tapes-of old before n (Ok turn) e = tapes-ran old before n _ e
-tapes-of old before n (Err stop) e = tapes-by old before n stop e
+tapes-of old before n end e = grind (arith, tapes-ran, tapes-by)

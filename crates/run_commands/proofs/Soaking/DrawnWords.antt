@@ -1,6 +1,7 @@
 -- What a seed draws, word by word.
-use Rattle.std.proofs.Common.{◌≡◌, ℕ, zero, suc, ◌+◌, ◌*◌, [], ◌++◌, length, refl, arith, length-append, IfOk, Result, Ok, Err}
-use Rattle.run_commands.specs.Soaking.Drawing.{drawn_word, word_octets, drawn_octets}
+use Rattle.run_commands.proofs.Names.{◌≡◌, ℕ, zero, suc, ◌+◌, ◌*◌, [], ◌++◌, length, refl, arith, length-append, Result, word_octets}
+use Rattle.std.proofs.Common.{IfOk}
+use Rattle.run_commands.specs.Soaking.Drawing.{drawn_word, drawn_octets}
 
 pub drawn-none : (seed from : ℕ) → drawn_octets seed from 0 ≡ []
 unfolding drawn_octets
@@ -20,5 +21,4 @@ length-drawn seed from (suc n) =
     (arith, length-append {A = ℕ} (drawn_octets seed from n) (word_octets (drawn_word seed (from + n))), length-drawn seed from n))
 
 pub if-ok : {A E : Type 0} (P Q : A → Type 0) → ((a : A) → P a → Q a) → (r : Result A E) → IfOk r P → IfOk r Q
-if-ok P Q f (Ok a) h = f a h
-if-ok P Q f (Err e) h = tt
+if-ok P Q f r h = grind (arith)

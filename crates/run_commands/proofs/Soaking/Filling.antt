@@ -1,6 +1,6 @@
 -- What the folder of a soak holds, and that it never fails.
-use Rattle.run_commands.proofs.Names.{◌≡◌, ◌≢◌, ◌∙◌, ℕ, nat_eq, false, List, [], length, Option, Some, refl, sym, ap, arith, nat_tests}
-use Rattle.run_commands.proofs.Names.{RunFault, FaultCounts, Files, AreApartFrom, SureState, sure_folder, HoldsFiles, soak_names, soak_file}
+use Rattle.run_commands.proofs.Names.{◌≡◌, ◌≢◌, ◌∙◌, ℕ, nat_eq, false, List, [], length, Option, Some, sym, ap, arith, nat_tests, RunFault}
+use Rattle.run_commands.proofs.Names.{FaultCounts, Files, AreApartFrom, SureState, sure_folder, HoldsFiles, soak_names, soak_file}
 use Rattle.run_commands.proofs.Names.{Originator, Answerer}
 use Rattle.std.proofs.Common.{get_or, unwrap_or}
 use Rattle.std.specs.FinMap as finite
@@ -16,19 +16,7 @@ pub differ : (at : ℕ) (a b : List ℕ) → nat_eq (get_or a at 0) (get_or b at
 differ at a b f e = unequal (get_or a at 0) (get_or b at 0) f (ap (λ (l : List ℕ). get_or l at 0) e)
 
 pub apart : AreApartFrom (inputs_of soak_names) (outputs_of soak_names)
-apart = (
-  (
-    (differ 4 soak_names.got_o soak_names.got_a refl, (differ 0 soak_names.got_o soak_names.trace refl, tt)),
-    ((differ 0 soak_names.got_a soak_names.trace refl, tt), (tt, tt)),
-  ),
-  (
-    (differ 0 soak_names.got_o soak_names.orig refl, (differ 0 soak_names.got_o soak_names.answ refl, tt)),
-    (
-      (differ 0 soak_names.got_a soak_names.orig refl, (differ 0 soak_names.got_a soak_names.answ refl, tt)),
-      ((differ 0 soak_names.trace soak_names.orig refl, (differ 0 soak_names.trace soak_names.answ refl, tt)), tt),
-    ),
-  ),
-)
+apart = grind (arith, differ)
 
 -- both files were put into a folder
 pub both-put : (s : SureState) (seed : ℕ) (held : Files) (orig answ : List ℕ)

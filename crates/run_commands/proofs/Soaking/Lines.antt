@@ -31,21 +31,10 @@ number-short : (n : ℕ) → n < 2 ^ 64 → length (decimal n) ≤ 20
 number-short n h = length-decimal-le 20 n (omega arith) (omega (arith, h)) h
 
 lose-short : (role : Role) (turn : ℕ) → turn < 2 ^ 64 → length (lose_line role turn ++ 10 ∷ []) ≤ 33
-lose-short role turn h =
-    let all : length (lose_line role turn ++ 10 ∷ []) ≡ length (lose_line role turn) + 1 =
-    length-append {A = ℕ} (lose_line role turn) (10 ∷ []) in
-    let line : length (lose_line role turn) ≡ length (lose_head role) + length (decimal turn ++ codes " 1") =
-    length-append {A = ℕ} (lose_head role) (decimal turn ++ codes " 1") in
-    let rest : length (decimal turn ++ codes " 1") ≡ length (decimal turn) + 2 = length-append {A = ℕ} (decimal turn) (codes " 1") in
-    omega (arith, all, line, rest, (head-short role).0, number-short turn h)
+lose-short role turn h = grind (arith, length-append, head-short, number-short)
 
 noise-short : (role : Role) (seed : ℕ) → seed < 2 ^ 64 → length (noise_line role seed ++ 10 ∷ []) ≤ 49
-noise-short role seed h =
-    let all : length (noise_line role seed ++ 10 ∷ []) ≡ length (noise_line role seed) + 1 =
-    length-append {A = ℕ} (noise_line role seed) (10 ∷ []) in
-    let line : length (noise_line role seed) ≡ length (noise_head role) + length (decimal seed) =
-    length-append {A = ℕ} (noise_head role) (decimal seed) in
-    omega (arith, all, line, (head-short role).1, number-short seed h)
+noise-short role seed h = grind (arith, length-append, head-short, number-short)
 
 pub turn-small : (seed n : ℕ) → turn_lost seed n ≤ 439
 turn-small seed n = omega arith
@@ -83,20 +72,13 @@ whole-short seed h = rw (text-is seed) (text-short seed 12 h)
 -- what is put behind a text piece by piece
 pub three-pieces : (old first next new head number rest : List ℕ) → first ≡ old ++ head → next ≡ first ++ number → new ≡ next ++ rest
     → new ≡ old ++ (head ++ (number ++ rest))
-three-pieces old first next new head number rest x y z =
-    z ∙ ap (λ l. l ++ rest) (y ∙ ap (λ l. l ++ number) x) ∙ append_assoc (old ++ head) number rest ∙ append_assoc old head (number ++ rest)
+three-pieces old first next new head number rest x y z = grind (arith, append_assoc)
 
 -- the line of noise, and that of a loss
 pub noise-put : (old new head : List ℕ) (role : Role) (seed : ℕ) → head ≡ noise_head role → new ≡ old ++ (head ++ (decimal seed ++ 10 ∷ []))
     → new ≡ old ++ (noise_line role seed ++ 10 ∷ [])
-noise-put old new head role seed is e =
-    e ∙ ap (λ h. old ++ (h ++ (decimal seed ++ 10 ∷ []))) is
-    ∙ ap (λ l. old ++ l) (sym (append_assoc (noise_head role) (decimal seed) (10 ∷ [])))
+noise-put old new head role seed is e = grind (arith, append_assoc)
 
 pub loss-put : (old new head : List ℕ) (role : Role) (turn : ℕ) → head ≡ lose_head role
     → new ≡ old ++ (head ++ (decimal turn ++ codes " 1\n")) → new ≡ old ++ (lose_line role turn ++ 10 ∷ [])
-loss-put old new head role turn is e =
-    e ∙ ap (λ h. old ++ (h ++ (decimal turn ++ codes " 1\n"))) is
-    ∙ ap (λ l. old ++ l)
-    (sym (append_assoc (lose_head role) (decimal turn ++ codes " 1") (10 ∷ [])
-    ∙ ap (λ l. lose_head role ++ l) (append_assoc (decimal turn) (codes " 1") (10 ∷ []))))
+loss-put old new head role turn is e = grind (arith, append_assoc)

@@ -2,7 +2,7 @@
 use Rattle.run_commands.proofs.Names.{◌≡◌, ◌≢◌, ◌∙◌, ℕ, zero, suc, ◌<◌, ◌≤◌, Bool, true, false, nat_eq, List, [], ◌∷◌, ◌++◌, length, refl}
 use Rattle.run_commands.proofs.Names.{sym, ap, subst, arith, nat_tests, codes, decimal, ScriptSpelling, role_in_turn, turn_lost, delay_line}
 use Rattle.run_commands.proofs.Names.{noise_head, noise_line, lose_head, lose_line, Role, Originator, Answerer}
-use Rattle.std.proofs.Common.{not, cond, nat_le}
+use Rattle.std.proofs.Common.{not, nat_le}
 use Rattle.std.proofs.Common.{append-nil}
 use Rattle.std.specs.List.{list_all}
 use Rattle.std.proofs.lemmas.Bool.{and_parts}
@@ -21,8 +21,7 @@ use Rattle.run_commands.specs.Soaking.Text.{lose_lines, soak_text}
 use Rattle.run_commands.proofs.Soaking.Lines.{turn-small, text-is}
 
 spells-number : (low high n : ℕ) → IsSmall n → low ≤ n → n ≤ high → IsNumber low high (decimal n) n
-spells-number low high n h l m =
-    record { digits = is-number n h; value_is = sym (digits_value-decimal numerals n h); not_below = l; not_above = m }
+spells-number low high n h l m = grind (arith, is-number, digits_value-decimal, numerals)
 
 abbrev is_other : ℕ → ℕ → Bool
 is_other octet x = not (nat_eq x octet)
@@ -39,11 +38,7 @@ all-joined test xs ys h k = list_all-append test xs ys ∙ both (list_all test x
 -- a line without returns is whole
 returns-none : (xs : List ℕ) → list_all (is_other 13) xs ≡ true → without_return xs ≡ xs
 returns-none [] h = refl
-returns-none (x ∷ []) h = last (nat_eq x 13) (and_parts (is_other 13 x) true h).0
-  where
-    last : (b : Bool) → not b ≡ true → cond b [] (x ∷ []) ≡ x ∷ []
-    last true e = absurd cc
-    last false e = refl
+returns-none (x ∷ []) h = grind (arith)
 returns-none (x ∷ y ∷ xs) h = ap (λ l. x ∷ l) (returns-none (y ∷ xs) (and_parts (is_other 13 x) (list_all (is_other 13) (y ∷ xs)) h).1)
 
 some-digits : (n : ℕ) → IsSmall n → decimal n ≢ []
@@ -54,18 +49,14 @@ number-words n h rest e = word-cut (decimal n) rest (some-digits n h) (number-al
 
 lose-words : (role : Role) (turn : ℕ) → IsSmall turn
     → words_of (lose_line role turn) ≡ codes "lose" ∷ role_word role ∷ decimal turn ∷ codes "1" ∷ []
-lose-words Originator turn h = ap (λ (ws : List (List ℕ)). codes "lose" ∷ codes "orig" ∷ ws) (number-words turn h (codes " 1") refl)
-lose-words Answerer turn h = ap (λ (ws : List (List ℕ)). codes "lose" ∷ codes "answ" ∷ ws) (number-words turn h (codes " 1") refl)
+lose-words role turn h = grind (arith, number-words)
 
 last-words : (n : ℕ) → IsSmall n → words_of (decimal n) ≡ decimal n ∷ []
 last-words n h = ap words_of (sym (append-nil (decimal n))) ∙ number-words n h [] refl
 
 noise-words : (role : Role) (seed : ℕ) → IsSmall seed
     → words_of (noise_line role seed) ≡ codes "noise" ∷ role_word role ∷ codes "0" ∷ codes "4294967295" ∷ codes "500" ∷ decimal seed ∷ []
-noise-words Originator seed h =
-    ap (λ (ws : List (List ℕ)). codes "noise" ∷ codes "orig" ∷ codes "0" ∷ codes "4294967295" ∷ codes "500" ∷ ws) (last-words seed h)
-noise-words Answerer seed h = ap (λ (ws : List (List ℕ)). codes "noise" ∷ codes "answ" ∷ codes "0" ∷ codes "4294967295" ∷ codes "500" ∷ ws)
-    (last-words seed h)
+noise-words role seed h = grind (arith, last-words)
 
 -- what each line says
 
@@ -82,9 +73,7 @@ delay-says = record {
 all-lose : (test : ℕ → Bool) → ((x : ℕ) → is_digit x ≡ true → test x ≡ true) → (role : Role) (turn : ℕ) → IsSmall turn
     → list_all test (lose_head role) ≡ true → list_all test (codes " 1") ≡ true
     → list_all test (lose_line role turn) ≡ true
-all-lose test f role turn h a b =
-    all-joined test (lose_head role) (decimal turn ++ codes " 1") a
-    (all-joined test (decimal turn) (codes " 1") (number-all test f turn h) b)
+all-lose test f role turn h a b = grind (arith, all-joined, number-all)
 
 all-noise : (test : ℕ → Bool) → ((x : ℕ) → is_digit x ≡ true → test x ≡ true) → (role : Role) (seed : ℕ) → IsSmall seed
     → list_all test (noise_head role) ≡ true → list_all test (noise_line role seed) ≡ true

@@ -49,10 +49,7 @@ files-are seed a b d files m k =
     both files orig answ
   where
     both : (files : Both (List ℕ)) → files.orig ≡ soak_file seed Originator → files.answ ≡ soak_file seed Answerer → files ≡ soak_files seed
-    both files o a =
-        let first : files ≡ record { orig = soak_file seed Originator; answ = files.answ } =
-        ap (λ (x : List ℕ). record { orig = x; answ = files.answ }) o in
-        first ∙ ap (λ (x : List ℕ). record { orig = soak_file seed Originator; answ = x }) a
+    both files o a = grind (arith)
 
 ends-so : (seed : ℕ) (a b d : SureState) (end : RunEnd) → Made seed a b d → RunEnds (soak_script seed) (sure_folder d) soak_names None end
     → SoakEnds seed end
@@ -95,12 +92,7 @@ pub record MadeOver (seed : ℕ) (a b d : SureState) (script : ScriptValue) (n :
   pub turns : OnlyPuts (sure_folder b) (sure_folder d) (outputs_of n)
 
 made : (seed : ℕ) (a b d : SureState) (script : ScriptValue) (n : Written) → MadeOver seed a b d script n → Made seed a b d
-made seed a b d script n m = record {
-  limits = subst IsInLimits m.script_is m.limits;
-  holds = m.holds;
-  creates = m.creates;
-  turns = subst (λ (w : Written). OnlyPuts (sure_folder b) (sure_folder d) (outputs_of w)) m.names_are m.turns;
-}
+made seed a b d script n m = grind (arith)
 
 pub soaked-over : (seed : ℕ) (a b d : SureState) (script : ScriptValue) (n : Written) (turn lost again : ℕ) → MadeOver seed a b d script n
     → RunCounts script (sure_folder d) n None turn lost again

@@ -1,4 +1,4 @@
-use Rattle.std.proofs.Common.{ℕ, ◌+◌, ◌*◌, ◌/◌, ◌%◌, ◌≡◌, get_or, nat_eq, ap, arith}
+use Rattle.gateway.proofs.Names.{ℕ, ◌+◌, ◌*◌, ◌/◌, ◌%◌, ◌≡◌, get_or, nat_eq, ap, arith}
 use Rattle.gateway.proofs.Encoding.{heard-two}
 use Rattle.gateway.proofs.bit_groups.two_at.Goals as goal
 

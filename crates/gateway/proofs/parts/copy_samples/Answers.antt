@@ -1,5 +1,5 @@
-use Rattle.gateway.proofs.Names.{◌≡◌, ◌∙◌, ◌∷◌, ◌+◌, ◌*◌, ◌-◌, ◌<◌, ◌++◌, [], ℕ, ℤ, pos, suc, List, length, take, sym, ap, arith}
-use Rattle.gateway.proofs.Names.{append_assoc, length-set, get_or, samples_in, Sample}
+use Rattle.gateway.proofs.Names.{◌≡◌, ◌∙◌, ◌∷◌, ◌+◌, ◌*◌, ◌-◌, ◌<◌, ◌++◌, [], ℕ, ℤ, pos, List, length, take, ap, arith, append_assoc}
+use Rattle.gateway.proofs.Names.{length-set, get_or, samples_in, Sample}
 use Rattle.std.proofs.Math.Nat.{min-le_right}
 use Rattle.std.proofs.lemmas.List.{take_more_set}
 use Rattle.gateway.proofs.parts.copy_samples.Goals as goal
@@ -9,12 +9,7 @@ one-copied : (parts : List ℤ) (at place : ℕ) (copied : List Sample) (s : Sam
     → samples_in at parts ++ copied ≡ samples_in (at + place) parts
     → s.re ≡ get_or parts (2 * (at + place)) (pos 0) → s.im ≡ get_or parts (2 * (at + place) + 1) (pos 0)
     → samples_in at parts ++ (copied ++ s ∷ []) ≡ samples_in (at + (place + 1)) parts
-one-copied parts at place copied s so_far re im =
-    let next : at + (place + 1) ≡ suc (at + place) = omega arith in
-    sym (append_assoc (samples_in at parts) copied (s ∷ []))
-    ∙ ap (λ l. l ++ s ∷ []) so_far
-    ∙ (λ i. samples_in (at + place) parts ++ record { re = re i; im = im i } ∷ [])
-    ∙ ap (λ n. samples_in n parts) (sym next)
+one-copied parts at place copied s so_far re im = grind (arith, append_assoc)
 
 pub loop-place-preserved : goal.loop-place-preserved
 loop-place-preserved c =

@@ -1,7 +1,7 @@
-use Rattle.std.proofs.Common.{◌≡◌, ◌+◌, ◌*◌, ◌∙◌, set, of_z, to_z, w16, rules}
+use Rattle.gateway.proofs.Names.{◌≡◌, ◌+◌, ◌*◌, ◌∙◌, set, rules, samples_in}
+use Rattle.std.proofs.Common.{of_z, to_z, w16}
 use Rattle.std.proofs.lemmas.Int.{to_z-of_z}
 use mir.Val.{SFits}
-use Rattle.gateway.specs.Given.{samples_in}
 use Rattle.gateway.proofs.Encoding.{samples-put}
 use Rattle.gateway.proofs.parts.put_sample.Goals as goal
 

@@ -1,5 +1,5 @@
-use Rattle.std.proofs.Common.{rules}
-use Rattle.link_pair.specs.Words.{named, inputs_of, outputs_of}
+use Rattle.link_pair.proofs.Names.{rules, named, inputs_of}
+use Rattle.link_pair.specs.Words.{outputs_of}
 use Rattle.link_pair.proofs.command.create_all.Goals as goal
 
 pub create_outputs-requires : goal.create_outputs-requires

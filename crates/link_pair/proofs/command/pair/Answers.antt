@@ -1,5 +1,5 @@
 use Rattle.std.specs.Prelude.{map, string_bytes}
-use Rattle.link_pair.specs.Words.{named}
+use Rattle.link_pair.proofs.Names.{named}
 use Rattle.link_pair.proofs.command.pair.Goals as goal
 
 pub returns-clause-headline : goal.returns-clause-headline

@@ -1,4 +1,4 @@
-use Rattle.line_ends.proofs.RunLaws.{RunLaws}
+use Rattle.link_pair.proofs.Names.{RunLaws}
 use Rattle.link_pair.proofs.Headline.{headline-of}
 use Rattle.link_pair.proofs.Prefixes.{HeadLaws}
 use Rattle.link_pair.proofs.laws.answers_keep_the_headline.Goals as goal

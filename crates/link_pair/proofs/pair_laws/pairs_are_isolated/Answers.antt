@@ -1,4 +1,4 @@
-use Rattle.link_pair.specs.Pairs.Laws.{FaintPairsAreIsolated}
+use Rattle.link_pair.proofs.Names.{FaintPairsAreIsolated}
 use Rattle.link_pair.proofs.Pairs.Pairing.{PairLaws, faint-pairs-are-isolated, undisplaced-pairs-are-isolated}
 use Rattle.link_pair.proofs.pair_laws.pairs_are_isolated.Goals as goal
 

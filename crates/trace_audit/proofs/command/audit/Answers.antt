@@ -1,5 +1,5 @@
 use Rattle.std.specs.Prelude.{map, string_bytes}
-use Rattle.trace_audit.specs.Words.{named}
+use Rattle.trace_audit.proofs.Cited.{named}
 use Rattle.trace_audit.proofs.command.audit.Goals as goal
 
 pub returns-clause-headline : goal.returns-clause-headline

@@ -1,4 +1,4 @@
-use Rattle.std.proofs.Common.{◌∙◌, []}
+use Rattle.trace_audit.proofs.Cited.{◌∙◌, []}
 use Rattle.outside_calls.proofs.OnlyOutputs.{OnlyOutputs-reads}
 use Rattle.command_base.proofs.Jobs.{answers-done, answers-stopped}
 use Rattle.trace_audit.proofs.command.audit_and_tell.Goals as goal

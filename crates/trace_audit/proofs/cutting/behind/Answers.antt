@@ -1,5 +1,5 @@
 use Rattle.std.proofs.lemmas.Slice.Eq.{strip_prefix_is}
-use Rattle.std.proofs.lemmas.Bool.Decides.{Decides-eqb}
+use Rattle.trace_audit.proofs.Cited.{Decides-eqb}
 use Rattle.trace_audit.proofs.Fronts.{behind-stripped}
 use Rattle.trace_audit.proofs.cutting.behind.Goals as goal
 

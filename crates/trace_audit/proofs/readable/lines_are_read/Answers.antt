@@ -1,4 +1,4 @@
-use Rattle.line_ends.proofs.Sending.{SendLaws}
+use Rattle.trace_audit.proofs.Cited.{SendLaws}
 use Rattle.trace_audit.proofs.Reading.{lines-are-read}
 use Rattle.trace_audit.proofs.readable.lines_are_read.Goals as goal
 

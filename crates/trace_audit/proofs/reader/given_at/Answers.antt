@@ -1,4 +1,4 @@
-use Rattle.std.proofs.Common.{sym, ◌∙◌}
+use Rattle.trace_audit.proofs.Cited.{sym, ◌∙◌}
 use Rattle.trace_audit.proofs.LineParts.{given-none}
 use Rattle.trace_audit.proofs.reader.given_at.Goals as goal
 

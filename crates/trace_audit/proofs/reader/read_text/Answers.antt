@@ -1,4 +1,4 @@
-use Rattle.std.proofs.Common.{sym, ◌∙◌}
+use Rattle.trace_audit.proofs.Cited.{sym, ◌∙◌}
 use Rattle.trace_audit.proofs.LineParts.{line-is, unread}
 use Rattle.trace_audit.proofs.reader.read_text.Goals as goal
 

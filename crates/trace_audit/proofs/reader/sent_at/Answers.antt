@@ -1,4 +1,4 @@
-use Rattle.std.proofs.Common.{sym}
+use Rattle.trace_audit.proofs.Cited.{sym}
 use Rattle.trace_audit.proofs.LineParts.{sent-few}
 use Rattle.trace_audit.proofs.reader.sent_at.Goals as goal
 

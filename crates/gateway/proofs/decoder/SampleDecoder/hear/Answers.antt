@@ -1,4 +1,4 @@
-use Rattle.std.proofs.Common.{refl}
+use Rattle.gateway.proofs.Names.{refl}
 use Rattle.gateway.proofs.Decoded.{decoded-on, decoded-until}
 use Rattle.gateway.proofs.decoder.SampleDecoder.hear.Goals as goal
 

@@ -1,4 +1,4 @@
-use Rattle.std.proofs.Common.{refl, rules, arith}
+use Rattle.gateway.proofs.Names.{refl, rules, arith}
 use Rattle.gateway.proofs.HearingEnds.{arrives-as, heard-ok, heard-err}
 use Rattle.gateway.proofs.link.Endpoint.hear.Goals as goal
 

@@ -1,4 +1,4 @@
-use Rattle.std.proofs.Common.{refl, rules}
+use Rattle.gateway.proofs.Names.{refl, rules}
 use Rattle.gateway.proofs.HearingEnds.{says-ok}
 use Rattle.gateway.proofs.link.Endpoint.speak.Goals as goal
 

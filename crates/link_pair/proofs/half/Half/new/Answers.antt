@@ -1,4 +1,4 @@
-use Rattle.std.proofs.Common.{refl}
+use Rattle.link_pair.proofs.Names.{refl}
 use Rattle.line_run.specs.Scripted.{wire_of}
 use Rattle.link_pair.proofs.half.Half.new.Goals as goal
 

@@ -1,5 +1,4 @@
-use Rattle.std.proofs.Common.{map, string_bytes}
-use Rattle.run_commands.specs.Peering.Words.{named}
+use Rattle.run_commands.proofs.Names.{map, string_bytes, named}
 use Rattle.run_commands.proofs.Peering.Headline.{headline-of, completes-of}
 use Rattle.run_commands.proofs.peer.command.peer.Goals as goal
 

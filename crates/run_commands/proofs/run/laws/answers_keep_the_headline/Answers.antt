@@ -1,5 +1,5 @@
 use Rattle.run_commands.proofs.Running.Headline.{headline-of}
-use Rattle.line_ends.proofs.RunLaws.{RunLaws}
+use Rattle.run_commands.proofs.Names.{RunLaws}
 use Rattle.run_commands.proofs.run.laws.answers_keep_the_headline.Goals as goal
 
 pub returns : goal.returns

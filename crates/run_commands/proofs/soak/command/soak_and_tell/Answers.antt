@@ -1,5 +1,4 @@
-use Rattle.run_commands.proofs.Names.{◌∙◌, ℕ, List, subst, Tells, Done, FolderState}
-use Rattle.std.proofs.Common.{map, string_bytes}
+use Rattle.run_commands.proofs.Names.{◌∙◌, ℕ, List, subst, map, string_bytes, Tells, Done, FolderState}
 use Rattle.run_commands.proofs.Soaking.Headline.{soaked, stopped}
 use Rattle.run_commands.proofs.soak.command.soak_and_tell.Goals as goal
 

@@ -1,5 +1,5 @@
-use Rattle.std.proofs.Common.{◌≡◌, ◌++◌, ◌∙◌, sym, ap, arith}
-use Rattle.run_commands.specs.Soaking.Drawing.{word_octets, drawn_octets}
+use Rattle.run_commands.proofs.Names.{◌≡◌, ◌++◌, ◌∙◌, sym, ap, arith, word_octets}
+use Rattle.run_commands.specs.Soaking.Drawing.{drawn_octets}
 use Rattle.run_commands.proofs.Soaking.DrawnWords.{drawn-none, drawn-more}
 use Rattle.run_commands.proofs.soak.files.drawn_octets.Goals as goal
 

@@ -1,4 +1,4 @@
-use Rattle.std.proofs.Common.{◌≡◌}
+use Rattle.run_commands.proofs.Names.{◌≡◌}
 use Rattle.run_commands.specs.Soaking.Drawing.{drawn_octets}
 use Rattle.run_commands.proofs.soak.files.drawn_octets.Given as goal
 

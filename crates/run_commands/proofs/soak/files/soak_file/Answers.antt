@@ -1,4 +1,4 @@
-use Rattle.std.proofs.Common.{◌∙◌, ℕ, length, ap, List}
+use Rattle.run_commands.proofs.Names.{◌∙◌, ℕ, length, ap, List}
 use Rattle.run_commands.proofs.Soaking.DrawnWords.{if-ok, length-drawn}
 use Rattle.run_commands.proofs.soak.files.soak_file.Goals as goal
 

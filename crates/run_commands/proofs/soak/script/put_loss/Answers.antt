@@ -1,4 +1,4 @@
-use Rattle.std.proofs.lemmas.Result.{on_ok_weaker}
+use Rattle.run_commands.proofs.Names.{on_ok_weaker}
 use Rattle.run_commands.proofs.Soaking.Lines.{loss-put}
 use Rattle.run_commands.proofs.soak.script.put_loss.Goals as goal
 
