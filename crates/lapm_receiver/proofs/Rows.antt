@@ -1,15 +1,15 @@
 -- Rows of slots, and what stands in them.
-use Rattle.std.proofs.Common.{◌≡◌, ℕ, zero, suc, ◌+◌, ◌-◌, ◌^◌, ◌<◌, ◌≤◌, Bool, true, false, cond, not, ◌&&◌, List, [], ◌∷◌, ◌++◌, length}
-use Rattle.std.proofs.Common.{drop, set, replicate, nat_eq, nat_lt, nat_le, Some, None, Bor, refl, sym, ap, subst, ◌∙◌, arith}
-use Rattle.std.specs.Prelude.{slice_get, unwrap_or, is_some, IfSome, Option}
+use Rattle.lapm_receiver.proofs.Names.{◌≡◌, ℕ, zero, suc, ◌+◌, ◌-◌, ◌<◌, ◌≤◌, Bool, true, false, cond, List, [], ◌∷◌, ◌++◌, length, drop}
+use Rattle.lapm_receiver.proofs.Names.{replicate, nat_eq, nat_lt, nat_le, Some, None, refl, sym, ap, subst, ◌∙◌, arith, drop_of_length-le}
+use Rattle.lapm_receiver.proofs.Names.{nat_tests, length-append, length-drop, find, slice_get, is_some, Option, Held, is_held, with_held}
+use Rattle.lapm_receiver.proofs.Names.{run_from, rest_from, missing_from, Arrived, info_at, any_held, missing_among, IsRising}
+use Rattle.std.proofs.Common.{◌^◌, ◌&&◌}
+use Rattle.std.proofs.Common.{set, Bor}
+use Rattle.std.specs.Prelude.{unwrap_or, IfSome}
 use Rattle.std.specs.Option.{option_copied}
-use Rattle.std.specs.List.{find, position, position_or_len}
-use Rattle.std.proofs.lemmas.List.{length-append, length-drop}
+use Rattle.std.specs.List.{position, position_or_len}
 use Rattle.std.proofs.lemmas.List.Sums.{prefix_len-le-length}
-use Rattle.std.proofs.Math.ListN.{drop_of_length-le}
-use Rattle.std.proofs.lemmas.Bool.Decides.{nat_tests}
-use Rattle.lapm_receiver.specs.Held.{Held, is_held, with_held, run_from, rest_from, missing_from}
-use Rattle.lapm_receiver.specs.Slots.{Arrived, is_empty, info_at, ready_of, held_from, held_after, any_held, missing_among, IsRising}
+use Rattle.lapm_receiver.specs.Slots.{is_empty, ready_of, held_from, held_after}
 
 abbrev pub Row : Type 0
 Row = List (Option (List ℕ))

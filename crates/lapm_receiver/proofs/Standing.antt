@@ -1,17 +1,13 @@
 -- What a receiver stands for after each call.
-use Rattle.std.proofs.Common.{◌≡◌, ℕ, zero, suc, ◌+◌, ◌-◌, ◌<◌, ◌≤◌, Bool, true, false, cond, ◌||◌, ◌⊎◌, inl, inr, List, [], ◌∷◌, ◌++◌}
-use Rattle.std.proofs.Common.{length, drop, nat_eq, nat_lt, nat_le, Some, None, refl, sym, ap, ◌∙◌, arith}
-use Rattle.std.specs.Prelude.{Option}
-use Rattle.std.specs.List.{find, range_with_len}
-use Rattle.std.proofs.lemmas.List.{length-append, length-drop}
+use Rattle.lapm_receiver.proofs.Names.{◌≡◌, ℕ, zero, suc, ◌+◌, ◌-◌, ◌<◌, ◌≤◌, Bool, true, false, cond, List, [], ◌∷◌, ◌++◌, length, drop}
+use Rattle.lapm_receiver.proofs.Names.{nat_eq, nat_lt, nat_le, Some, None, refl, sym, ap, ◌∙◌, arith, drop_of_length-le, nat_tests}
+use Rattle.lapm_receiver.proofs.Names.{length-append, length-drop, find, Option, Held, is_held, with_held, run_from, rest_from}
+use Rattle.lapm_receiver.proofs.Names.{missing_from, is_among, after_kind, IsRising, Taking, StandsIn, Kept}
+use Rattle.std.proofs.Common.{◌||◌, ◌⊎◌, inl, inr}
+use Rattle.std.specs.List.{range_with_len}
 use Rattle.std.proofs.Math.Seq.{drop-append_seam}
-use Rattle.std.proofs.Math.ListN.{drop_of_length-le}
-use Rattle.std.proofs.lemmas.Bool.Decides.{nat_tests}
-use Rattle.lapm_receiver.specs.declared.took.Took.TheVariants.{Kept}
-use Rattle.lapm_receiver.specs.Held.{Held, is_held, with_held, run_from, rest_from, missing_from, is_among, first_outside}
-use Rattle.lapm_receiver.specs.Slots.{IsRising}
-use Rattle.lapm_receiver.specs.Incoming.{Incoming, with_segment, after_kind, after_delivered, asks, after_asked}
-use Rattle.lapm_receiver.specs.Taking.{Taking, StandsIn}
+use Rattle.lapm_receiver.specs.Held.{first_outside}
+use Rattle.lapm_receiver.specs.Incoming.{Incoming, with_segment, after_delivered, asks, after_asked}
 
 -- what is held behind a run stays so
 rest-held : (n r : ℕ) (hs : List Held) → r + length (run_from r hs) ≤ n → is_held n (rest_from r hs) ≡ is_held n hs
