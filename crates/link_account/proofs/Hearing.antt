@@ -119,7 +119,13 @@ module _ (so sa : Setup) (o a : Account) (lo la : List Slot) where
   a-negotiating turn n told frame h e = left-o _ h
 
   a-closed : (n told : ℕ) (frame : Frame) → BeforeA (framed frame n told) → a.phase ≡ Closed → IsWellA (on_closed frame a)
-  a-closed n told (Disc pf) h e = grind (arith, left-o, changed-a)
+  a-closed n told (Disc pf) h e =
+      let g = left-o _ h in
+      changed-a so sa o a lo la g (owing (answers.Dm pf) a) refl h.line_o.0 (omega arith) (place (g.place_a))
+      (λ e. (g.early e).1) g.numbered g.flow_oa g.flow_ao
+    where
+      place : PlaceA (terms_of so sa) a.phase a → PlaceA (terms_of so sa) a.phase (owing (answers.Dm pf) a)
+      place k = subst (λ p. PlaceA (terms_of so sa) p (owing (answers.Dm pf) a)) (sym e) (subst (λ p. PlaceA (terms_of so sa) p a) e k)
   a-closed n told frame h e = left-o _ h
 
   -- SABME and DISC at a Connected answerer
@@ -147,7 +153,15 @@ module _ (so sa : Setup) (o a : Account) (lo la : List Slot) where
 
   a-frame : (turn n told : ℕ) (frame : Frame)
       → BeforeA (framed frame n told) → (p : Phase) → a.phase ≡ p → IsWellA (on_frame p frame turn a)
-  a-frame turn n told frame h q e = grind (arith, role-a, a-detecting, a-negotiating, a-connected, a-closed)
+  a-frame turn n told frame h Detecting e =
+      subst (λ r. IsWellA (on_detecting r frame turn a)) (sym (role-a so sa o a (framed frame n told ∷ lo) la h))
+      (a-detecting turn n told frame h e)
+  a-frame turn n told frame h Negotiating e =
+      subst (λ r. IsWellA (on_negotiating r frame turn a)) (sym (role-a so sa o a (framed frame n told ∷ lo) la h))
+      (a-negotiating turn n told frame h e)
+  a-frame turn n told frame h Connected e = a-connected turn n told frame h e
+  a-frame turn n told frame h Closed e = a-closed n told frame h e
+  a-frame turn n told frame h q e = absurd (subst (λ p. PlaceA (terms_of so sa) p a) e h.place_a)
 
   -- an answerer hears nothing
   pub a-nothing : Good so sa o a lo la → Good so sa o (on_nothing a) lo la

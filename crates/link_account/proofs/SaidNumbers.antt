@@ -17,7 +17,17 @@ steps : (turn : ℕ) (special : Bool) (a : Account) → Steps IsHeard turn speci
 steps turn special a = grind (arith, answer, ready)
 
 ways : (turn : ℕ) (release : Bool) (a : Account) → Ways IsHeard turn release a
-ways turn release a = grind (arith, answer, tries-alike, linked-alike, steps)
+ways turn release a = record {
+  answers = λ alone d e. answer d a;
+  flags = λ alone e. tt;
+  mark = λ p r e. tt;
+  odp = λ p r e. tt;
+  xid = λ p r. tries-alike _ _ _ _ (λ w. (tt, tt)) tt;
+  sabme = λ p. tries-alike _ _ _ _ (λ w. (tt, tt)) tt;
+  linked = λ p r. linked-alike _ _ a (λ count awaited w own. steps turn a.special _);
+  releases = λ p r. tries-alike _ _ _ _ (λ w. (tt, tt)) tt;
+  disc = λ p. tries-alike _ _ _ _ (λ w. (tt, tt)) tt;
+}
 
 pub says_numbers : SaysNumbers
 says_numbers turn release a said e = by-ways IsHeard turn release a (ways turn release a) said e
