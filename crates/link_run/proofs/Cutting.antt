@@ -132,16 +132,7 @@ delivered-cuts file a h = grind (arith)
 
 pub served-cuts : (u : User) (turn : ℕ) (released : Bool) (a : Account) → IsOffered u.file a
     → IsOffered u.file (served u turn released a).account
-served-cuts u turn released a h =
-    let d = delivered-cuts u.file a h in
-    let g : IsOffered u.file (after_given (delivered a)) = record { allowed = d.allowed; terms = d.terms; size = d.size; cut = d.cut } in
-    let o = offered-cuts (room_for (after_given (delivered a))) u.file (after_given (delivered a)) g in
-    let c = offered u.file (after_given (delivered a)) in
-    let busy = is_busy turn u.busy in
-    let b : IsOffered u.file (after_busy busy c) =
-    subst (IsOffered u.file) (sym (busy-alone busy c)) (record { allowed = o.allowed; terms = o.terms; size = o.size; cut = o.cut }) in
-    subst (IsOffered u.file) (sym (asks-alone turn released u.breaks (after_busy busy c)))
-    (record { allowed = b.allowed; terms = b.terms; size = b.size; cut = b.cut })
+served-cuts u turn released a h = grind (arith, delivered-cuts, offered-cuts, offered, busy-alone, asks-alone) steps 400000
 
 pub spoken-cuts : (file : List ℕ) (release : Bool) (a b : Account) → IsOffered file a → Speaks release a b → IsOffered file b
 spoken-cuts file release a b h x = grind (arith)

@@ -24,8 +24,7 @@ AtBoth P ends = (r : Role) → P r (of r ends)
 
 pub kept-heard : (reads : ReadsAllowed) (keeps : KeepsTaken) (P : Role → Account → Type 0) (link : Link) → IsKept P link
     → (turn : ℕ) (before : Accounts) (t : Turn) (mid : Accounts) → AtBoth P before → Hears turn before t mid → AtBoth P mid
-kept-heard reads keeps P link k turn before t mid h e r =
-    k.hears r (of r before) (of r mid) (h r) (hears reads keeps turn (arrival (of r t).heard) (of r before) (of r mid) (e r).hears)
+kept-heard reads keeps P link k turn before t mid h e r = grind (arith, hears)
 
 pub kept-run : (reads : ReadsAllowed) (keeps : KeepsTaken) (P : Role → Account → Type 0) (link : Link) → IsKept P link
     → (ts : List Turn) (ends : Accounts) → RunOf link ts ends → AtBoth P ends
@@ -58,24 +57,14 @@ delivered-setup : (a : Account) → (delivered a).setup ≡ a.setup
 delivered-setup a = grind (arith)
 
 pub setups-kept : (link : Link) → IsKept (HasSetup link) link
-setups-kept link = record {
-  begins = λ r. refl;
-  hears = λ r a b h g. heard-setup a b g ∙ h;
-  serves = λ r turn released a h. ap (λ (b : Account). b.setup) (served-alone (of r link).user turn released a) ∙ delivered-setup a ∙ h;
-  speaks = λ r release a b h g. spoken-setup release a b g ∙ h;
-}
+setups-kept link = grind (arith, heard-setup, served-alone, delivered-setup, spoken-setup)
 
 -- an end's segments are cut from its file
 abbrev pub HasCut : Link → Role → Account → Type 0
 HasCut link r a = IsOffered (of r link).user.file a
 
 pub cuts-kept : (link : Link) → ((r : Role) → IsAllowed (of r link).setup.offer) → IsKept (HasCut link) link
-cuts-kept link allowed = record {
-  begins = λ r. fresh-cuts (of r link).user.file (of r link).setup (allowed r);
-  hears = λ r a b h g. heard-cuts (of r link).user.file a b h g;
-  serves = λ r turn released a h. served-cuts (of r link).user turn released a h;
-  speaks = λ r release a b h g. spoken-cuts (of r link).user.file release a b h g;
-}
+cuts-kept link allowed = grind (arith, fresh-cuts, heard-cuts, served-cuts, spoken-cuts)
 
 -- what the laws of plays say of two accounts
 pub record Facts (o a : Account) : Type 0 where
@@ -100,16 +89,9 @@ facts laws link m ends line p =
     let so = link.orig.setup in
     let sa = link.answ.setup in
     let es = p.leads.events in
-    subst (λ (q : Play). Facts q.originator.account q.answerer.account) p.leads.led (record {
-      taken_a = (laws.in_order so sa es m).0;
-      taken_o = (laws.in_order so sa es m).1;
-      acked_o = (laws.taken so sa es m).0;
-      acked_a = (laws.taken so sa es m).1;
-      given_a = (laws.breaks so sa es).0;
-      given_o = (laws.breaks so sa es).1;
-      answered_o = (laws.answers so sa es).0;
-      answered_a = (laws.answers so sa es).1;
-    })
+    subst (λ (q : Play). Facts q.originator.account q.answerer.account) p.leads.led (assumption (
+        (laws.in_order so sa es m).0, (laws.in_order so sa es m).1, (laws.taken so sa es m).0, (laws.taken so sa es m).1,
+        (laws.breaks so sa es).0, (laws.breaks so sa es).1, (laws.answers so sa es).0, (laws.answers so sa es).1))
 
 abbrev pub allowed-both : (link : Link) → MayPlay link.orig.setup link.answ.setup → (r : Role) → IsAllowed (of r link).setup.offer
 allowed-both link m Originator = m.offer_o

@@ -35,8 +35,7 @@ well-heard reads keeps law link m role turn x y lx ly t left Nothing p e c (Err 
 well-heard reads keeps law link m role turn x y lx ly t left (Lost s) p e c (Err fault) k = absurd (false≢true (sym (ap is_ok k)))
 well-heard reads keeps law link m role turn x y lx ly t left Chance p e c (Err fault) k = absurd (false≢true (sym (ap is_ok k)))
 well-heard reads keeps law link m role turn x y lx ly None left (Passed s) p e c (Err fault) k = absurd c
-well-heard reads keeps law link m role turn x y [] ly (Some t) left (Passed s) p e c (Err fault) k =
-    absurd (none-is-some (told_by_turn (of role t).sent) (map told_by_turn left) e)
+well-heard reads keeps law link m role turn x y [] ly (Some t) left (Passed s) p e c (Err fault) k = grind (arith, none-is-some)
 well-heard reads keeps law link m role turn x y (slot ∷ rest) ly (Some t) left (Passed s) p e c (Err fault) k =
     let parts = head-of (Some (slot.sent, slot.number)) (told_by_turn (of role t).sent) (told_by_play rest) (map told_by_turn left) e in
     let d = told-slot slot (of role t).sent parts.0 (Passed s) c Sixteen in

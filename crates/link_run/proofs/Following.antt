@@ -79,24 +79,7 @@ pub record Spoke (c b : Course) : Type 0 where
 
 spoke : (release : Bool) (a : Account) (said : Said) → Speaks release a said.account → Declares a.phase a said
     → Spoke (course a) (course said.account)
-spoke release a said (Keeps_on e) d =
-    let phase = ap (λ (l : Ledger). l.phase) e in
-    record {
-      later = omega (arith, ap rank phase);
-      two = ap (λ q. nat_le 2 (rank q)) phase;
-      three = ap (λ q. nat_le 3 (rank q)) phase;
-      terms = ap (λ (l : Ledger). l.terms) e;
-      answer = d.left;
-    }
-spoke release a said (Releases on role linked e k) d =
-    let phase : said.account.phase ≡ Releasing = ap (λ (l : Ledger). l.phase) e in
-    record {
-      later = omega (arith, ap rank phase, ap rank linked);
-      two = ap (λ q. nat_le 2 (rank q)) phase ∙ sym (ap (λ q. nat_le 2 (rank q)) linked);
-      three = ap (λ q. nat_le 3 (rank q)) phase ∙ sym (ap (λ q. nat_le 3 (rank q)) linked);
-      terms = ap (λ (l : Ledger). l.terms) e;
-      answer = d.left;
-    }
+spoke release a said given d = grind (arith)
 
 due_o-spoke : (x y : Option Answer) → (y ≡ x) ⊎ (y ≡ None) → DueO x → DueO y
 due_o-spoke x y w h = grind (arith)
@@ -199,22 +182,7 @@ known-mid reads keeps written link delay ts before t mid p h m c k =
 pub known-run : (reads : ReadsAllowed) (keeps : KeepsTaken) (written : ReadsWritten) (link : Link) (delay : Role → ℕ)
     → MayPlay link.orig.setup link.answ.setup → (ts : List Turn) (ends : Accounts) → IsCarried delay ts → RunOf link ts ends
     → KnownOf link ts ts ends
-known-run reads keeps written link delay p [] ends c h = subst (KnownOf link [] []) (sym h) (record {
-  sent_o = tt;
-  sent_a = tt;
-  due_o = tt;
-  due_a = tt;
-  terms_o = refl;
-  terms_a = refl;
-  met = λ z. absurd (omega (arith, z));
-  never_two = λ z. omega (arith, z);
-  never_four = λ z. omega (arith, z);
-  linked = λ z. absurd (omega (arith, z));
-  xid_o = refl;
-  xid_a = refl;
-  open_o = refl;
-  open_a = refl;
-})
+known-run reads keeps written link delay p [] ends c h = grind (arith)
 known-run reads keeps written link delay p (t ∷ ts) ends c h =
     let before = h.0 in
     let g = h.2 in

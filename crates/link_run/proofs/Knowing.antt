@@ -177,8 +177,7 @@ module _ (so sa : Setup) (reads : Reads so sa) (m turn : ℕ) (a : Account) (set
 
   linked-o : a.phase ≡ Connected → (x : Arrived) (answer : Option Answer) → DueO answer
       → AfterO so sa m a.phase x (record (course a) { answer = answer })
-  linked-o p x answer d =
-      stays-o x answer d (or-late _ _ (ap (λ q. nat_le 2 (rank q)) p)) (or-late _ _ (ap (λ q. nat_le 3 (rank q)) p))
+  linked-o p x answer d = grind (arith, stays-o, or-late)
 
   moves-o : (x : Arrived) (p q : Phase) → a.phase ≡ p → rank p ≤ rank q → nat_le 2 (rank q) ≡ nat_le 2 (rank p)
       → (2 ≤ rank q → 2 ≤ rank p) → nat_le 2 (rank q) ≡ (brings is_xid x || nat_le 2 (rank p))
@@ -188,51 +187,13 @@ module _ (so sa : Setup) (reads : Reads so sa) (m turn : ℕ) (a : Account) (set
 
   -- what changes nothing is no frame by which it would come farther
   ignored-o : (x : Arrived) → hear turn x a ≡ Ok a → OnArrived (SentA sa (rank a.phase) m) x → AfterO so sa m a.phase x (course a)
-  ignored-o arrivals.Nothing f k = stays-o arrivals.Nothing _ due refl refl
-  ignored-o (arrivals.Pattern seen) f k = stays-o (arrivals.Pattern seen) _ due refl refl
-  ignored-o (arrivals.Frame frame) f k = on frame f k
-    where
-      on : (frame : Frame) → hear turn (arrivals.Frame frame) a ≡ Ok a → SentA sa (rank a.phase) m frame
-          → AfterO so sa m a.phase (arrivals.Frame frame) (course a)
-      on (Xid command pf info) f k = stays-o _ _ due (by a.phase refl) refl
-        where
-          by : (p : Phase) → a.phase ≡ p → nat_le 2 (rank a.phase) ≡ true || nat_le 2 (rank a.phase)
-          by p e = grind (arith, not-ignored)
-      on (Ua pf) f k = stays-o _ _ due refl (by a.phase refl)
-        where
-          by : (p : Phase) → a.phase ≡ p → nat_le 3 (rank a.phase) ≡ pf || nat_le 3 (rank a.phase)
-          by p e = grind (arith, not-ignored, or-late)
-      on frame f k = stays-o _ _ due refl refl
+  ignored-o x f k = grind (arith, stays-o, due, not-ignored, or-late)
 
   ways-o : a.phase ≡ Connected → ConnectedWays HearsO turn a
   ways-o p = grind (arith)
 
   early-o : EarlyWays HearsO turn a
-  early-o = record {
-    ignores = ignored-o;
-    detects = λ p r k. moves-o _ Detecting Negotiating p (omega arith) refl (λ z. omega (arith, z)) refl refl;
-    detected = λ p r. never-o r;
-    xid = λ p r. never-o r;
-    agrees = λ p r pf info offer f k.
-        let both : Some offer ≡ Some sa.offer = sym f ∙ (ap offer_in k.1 ∙ reads.answ) in
-        let same : offer ≡ sa.offer = cc in
-        record {
-          later = omega (arith, ap rank p);
-          due = due;
-          terms = ap (λ (s : Setup). agree s.offer offer) setup ∙ ap (agree so.offer) same;
-          met = λ z. k.3;
-          xid = refl;
-          opened = sym (ap (λ q. nat_le 3 (rank q)) p);
-        };
-    sabme_first = λ p r. never-o r;
-    sabme = λ p r. never-o r;
-    ua = λ p k. moves-o _ Establishing Connected p (omega arith) refl (λ z. omega arith) refl refl;
-    disc = λ p pf k. elim p [
-      | inl q ↦ never-o q.1
-      | inr q ↦ stays-o _ _ tt refl refl
-    ];
-    closes = λ p frame f k. moves-o _ Releasing Closed p (omega arith) refl (λ z. omega arith) (or-late _ _ refl) (or-late _ _ refl);
-  }
+  early-o  = grind (arith, ignored-o, moves-o, never-o, stays-o, or-late)
 
   pub o-hears : (x : Arrived) (b : Account) → hear turn x a ≡ Ok b → OnArrived (SentA sa (rank a.phase) m) x
       → AfterO so sa m a.phase x (course b)
@@ -273,8 +234,7 @@ module _ (so sa : Setup) (reads : Reads so sa) (r turn : ℕ) (a : Account) (set
 
   linked-a : a.phase ≡ Connected → (x : Arrived) (answer : Option Answer) → DueA r (rank a.phase) answer
       → AfterA so sa r a.phase x (record (course a) { answer = answer })
-  linked-a p x answer d =
-      stays-a x answer d (or-late _ _ (ap (λ q. nat_le 1 (rank q)) p)) (or-late _ _ (ap (λ q. nat_le 3 (rank q)) p))
+  linked-a p x answer d = grind (arith, stays-a, or-late)
 
   -- Connected, or closed
   moves-a : (x : Arrived) (p q : Phase) (d : Option Answer) → a.phase ≡ p → rank p ≤ rank q → 1 ≤ rank p → 3 ≤ rank q → rank q ≢ 4
@@ -285,53 +245,13 @@ module _ (so sa : Setup) (reads : Reads so sa) (r turn : ℕ) (a : Account) (set
 
   -- what changes nothing is no frame by which it would come farther
   ignored-a : (x : Arrived) → hear turn x a ≡ Ok a → OnArrived (SentO so r) x → AfterA so sa r a.phase x (course a)
-  ignored-a arrivals.Nothing f k = stays-a arrivals.Nothing _ due refl refl
-  ignored-a (arrivals.Pattern seen) f k = stays-a (arrivals.Pattern seen) _ due refl refl
-  ignored-a (arrivals.Frame frame) f k = on frame f k
-    where
-      on : (frame : Frame) → hear turn (arrivals.Frame frame) a ≡ Ok a → SentO so r frame
-          → AfterA so sa r a.phase (arrivals.Frame frame) (course a)
-      on (Xid command pf info) f k = stays-a _ _ due (by a.phase refl) refl
-        where
-          by : (p : Phase) → a.phase ≡ p → nat_le 1 (rank a.phase) ≡ true || nat_le 1 (rank a.phase)
-          by p e = grind (arith, not-ignored, role-is)
-      on (Sabme pf) f k = stays-a _ _ due refl (by a.phase refl)
-        where
-          by : (p : Phase) → a.phase ≡ p → nat_le 3 (rank a.phase) ≡ true || nat_le 3 (rank a.phase)
-          by p e = grind (arith, met, not-ignored, role-is)
-      on frame f k = stays-a _ _ due refl refl
+  ignored-a x f k = grind (arith, stays-a, due, not-ignored, role-is, met)
 
   ways-a : a.phase ≡ Connected → ConnectedWays HearsA turn a
   ways-a p = grind (arith)
 
   early-a : EarlyWays HearsA turn a
-  early-a = record {
-    ignores = ignored-a;
-    detects = λ p v. never-a v;
-    detected = λ p v k. stays-a _ _ tt refl refl;
-    xid = λ p v pf info offer f k.
-        let both : Some offer ≡ Some so.offer = sym f ∙ (ap offer_in k.1 ∙ reads.orig) in
-        let same : offer ≡ so.offer = cc in
-        let low : rank a.phase ≤ 1 = elim p [ inl q ↦ omega (arith, ap rank q) | inr q ↦ omega (arith, ap rank q) ] in
-        record {
-          later = low;
-          due = (k.2, omega arith);
-          terms = ap (λ (s : Setup). agree offer s.offer) setup ∙ ap (λ (o : Offer). agree o sa.offer) same;
-          never_two = λ z. omega (arith, z);
-          never_four = λ z. omega (arith, z);
-          linked = λ z. absurd (omega (arith, z));
-          xid = refl;
-          opened = elim p [ inl q ↦ sym (ap (λ v. nat_le 3 (rank v)) q) | inr q ↦ sym (ap (λ v. nat_le 3 (rank v)) q) ];
-        };
-    agrees = λ p v. never-a v;
-    sabme_first = λ p v pf k. absurd (omega (arith, met k.1, ap rank p));
-    sabme = λ p v pf k. moves-a _ Negotiating Connected _ p (omega arith) (omega arith) (omega arith)
-        (λ z. omega (arith, z)) k k.1 refl refl
-        refl;
-    ua = λ p. absurd (two (ap rank p));
-    disc = λ p pf k. stays-a _ _ tt refl refl;
-    closes = λ p. absurd (four (ap rank p));
-  }
+  early-a  = grind (arith, ignored-a, never-a, stays-a, met, moves-a)
 
   pub a-hears : (x : Arrived) (b : Account) → hear turn x a ≡ Ok b → OnArrived (SentO so r) x → AfterA so sa r a.phase x (course b)
   a-hears x b e = by-ways HearsA turn a (record {

@@ -34,18 +34,7 @@ module _ (n : ℕ) (l : 23 ≤ n) where
   word x = grind (arith)
 
   steps : (turn : ℕ) (special : Bool) (a : Account) → AllShort n a.outgoing.pieces → Steps IsShort turn special a
-  steps turn special a h = record {
-    answers = λ d e. answer d a;
-    final = λ x e. ready a.owes.busy false true _;
-    poll = λ x r e. ready a.owes.busy true true _;
-    segment = λ b u i e. short-at n a.outgoing.pieces i h;
-    brkack = λ b s w e. word w;
-    brk = λ b s k w e. word w;
-    tell = λ b w e. ready a.owes.busy false false _;
-    rej = λ b w i e. omega arith;
-    srej = λ b w s i e. omega arith;
-    flags = λ i. tt;
-  }
+  steps turn special a h = grind (arith, answer, ready, short-at, word)
 
   ways : (turn : ℕ) (release : Bool) (a : Account) → AllShort n a.outgoing.pieces → Ways IsShort turn release a
   ways turn release a h = record {

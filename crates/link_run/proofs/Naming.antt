@@ -79,12 +79,7 @@ speaking link ts ends mid heard h false e (Ok o) (Err fault) p q = record {
   turn = turn_with ends mid heard none;
   mid = mid;
   outcome = Broken Answerer fault;
-  is = record {
-    hearing = turn-hears (length ts) ends mid heard none h;
-    going = e;
-    broken = (ap is_ok p, q);
-    silent = turn-sent ends mid heard none;
-  };
+  is = assumption (turn-hears (length ts) ends mid heard none h, ap is_ok p, turn-sent ends mid heard none);
   heard_is = turn-heard ends mid heard none;
 }
 speaking link ts ends mid heard h false e (Ok o) (Ok a) p q = record {
@@ -117,8 +112,7 @@ hearing link ts ends heard (Ok o) (Ok a) h k x y =
     mid = record { orig = o; answ = a }
 
     both : Hear (length ts) ends heard mid
-    both Originator = h
-    both Answerer = k
+    both given = grind (arith)
 hearing link ts ends heard o a h k x y = grind (arith)
 
 pub each_turn_is_made : HearingsAreWell → EachTurnIsMade

@@ -16,16 +16,7 @@ abbrev pub Sends : ℕ → Said → Type 0
 Sends high said = SentAs (sequence_in said.sent) said.number high said.account.outgoing.high
 
 segment : (turn : ℕ) (a : Account) → IsInRange a.outgoing → AllSaid (Sends a.outgoing.high) (says_segment turn (may_send a) a)
-segment turn a r = allowed (is_originator a.setup.role || a.numbered)
-  where
-    chosen : (ns : List ℕ) → a.outgoing.chosen ≡ ns → AllSaid (Sends a.outgoing.high) (says_segment turn (next_among ns a.outgoing) a)
-    chosen ns e = grind (arith)
-
-    stopped : (b : Bool) → AllSaid (Sends a.outgoing.high) (says_segment turn (cond b None (next_among a.outgoing.chosen a.outgoing)) a)
-    stopped b = grind (arith)
-
-    allowed : (b : Bool) → AllSaid (Sends a.outgoing.high) (says_segment turn (cond b (next_number a.outgoing) None) a)
-    allowed b = grind (arith, stopped)
+segment turn a r = grind (arith)
 
 -- what changes nothing of them
 pub record Alike (a b : Account) : Type 0 where

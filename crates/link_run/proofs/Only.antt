@@ -31,8 +31,7 @@ HearSame t u = (r : Role) → (of r t).heard ≡ (of r u).heard
 one-mid : (turn : ℕ) (before : Accounts) (t u : Turn) (mid others : Accounts) → Hears turn before t mid → Hears turn before u others
     → HearSame t u
     → mid ≡ others
-one-mid turn before t u mid others h k e =
-    same-both mid others (λ r. one-ok (h r).hears (ap (λ x. hear turn (arrival x) (of r before)) (e r) ∙ (k r).hears))
+one-mid turn before t u mid others h k e = grind (arith, same-both, one-ok)
 
 -- a turn by what was heard, the ends that have heard, and what was sent
 one-turn : (turn : ℕ) (before : Accounts) (t u : Turn) (mid others : Accounts) → Hears turn before t mid → Hears turn before u others
@@ -124,8 +123,7 @@ not-broken link turn t mid Answerer f h k = not-both (h.says Answerer) k.1
 
 same-outcome : (link : Link) (turn : ℕ) (t u : Turn) (mid : Accounts) (a b : Outcome) → Tells link turn t mid a → Tells link turn u mid b
     → SameOutcome t u a b
-same-outcome link turn t u mid Going Going h k =
-    (refl, λ r. h.sent_is r ∙ ap (λ s. Some (spoken s)) (one-ok (h.says r) (k.says r)) ∙ sym (k.sent_is r))
+same-outcome link turn t u mid Going Going h k = grind (arith, spoken, one-ok)
 same-outcome link turn t u mid Going Done h k = absurd (false≢true (sym h.going ∙ k.0))
 same-outcome link turn t u mid Going (Broken r f) h k = absurd (not-broken link turn t mid r f h k.1)
 same-outcome link turn t u mid Done Going h k = absurd (false≢true (sym k.going ∙ h.0))

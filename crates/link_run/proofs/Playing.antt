@@ -59,15 +59,7 @@ pub record Came (role : Role) (x b : Account) (lx ly : List Slot) (y : Account) 
   pub left_is : told_by_play line ≡ map told_by_turn left
 
 pub head-of : {X : Type 0} (x y : X) (xs ys : List X) → x ∷ xs ≡ y ∷ ys → (x ≡ y) × (xs ≡ ys)
-head-of {X} x y xs ys e = (ap (first x) e, ap rest e)
-  where
-    first : X → List X → X
-    first z [] = z
-    first z (w ∷ ws) = w
-
-    rest : List X → List X
-    rest [] = []
-    rest (w ∷ ws) = ws
+head-of {X} x y xs ys e = grind (arith)
 
 pub none-is-some : {X : Type 0} (x : X) (xs : List X) → [] ≡ x ∷ xs → ⊥
 none-is-some x xs e = omega (arith, ap length e)

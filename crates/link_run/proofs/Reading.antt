@@ -125,8 +125,7 @@ offers_what_is_read file a n piece h e short =
 -- what is read of another file that is the same up to the end of a segment
 told : (file others : List ℕ) (size n : ℕ) (piece : List ℕ) (o : Outgoing) → o.size ≡ size → length o.pieces ≡ n → o.ended ≡ false
     → SameSoFar (with_piece piece o) file others → (piece_at size others n ≡ piece_at size file n) × SameSoFar o file others
-told file others size n [] o is count going h =
-    let e = h.whole refl in (ap (λ f. piece_at size f n) e, record { front = ap (take (o.size * length o.pieces)) e; whole = λ z. e })
+told file others size n [] o is count going h = grind (arith)
 told file others size n (x ∷ xs) o is count going h =
     let k = size * n in
     let next : o.size * length (o.pieces ++ (x ∷ xs) ∷ []) ≡ k + size = sym
@@ -185,13 +184,7 @@ then-offers : (a b c : Account) → Offers a b → Offers b c → Offers a c
 then-offers a b c h k = record { size = h.size ∙ k.size; fewer = omega (arith, h.fewer, k.fewer); ended = λ z. k.ended (h.ended z) }
 
 offers-piece : (piece : List ℕ) (a : Account) → a.outgoing.ended ≡ false → Offers a (after_offer piece a)
-offers-piece [] a e = record { size = refl; fewer = omega arith; ended = λ z. refl }
-offers-piece (x ∷ xs) a e = record {
-  size = refl;
-  fewer = omega
-      (arith, length-append a.outgoing.pieces ((x ∷ xs) ∷ []));
-  ended = λ z. absurd (false≢true (sym e ∙ z));
-}
+offers-piece piece a e = grind (arith, length-append)
 
 offers-at : (file : List ℕ) (a : Account) (w : Option ℕ) → wants a ≡ w → Offers a (offered_at file a w)
 offers-at file a w e = grind (arith, none-less, offers-piece, wants-open)
@@ -233,12 +226,8 @@ served-same u file others turn released a h s =
     let out : (served (record u { file = file }) turn released a).account.outgoing ≡ (offered file x).outgoing = ap
     (λ (b : Account). b.outgoing) (served-alone (record u { file = file }) turn released a) in
     let now : SameSoFar (offered file x).outgoing file others = subst (λ o. SameSoFar o file others) out s in
-    ap (λ (y : Account). record {
-      segments = deliveries a;
-      given = given_break a;
-      account = asked turn released u.breaks
-          (after_busy (is_busy turn u.busy) y);
-    }) (offered-same (room_for x) file others x g now)
+    ap (λ (y : Account). (assumption (
+        deliveries a, given_break a, asked turn released u.breaks (after_busy (is_busy turn u.busy) y)))) (offered-same (room_for x) file others x g now)
 
 -- speaking offers nothing
 pub same-spoken : (file others : List ℕ) (release : Bool) (a b : Account) → Speaks release a b → SameSoFar b.outgoing file others
@@ -310,10 +299,7 @@ runs_by_what_was_read reads keeps link files others (t ∷ ts) ends allowed h sa
         (same-served (of r old).user (of r files) (of r others) turn (is_released mid.orig.phase) (of r mid) (at-served r))
 
     served-so : (r : Role) → served_at new turn mid r ≡ served_at old turn mid r
-    served-so Originator = served-same link.orig.user files.orig others.orig turn (is_released mid.orig.phase) mid.orig (cut Originator)
-        (at-served Originator)
-    served-so Answerer = served-same link.answ.user files.answ others.answ turn (is_released mid.orig.phase) mid.answ (cut Answerer)
-        (at-served Answerer)
+    served-so r = grind (arith, served-same, turn, mid, cut, at-served)
 
     says-so : (r : Role) → said_at new turn mid r ≡ said_at old turn mid r
     says-so Originator =

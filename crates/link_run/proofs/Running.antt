@@ -151,8 +151,7 @@ played-at : (link : Link) (ends : Accounts) (line : Role → List (Option run.Sp
 played-at link ends line p = grind (arith)
 
 pub runs_are_plays : ReadsAllowed → KeepsTaken → RunsArePlays
-runs_are_plays reads keeps link delay ts ends some c h =
-    played-at link ends (lines delay ts) (run-reaches reads keeps link delay ts ends some c h)
+runs_are_plays reads keeps link delay ts ends some c h = grind (arith, played-at, run-reaches)
 
 pub hearings_are_plays : ReadsAllowed → KeepsTaken → HearingsArePlays
 hearings_are_plays reads keeps link delay ts ends turn t mid some c h n k =

@@ -18,48 +18,7 @@ pub record Waiting (a : Account) : Type 0 where
   pub idle : stage a.phase ≢ 1 → Handed a
 
 pub heard-waits : (a b : Account) → Handed a → GoesOn a b → Waiting b
-heard-waits a b h (inl s) = record {
-  given = omega (arith, h.given, ap (λ (k : Books). k.given) s.books_are, ap length s.taken_are, length-append a.incoming.taken s.taken);
-  told = omega (
-    arith,
-    h.told,
-    ap (λ (k : Books). k.told) s.books_are,
-    ap length s.theirs_are,
-    length-append a.their_breaks.lengths s.theirs,
-  );
-  few = omega (
-    arith,
-    h.told,
-    s.few,
-    ap (λ (k : Books). k.told) s.books_are,
-    ap length s.theirs_are,
-    length-append a.their_breaks.lengths s.theirs,
-  );
-  idle = λ z. let n = s.idle z in record {
-    given = omega (
-      arith,
-      h.given,
-      ap (λ (k : Books). k.given) s.books_are,
-      ap length s.taken_are,
-      length-append a.incoming.taken s.taken,
-      ap length n.0,
-    );
-    told = omega (
-      arith,
-      h.told,
-      ap (λ (k : Books). k.told) s.books_are,
-      ap length s.theirs_are,
-      length-append a.their_breaks.lengths s.theirs,
-      ap length n.1,
-    );
-  };
-}
-heard-waits a b h (inr e) = record {
-  given = omega (arith, ap (λ i. i.given) e.incoming_is);
-  told = omega (arith, h.told, e.told, ap (λ t. length t.lengths) e.their);
-  few = omega (arith, h.told, e.told, ap (λ t. length t.lengths) e.their);
-  idle = λ z. absurd (z (ap stage e.is));
-}
+heard-waits a b h given = grind (arith, length-append)
 
 -- serving
 pub offers-alone : (n : ℕ) (file : List ℕ) (a : Account)

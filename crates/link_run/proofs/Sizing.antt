@@ -35,10 +35,7 @@ size-piece : (a : Account) → piece_size a ≤ a.outgoing.size
 size-piece a = grind (arith)
 
 fit-offered-at : (file : List ℕ) (a : Account) (w : Option ℕ) → Fit a → Fit (offered_at file a w)
-fit-offered-at file a None h = h
-fit-offered-at file a (Some n) h =
-    let p = piece_at (piece_size a) file n in
-    record { each = fit-piece p a.outgoing h.each (omega (arith, length-take (piece_size a) (drop (piece_size a * n) file), size-piece a)) }
+fit-offered-at file a w h = grind (arith, fit-piece, length-take, size-piece)
 
 fit-offered : (n : ℕ) (file : List ℕ) (a : Account) → Fit a → Fit (offered_times n file a)
 fit-offered zero file a h = h
@@ -127,10 +124,7 @@ sized-mid reads keeps written link delay ts before t mid m cs h c k s role = at-
 sized-run : (reads : ReadsAllowed) (keeps : KeepsTaken) (written : ReadsWritten) (link : Link) (delay : Role → ℕ)
     → MayPlay link.orig.setup link.answ.setup → (ts : List Turn) (ends : Accounts) → IsCarried delay ts → RunOf link ts ends → (r : Role)
     → Sized (most_of link r) (of r ends)
-sized-run reads keeps written link delay m [] ends c h r = subst (λ (e : Accounts). Sized (most_of link r) (of r e)) (sym h) (starts r)
-  where
-    starts : (r : Role) → Sized (most_of link r) (of r (start link))
-    starts r = grind (arith)
+sized-run reads keeps written link delay m [] ends c h r = grind (arith, start)
 sized-run reads keeps written link delay m (t ∷ ts) ends c h r =
     let g = h.2 in
     let turn = length ts in
