@@ -1,13 +1,14 @@
 -- What is kept of the segments that pass, by their numbers alone, is what a receiver's part takes and holds.
-use Rattle.std.proofs.lemmas.Bool.{or_from, or_right, or_left}
-use Rattle.std.proofs.Common.{◌≡◌, ◌≢◌, ℕ, zero, suc, ◌+◌, ◌-◌, ◌%◌, ◌<◌, ◌≤◌, ◌||◌, max, Bool, true, false, cond, nat_eq, nat_lt, List, []}
-use Rattle.std.proofs.Common.{◌∷◌, ◌++◌, length, slice_index_or, arith, length-append, refl, sym, ◌∙◌, ap, subst}
-use Rattle.link_account.proofs.Names.{false≢true, nat_tests, append_assoc, AllByRecursion, Incoming, kind_of, offset, after_kind}
-use Rattle.link_account.proofs.Names.{after_take, next_expected, Took, InOrder, Kept, Repeat, Gap}
+use Rattle.link_run.proofs.Names.{◌≡◌, ◌≢◌, ℕ, zero, suc, ◌+◌, ◌-◌, ◌%◌, ◌<◌, ◌≤◌, ◌||◌, max, Bool, true, false, cond, nat_eq, nat_lt, List}
+use Rattle.link_run.proofs.Names.{[], ◌∷◌, ◌++◌, length, slice_index_or, arith, length-append, refl, sym, ◌∙◌, ap, subst, or_right, or_left}
+use Rattle.link_run.proofs.Names.{concat, Held, is_held, rest_from, run_from, with_held, kind_at, false≢true, nat_tests, append_assoc}
+use Rattle.link_run.proofs.Names.{Incoming, kind_of, offset, after_kind, after_take, Took, InOrder, Kept, IsTakenBy, Segment, keeping}
+use Rattle.link_run.proofs.Names.{octets_in}
+use Rattle.std.proofs.lemmas.Bool.{or_from}
+use Rattle.link_account.proofs.Names.{AllByRecursion}
+use Rattle.link_account.proofs.Names.{next_expected, Repeat}
 use borrow.Author.Tests.{eqb-true}
-use Rattle.std.specs.List.{concat}
-use Rattle.link_run.proofs.Names.{Held, IsTakenBy, is_held, kind_at, rest_from, run_from, with_held}
-use Rattle.link_run.specs.Taken.{Segment, is_among, beyond, missing_from, missing, keeping, info_of, infos_from, octets_in}
+use Rattle.link_run.specs.Taken.{is_among, beyond, missing_from, missing, info_of, infos_from}
 
 -- what is held rises from a number on
 abbrev pub Rises : ℕ → List Held → Type 0

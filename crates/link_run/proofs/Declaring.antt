@@ -1,9 +1,7 @@
 -- What an end says by U frames, and in which phase: its own offer, its commands with P = 1, and the answers that it owes.
-use Rattle.std.proofs.Common.{arith, ◌≡◌, ◌⊎◌, inl, inr, ℕ, Bool, true, false, refl, Option, Some, None, Ok}
-use Rattle.link_account.proofs.Names.{Originator, Frame, Sabme, Disc, Ua, Xid, written, Sent, Account, Said, speak, frame_for, ready_frame}
-use Rattle.link_account.proofs.Names.{trying}
-use Rattle.link_run.proofs.Names.{Answer, Establishing, Negotiating, Phase, Releasing, Setup, Tries, Ways, by-ways, linked-alike}
-use Rattle.link_run.proofs.Names.{tries-alike}
+use Rattle.link_run.proofs.Names.{arith, ◌≡◌, ◌⊎◌, inl, ℕ, Bool, true, false, Option, Some, None, Ok, Originator, Frame, Sabme, Disc, Ua}
+use Rattle.link_run.proofs.Names.{Xid, written, Sent, Account, Said, speak, frame_for, ready_frame, trying, Tries, Ways, by-ways}
+use Rattle.link_run.proofs.Names.{linked-alike, tries-alike, Answer, Phase, Establishing, Negotiating, Setup}
 use Rattle.lapm_frames.specs.declared.sent.Sent.TheVariants as slots
 use Rattle.link_account.specs.declared.answer.Answer.TheVariants as answers
 

@@ -1,13 +1,12 @@
 -- Once the originator was told to release, nothing of both files or of any break is left; so done means whole.
 use Rattle.std.proofs.lemmas.Bool.{and_parts}
-use Rattle.std.proofs.Common.{◌≡◌, ℕ, zero, suc, ◌≤◌, ◌&&◌, ◌||◌, not, Bool, true, false, List, [], ◌∷◌, ◌++◌, length, arith, length-append}
-use Rattle.std.proofs.Common.{refl, sym, ◌∙◌, ap, subst, Option, None, Ok}
-use Rattle.link_account.proofs.Names.{append-nil, IsPrefixOf, Role, Originator, Answerer, of, ReadsAllowed, Outgoing, KeepsTaken, Account}
-use Rattle.link_account.proofs.Names.{is_connected, wants, after_given, after_busy, Said, MayPlay}
-use Rattle.link_run.proofs.Names.{Accounts, DoneIsWhole, HasDelays, Hears, HoldWhole, IsCarried, Link, Phase, RunOf, Setup, Turn, User}
-use Rattle.link_run.proofs.Names.{arrival, at, delivered, finished_at, has_finished, is_busy, is_closed, is_released, offered_at}
-use Rattle.link_run.proofs.Names.{offered_times, releases, room_for, said_at, served, served_at, served_ends}
-use Rattle.std.specs.List.{concat}
+use Rattle.link_run.proofs.Names.{◌≡◌, ℕ, zero, suc, ◌≤◌, ◌||◌, Bool, true, false, List, [], ◌∷◌, ◌++◌, length, arith, length-append, refl}
+use Rattle.link_run.proofs.Names.{sym, ◌∙◌, ap, subst, Option, None, Ok, concat, at, append-nil, IsPrefixOf, Role, Originator, Answerer, of}
+use Rattle.link_run.proofs.Names.{ReadsAllowed, KeepsTaken, Account, is_connected, wants, after_given, Said, MayPlay, Phase, Setup}
+use Rattle.link_run.proofs.Names.{HasDelays, IsCarried, User, delivered, has_finished, is_closed, is_released, offered_at, offered_times}
+use Rattle.link_run.proofs.Names.{served, DoneIsWhole, HoldWhole, Accounts, Hears, Link, RunOf, Turn, arrival, finished_at, releases}
+use Rattle.link_run.proofs.Names.{said_at, served_at, served_ends}
+use Rattle.std.proofs.Common.{not}
 use Rattle.link_run.proofs.Keeping.{stage, GoesOn, hears, standing, stands-heard}
 use Rattle.link_run.proofs.Speaking.{Ledger, Speaks, Keeps_on, Releases, stands-spoken}
 use Rattle.link_run.proofs.Serving.{Waiting, served-alone, busy-alone}
@@ -202,8 +201,9 @@ whole-prefix {X} xs ys p h = go p.0 p.1
 
 whole : (link : Link) (mid : Accounts) → Over mid.orig mid.answ → Facts mid.orig mid.answ → AtBoth (HasCut link) mid → HoldWhole link mid
 whole link mid h f c Originator = assumption (
-    ap concat (whole-prefix mid.orig.incoming.taken mid.answ.outgoing.pieces f.taken_o h.a_taken) ∙ (c Answerer).cut.whole h.a_ended,
-    whole-prefix mid.orig.their_breaks.lengths mid.answ.own_breaks.lengths f.given_o h.a_breaks)
+  ap concat (whole-prefix mid.orig.incoming.taken mid.answ.outgoing.pieces f.taken_o h.a_taken) ∙ (c Answerer).cut.whole h.a_ended,
+  whole-prefix mid.orig.their_breaks.lengths mid.answ.own_breaks.lengths f.given_o h.a_breaks,
+)
 whole link mid h f c Answerer = record {
   file_is = ap concat (whole-prefix mid.answ.incoming.taken mid.orig.outgoing.pieces f.taken_a (omega (arith, f.acked_o, h.o_front)))
       ∙ (c Originator).cut.whole h.o_ended;

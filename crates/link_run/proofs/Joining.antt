@@ -1,13 +1,12 @@
 -- How far both ends have come, by what each has sent: neither is sent numbered frames before it is Connected, and the answerer is closed
 -- only once
 -- the originator releases.
-use Rattle.std.proofs.lemmas.Bool.{or_cases, or_right, or_left}
-use Rattle.std.proofs.Common.{◌≡◌, ◌≢◌, ◌⊎◌, inl, inr, ℕ, zero, suc, ◌-◌, ◌≤◌, ◌||◌, Bool, true, false, List, [], ◌∷◌, length, arith, refl}
-use Rattle.std.proofs.Common.{sym, ◌∙◌, ap, subst, Option, Some, None, slice_get}
-use Rattle.link_account.proofs.Names.{false≢true, Role, Originator, Answerer, Frame, ReadsAllowed, KeepsTaken, Account, after_busy}
-use Rattle.link_account.proofs.Names.{after_given, Said, MayPlay, Heard, of}
-use Rattle.link_run.proofs.Names.{Setup, User, delivered, room_for, offered, is_busy, served, is_released, Link, Accounts, Turn, Spoken}
-use Rattle.link_run.proofs.Names.{spoken, arrival, Hears, RunOf, served_at, sent_in, sent_ago, Crosses, Carries, IsCarried}
+use Rattle.link_run.proofs.Names.{◌≡◌, ◌≢◌, ◌⊎◌, ℕ, zero, suc, ◌-◌, ◌≤◌, ◌||◌, Bool, true, false, List, [], ◌∷◌, length, arith, refl, sym}
+use Rattle.link_run.proofs.Names.{◌∙◌, ap, subst, Option, Some, None, slice_get, or_right, or_left, false≢true, Role, Originator, Answerer}
+use Rattle.link_run.proofs.Names.{Frame, ReadsAllowed, KeepsTaken, Account, after_busy, Said, MayPlay, Heard, of, Setup, sent_in, sent_ago}
+use Rattle.link_run.proofs.Names.{Crosses, Carries, IsCarried, User, delivered, offered, served, is_released, Link, Accounts, Turn, Spoken}
+use Rattle.link_run.proofs.Names.{spoken, arrival, Hears, RunOf, served_at}
+use Rattle.std.proofs.lemmas.Bool.{or_cases}
 use Rattle.link_run.proofs.Keeping.{stage, GoesOn, hears}
 use Rattle.link_run.proofs.Speaking.{Speaks}
 use Rattle.link_run.proofs.Serving.{served-alone, offers-alone}

@@ -1,12 +1,12 @@
 -- What an end keeps of its books as it hears and speaks.
-use Rattle.std.proofs.Common.{◌≡◌, ◌≢◌, ◌⊎◌, inl, inr, ℕ, ◌≤◌, Bool, false, List, [], ◌∷◌, ◌++◌, length, arith, refl, sym, ◌∙◌, ap, subst}
-use Rattle.std.proofs.Common.{Option, Some, None, Ok}
-use Rattle.link_account.proofs.Names.{false≢true, append-nil, is_connected, Role, Originator, Answerer, Offer, Terms, agree, IsAllowed}
-use Rattle.link_account.proofs.Names.{ReadsAllowed, Outgoing, Incoming, after_take, after_kind, kind_of, offset, KeepsTaken, Took}
-use Rattle.link_account.proofs.Names.{OwnBreaks, after_answer, Arrived, Account, hear, on_nothing, owing, trying, is_originator}
-use Rattle.link_run.proofs.Names.{Closed, Connected, Negotiating, NumberKeeps, Phase, Releasing, Setup, TheirBreaks, acked-keeps}
-use Rattle.link_run.proofs.Names.{acked_back-keeps, after_break, connected, gives, has_begun, numbered_with, paused-keeps, resumed-keeps}
-use Rattle.link_run.proofs.Names.{size_for, window_for, with_given}
+use Rattle.link_run.proofs.Names.{◌≡◌, ◌≢◌, ◌⊎◌, inl, inr, ℕ, ◌≤◌, Bool, false, List, [], ◌∷◌, ◌++◌, length, arith, refl, sym, ◌∙◌, ap}
+use Rattle.link_run.proofs.Names.{subst, Option, Some, None, Ok, TheirBreaks, after_break, gives, with_given, NumberKeeps, acked-keeps}
+use Rattle.link_run.proofs.Names.{acked_back-keeps, numbered_with, paused-keeps, resumed-keeps, false≢true, append-nil, is_connected, Role}
+use Rattle.link_run.proofs.Names.{Originator, Answerer, Terms, agree, IsAllowed, ReadsAllowed, Outgoing, Incoming, after_take, after_kind}
+use Rattle.link_run.proofs.Names.{kind_of, offset, KeepsTaken, Took, Arrived, Account, hear, on_nothing, trying, is_originator, size_for}
+use Rattle.link_run.proofs.Names.{window_for, connected, has_begun, Phase, Closed, Connected, Negotiating, Releasing, Setup}
+use Rattle.link_account.proofs.Names.{Offer}
+use Rattle.link_account.proofs.Names.{OwnBreaks, after_answer, owing}
 use Rattle.xid_params.specs.Terms.{default_offer}
 use Rattle.link_account.proofs.HearWays.{Ways, by-ways}
 use Rattle.lapm_sender.specs.Outgoing as outgoing

@@ -1,12 +1,12 @@
 -- What is known of both ends by the frames that passed: who has heard an XID frame has agreed, and who has heard a UA or a SABME is
 -- Connected.
-use Rattle.std.proofs.Common.{inl, inr, ◌≡◌, ◌≢◌, ℕ, zero, suc, ◌-◌, ◌≤◌, ◌||◌, Bool, true, false, cond, nat_le, List, [], ◌∷◌, arith, refl}
-use Rattle.std.proofs.Common.{sym, ◌∙◌, ap, Option, Some, None, Result, Ok, Err, slice_get}
-use Rattle.link_account.proofs.Names.{false≢true, Role, Originator, Answerer, of, Frame, I, Rr, Rnr, Rej, Srej, Sabme, Disc, Ua, Xid, Terms}
-use Rattle.link_account.proofs.Names.{agree, offer_in, written, Arrived, Sent, Heard, LinkFault, is_originator, Offer, Account, hear}
-use Rattle.link_account.proofs.Names.{without_adp, arrives}
-use Rattle.link_run.proofs.Names.{Answer, Closed, Connected, ConnectedWays, Crosses, Detecting, EarlyWays, Establishing, Negotiating, Phase}
-use Rattle.link_run.proofs.Names.{Releasing, Setup, Spoken, Turn, arrival, first_terms, is_xid, opens, passes_in, sent_ago, sent_in}
+use Rattle.link_run.proofs.Names.{◌≡◌, ◌≢◌, ℕ, zero, suc, ◌-◌, ◌≤◌, ◌||◌, Bool, true, false, cond, nat_le, List, [], ◌∷◌, arith, refl, sym}
+use Rattle.link_run.proofs.Names.{◌∙◌, ap, Option, Some, None, Result, Ok, Err, slice_get, ConnectedWays, EarlyWays, false≢true, Role}
+use Rattle.link_run.proofs.Names.{Originator, Answerer, of, Frame, I, Rr, Rnr, Rej, Srej, Sabme, Disc, Ua, Xid, Terms, agree, written}
+use Rattle.link_run.proofs.Names.{Arrived, Sent, Heard, LinkFault, is_originator, Account, hear, without_adp, arrives, first_terms, Answer}
+use Rattle.link_run.proofs.Names.{Phase, Closed, Connected, Detecting, Establishing, Negotiating, Releasing, Setup, Crosses, sent_ago}
+use Rattle.link_run.proofs.Names.{sent_in, is_xid, opens, passes_in, Spoken, Turn, arrival}
+use Rattle.link_account.proofs.Names.{offer_in}
 use Rattle.link_account.proofs.HearWays.{by-ways}
 use Rattle.link_run.proofs.Meeting.{brings}
 use Rattle.lapm_frames.specs.declared.arrived.Arrived.TheVariants as arrivals
@@ -193,7 +193,7 @@ module _ (so sa : Setup) (reads : Reads so sa) (m turn : ℕ) (a : Account) (set
   ways-o p = grind (arith)
 
   early-o : EarlyWays HearsO turn a
-  early-o  = grind (arith, ignored-o, moves-o, never-o, stays-o, or-late)
+  early-o = grind (arith, ignored-o, moves-o, never-o, stays-o, or-late)
 
   pub o-hears : (x : Arrived) (b : Account) → hear turn x a ≡ Ok b → OnArrived (SentA sa (rank a.phase) m) x
       → AfterO so sa m a.phase x (course b)
@@ -251,7 +251,7 @@ module _ (so sa : Setup) (reads : Reads so sa) (r turn : ℕ) (a : Account) (set
   ways-a p = grind (arith)
 
   early-a : EarlyWays HearsA turn a
-  early-a  = grind (arith, ignored-a, never-a, stays-a, met, moves-a)
+  early-a = grind (arith, ignored-a, never-a, stays-a, met, moves-a)
 
   pub a-hears : (x : Arrived) (b : Account) → hear turn x a ≡ Ok b → OnArrived (SentO so r) x → AfterA so sa r a.phase x (course b)
   a-hears x b e = by-ways HearsA turn a (record {

@@ -1,7 +1,7 @@
 -- How many octets of information the frames have that an end says: those of a segment that it was offered, or few.
-use Rattle.std.proofs.Common.{◌≡◌, ℕ, zero, suc, ◌≤◌, Bool, true, false, List, [], ◌∷◌, length, slice_index_or, arith, Ok}
-use Rattle.link_account.proofs.Names.{Frame, BreakWord, Account, Said, speak, frame_for, ready_frame}
-use Rattle.link_run.proofs.Names.{Answer, Steps, Ways, by-ways, linked-alike, tries-alike}
+use Rattle.link_run.proofs.Names.{◌≡◌, ℕ, zero, suc, ◌≤◌, Bool, List, [], ◌∷◌, length, slice_index_or, arith, Ok, Frame, Account, Said}
+use Rattle.link_run.proofs.Names.{speak, frame_for, ready_frame, Steps, Ways, by-ways, linked-alike, tries-alike, Answer}
+use Rattle.link_account.proofs.Names.{BreakWord}
 use Rattle.lapm_frames.specs.Frame.{information_of}
 use Rattle.break_signals.specs.Words.{spelled}
 use Rattle.link_run.proofs.Knowing.{OnSent}

@@ -1,8 +1,7 @@
 -- What hearing and speaking tell of UA, of DISC and of frames with numbers: who sends them, and in which phase.
-use Rattle.std.proofs.Common.{◌≡◌, ◌⊎◌, inl, inr, ℕ, ◌≤◌, Bool, true, false, arith, refl, sym, ◌∙◌, ap, subst, Option, Some, None, Ok}
-use Rattle.link_account.proofs.Names.{Originator, Frame, I, Rr, Rnr, Rej, Srej, Sabme, Disc, Ua, Ui, Incoming, after_take, Arrived, Sent}
-use Rattle.link_account.proofs.Names.{Account, is_connected, hear, on_nothing, without_adp, owing}
-use Rattle.link_run.proofs.Names.{Answer, Connected, ConnectedWays, Phase, Plain, by-linked}
+use Rattle.link_run.proofs.Names.{◌≡◌, ◌⊎◌, inl, ℕ, ◌≤◌, Bool, true, false, arith, refl, sym, ap, subst, Option, Some, None, Ok}
+use Rattle.link_run.proofs.Names.{ConnectedWays, Plain, by-linked, Originator, Frame, I, Rr, Rnr, Rej, Srej, Disc, Ua, Incoming, after_take}
+use Rattle.link_run.proofs.Names.{Arrived, Sent, Account, is_connected, hear, on_nothing, without_adp, Answer, Phase, Connected}
 use Rattle.link_run.proofs.Keeping.{stage}
 use Rattle.lapm_frames.specs.declared.arrived.Arrived.TheVariants as arrivals
 use Rattle.lapm_frames.specs.declared.sent.Sent.TheVariants as slots
@@ -89,7 +88,7 @@ module _ (turn : ℕ) (a : Account) (e : a.phase ≡ Connected) where
   stays arrived b p o numbered inc = grind (arith, stays-told)
 
   linked-told : ConnectedWays (told_in Connected a) turn a
-  linked-told  = grind (arith, stays, plain-received, stays-told)
+  linked-told = grind (arith, stays, plain-received, stays-told)
 
   told-linked : (arrived : Arrived) (b : Account) → hear turn arrived a ≡ Ok b → Told Connected arrived a b
   told-linked arrived b h = by-linked (told_in Connected a) turn a linked-told

@@ -1,10 +1,8 @@
 -- What an end sends is the next segment, or one that it has sent.
-use Rattle.std.proofs.Common.{◌≡◌, ℕ, ◌+◌, ◌%◌, ◌≤◌, ◌||◌, Bool, cond, max, List, arith, Option, Some, None, Ok}
-use Rattle.link_account.proofs.Names.{is_originator, Outgoing, next_number, Account, Said, ready_frame, frame_for, may_send, speak}
-use Rattle.link_run.proofs.Names.{AllSaid, Answer, IsInRange, Steps, Ways, by-ways}
-use Rattle.lapm_sender.specs.Outgoing.{next_among}
+use Rattle.link_run.proofs.Names.{◌≡◌, ℕ, ◌+◌, ◌%◌, ◌≤◌, Bool, max, arith, Option, Some, None, Ok, Outgoing, Account, Said, ready_frame}
+use Rattle.link_run.proofs.Names.{frame_for, speak, AllSaid, Steps, Ways, by-ways, IsInRange, Answer, sequence_in}
+use Rattle.link_account.proofs.Names.{may_send}
 use Rattle.link_account.specs.Speak.{says_segment}
-use Rattle.link_run.specs.Counts.{sequence_in}
 use Rattle.lapm_frames.specs.declared.sent.Sent.TheVariants as slots
 
 -- how far an end has sent, by the N(S) of what it sends and its meant number

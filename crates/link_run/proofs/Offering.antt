@@ -1,7 +1,6 @@
 -- Pieces are offered until none is wanted.
-use Rattle.std.proofs.Common.{◌≡◌, ℕ, zero, suc, ◌≤◌, List, [], ◌∷◌, arith, length-append, refl, sym, ◌∙◌, ap, Option, Some, None}
-use Rattle.link_account.proofs.Names.{Account, wants, piece_size, after_offer}
-use Rattle.link_run.proofs.Names.{OffersUntilNoneIsWanted, offered, offered_at, offered_times, piece_at, room_for}
+use Rattle.link_run.proofs.Names.{◌≡◌, ℕ, zero, suc, ◌≤◌, List, [], ◌∷◌, arith, length-append, refl, sym, ◌∙◌, Option, None, Account, wants}
+use Rattle.link_run.proofs.Names.{after_offer, offered, offered_at, offered_times, room_for, OffersUntilNoneIsWanted}
 use Rattle.link_run.proofs.Finishing.{offers-none, ended-wants}
 
 -- no room: none is wanted

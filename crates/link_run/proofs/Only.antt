@@ -1,10 +1,10 @@
 -- What is heard determines a run.
-use Rattle.std.proofs.Common.{◌≡◌, ℕ, true, false, List, [], ◌∷◌, length, map, arith, refl, sym, ◌∙◌, ap, subst, Some, Result, Ok, Err}
-use Rattle.link_account.proofs.Names.{false≢true, Role, Originator, Answerer, Both, of, LinkFault, hear, Said}
+use Rattle.link_run.proofs.Names.{◌≡◌, ℕ, true, false, List, [], ◌∷◌, length, map, arith, refl, sym, ◌∙◌, ap, subst, Some, Result, Ok, Err}
+use Rattle.link_run.proofs.Names.{is_ok, false≢true, Role, Originator, Answerer, of, LinkFault, Said, is_closed, OneOutcome, OneRun}
+use Rattle.link_run.proofs.Names.{heard_in, Broken, Done, Going, Outcome, TurnIs, Accounts, GoingTurn, Hears, IsBroken, IsSilent, Link}
+use Rattle.link_run.proofs.Names.{Side, Turn, said_at, spoken}
+use Rattle.link_account.proofs.Names.{Both}
 use Rattle.link_run.proofs.Playing.{head-of}
-use Rattle.link_run.proofs.Names.{Accounts, Broken, Done, Going, GoingTurn, Hears, IsBroken, IsSilent, Link, OneOutcome, OneRun, Outcome}
-use Rattle.link_run.proofs.Names.{Side, Turn, TurnIs, arrival, heard_in, is_closed, said_at, spoken}
-use Rattle.std.specs.Prelude.{is_ok}
 
 abbrev ok-or : {A E : Type 0} → A → Result A E → A
 ok-or d (Ok x) = x

@@ -1,8 +1,8 @@
 -- Who says a UA, a DISC and a frame with numbers, and in which phase.
-use Rattle.std.proofs.Common.{◌≡◌, ℕ, ◌≤◌, ◌||◌, Bool, true, false, cond, List, arith, refl, sym, ◌∙◌, ap, Option, Some, None, Ok}
-use Rattle.link_account.proofs.Names.{false≢true, Frame, Disc, Incoming, Account, Said, says, frame_for, ready_frame, nr_of, speak, trying}
-use Rattle.link_account.proofs.Names.{is_originator}
-use Rattle.link_run.proofs.Names.{Answer, Connected, Held, Phase, Releasing, Tries, Ways, after_asked, by-ways, linked-alike, tries-alike}
+use Rattle.link_run.proofs.Names.{◌≡◌, ℕ, ◌≤◌, ◌||◌, Bool, true, false, cond, List, arith, refl, sym, ◌∙◌, ap, Option, Some, None, Ok, Held}
+use Rattle.link_run.proofs.Names.{after_asked, false≢true, Frame, Disc, Incoming, Account, Said, frame_for, ready_frame, speak, trying}
+use Rattle.link_run.proofs.Names.{is_originator, Tries, Ways, by-ways, linked-alike, tries-alike, Answer, Phase, Connected, Releasing}
+use Rattle.link_account.proofs.Names.{says, nr_of}
 use Rattle.link_account.specs.Speak.{says_frame}
 use Rattle.link_run.proofs.Keeping.{stage}
 use Rattle.link_run.proofs.Meeting.{is_ua, is_disc, is_segment, is_counted, carries, owes_ua}

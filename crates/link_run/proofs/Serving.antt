@@ -1,8 +1,8 @@
 -- What an end has handed to its user, between turns and once it has heard.
-use Rattle.std.proofs.Common.{◌≡◌, ◌≢◌, inl, inr, ℕ, zero, suc, ◌+◌, ◌≤◌, Bool, List, length, arith, length-append, refl, ◌∙◌, ap, Option}
-use Rattle.link_account.proofs.Names.{Account, wants, after_given, after_busy}
-use Rattle.link_run.proofs.Names.{BreakLine, User, asked, delivered, is_busy, offered, offered_at, offered_times, served}
-use Rattle.link_run.proofs.Keeping.{Books, stage, GoesOn}
+use Rattle.link_run.proofs.Names.{◌≡◌, ◌≢◌, ℕ, zero, suc, ◌+◌, ◌≤◌, Bool, List, length, arith, length-append, refl, ◌∙◌, Option, Account}
+use Rattle.link_run.proofs.Names.{wants, after_given, after_busy, BreakLine, User, asked, delivered, is_busy, offered, offered_at}
+use Rattle.link_run.proofs.Names.{offered_times, served}
+use Rattle.link_run.proofs.Keeping.{stage, GoesOn}
 use Rattle.link_run.proofs.Speaking.{Speaks}
 
 -- all was handed over

@@ -1,12 +1,10 @@
 -- Segments have at most the agreed length, and that is at most what their sender offers.
-use Rattle.std.proofs.Common.{◌≡◌, ◌≤◌, max, ℕ, zero, suc, ◌*◌, Bool, false, cond, List, [], ◌∷◌, ◌++◌, length, drop, arith, refl, sym, ◌∙◌}
-use Rattle.std.proofs.Common.{ap, subst, Option, Some, None, Ok}
-use Rattle.link_account.proofs.Names.{Role, Originator, Answerer, of, ReadsAllowed, ReadsWritten, Outgoing, with_piece, KeepsTaken, Account}
-use Rattle.link_account.proofs.Names.{is_connected, wants, piece_size, after_given, after_busy, Said, MayPlay}
-use Rattle.link_run.proofs.Names.{Accounts, Carries, Connected, Hears, IsCarried, Link, RunOf, SendsShort, Turn, User, arrival, delivered}
-use Rattle.link_run.proofs.Names.{is_busy, is_released, offered, offered_at, offered_times, piece_at, releases, room_for, said_at, served}
-use Rattle.link_run.proofs.Names.{served_at, size_for, start}
-use Rattle.std.proofs.lemmas.List.{length-take}
+use Rattle.link_run.proofs.Names.{◌≡◌, ◌≤◌, max, ℕ, zero, suc, Bool, false, cond, List, [], ◌∷◌, ◌++◌, length, arith, refl, ◌∙◌, ap, subst}
+use Rattle.link_run.proofs.Names.{Option, Ok, length-take, Role, Originator, Answerer, of, ReadsAllowed, ReadsWritten, Outgoing, with_piece}
+use Rattle.link_run.proofs.Names.{KeepsTaken, Account, is_connected, wants, piece_size, after_given, after_busy, Said, MayPlay, size_for}
+use Rattle.link_run.proofs.Names.{Connected, Carries, IsCarried, User, delivered, is_busy, is_released, offered, offered_at, offered_times}
+use Rattle.link_run.proofs.Names.{room_for, served, SendsShort, Accounts, Hears, Link, RunOf, Turn, arrival, releases, said_at, served_at}
+use Rattle.link_run.proofs.Names.{start}
 use Rattle.link_run.proofs.Keeping.{GoesOn, hears}
 use Rattle.link_run.proofs.Speaking.{Speaks}
 use Rattle.link_run.proofs.Serving.{asks-alone, busy-alone}

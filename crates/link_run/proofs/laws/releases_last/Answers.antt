@@ -9,5 +9,8 @@ returns c =
     let plays : PlayLaws =
     assumption (c.plays.ensures.in_order, c.acknowledgements.ensures.taken, c.plays.ensures.breaks, c.acknowledgements.ensures.breaks) in
     let laws : OldLaws = assumption (
-        c.numbers_on_the_line.ensures.segments, c.frames_on_the_line.ensures.offered, c.numbers_on_the_line.ensures.breaks) in
+      c.numbers_on_the_line.ensures.segments,
+      c.frames_on_the_line.ensures.offered,
+      c.numbers_on_the_line.ensures.breaks,
+    ) in
     releases_last laws

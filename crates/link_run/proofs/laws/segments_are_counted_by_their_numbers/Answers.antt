@@ -3,5 +3,6 @@ use Rattle.link_run.proofs.laws.segments_are_counted_by_their_numbers.Goals as g
 
 pub returns : goal.returns
 returns c = assumption (
-    counts_by_number c.reads_allowed.ensures c.keeps_taken.ensures c.next_numbers.ensures,
-    sent_below_high c.reads_allowed.ensures c.keeps_taken.ensures c.next_numbers.ensures)
+  counts_by_number c.reads_allowed.ensures c.keeps_taken.ensures c.next_numbers.ensures,
+  sent_below_high c.reads_allowed.ensures c.keeps_taken.ensures c.next_numbers.ensures,
+)

@@ -3,5 +3,6 @@ use Rattle.link_run.proofs.laws.the_file_of_one_counts_as_far_as_it_was_read.Goa
 
 pub returns : goal.returns
 returns c = assumption (
-    lone_runs_by_what_is_read_on c.reads_allowed.ensures c.keeps_taken.ensures,
-    lone_runs_keep_their_setup c.reads_allowed.ensures c.keeps_taken.ensures)
+  lone_runs_by_what_is_read_on c.reads_allowed.ensures c.keeps_taken.ensures,
+  lone_runs_keep_their_setup c.reads_allowed.ensures c.keeps_taken.ensures,
+)
