@@ -1,10 +1,11 @@
 -- How many segments an end has sent, and which of them go again, is counted by the numbers modulo 128 as by the meant ones.
-use Rattle.link_run.proofs.Names.{◌≡◌, ℕ, zero, suc, ◌+◌, ◌%◌, ◌≤◌, ◌||◌, max, Bool, cond, nat_eq, nat_lt, List, [], ◌∷◌, ◌++◌, length}
-use Rattle.link_run.proofs.Names.{arith, refl, sym, subst, Option, Some, None, Ok, Role, of, ReadsAllowed, Frame, Outgoing, with_piece}
-use Rattle.link_run.proofs.Names.{KeepsTaken, Sent, Account, wants, MayPlay, Said, IsInRange, SendsInOrder, SendsInRange, Carries}
-use Rattle.link_run.proofs.Names.{sequence_in, User, offered_at, offered_times, served, IsPlayed, RunsOver, Accounts, GoingTurn, Link}
-use Rattle.link_run.proofs.Names.{Spoken, Turn, arrival, said_at, start}
-use Rattle.link_run.specs.Counts.{number_in, segment_number, is_number, numbers_sent, repeated, sequence_number, sequence_of}
+use Rattle.std.proofs.Common.{◌≡◌, ℕ, zero, suc, ◌+◌, ◌%◌, ◌≤◌, ◌||◌, max, Bool, cond, nat_eq, nat_lt, List, [], ◌∷◌}
+use Rattle.std.proofs.Common.{◌++◌, length, arith, refl, sym, subst, Option, Some, None, Ok}
+use Rattle.link_account.proofs.Names.{Role, of, ReadsAllowed, Frame, Outgoing, with_piece, KeepsTaken, Sent, Account}
+use Rattle.link_account.proofs.Names.{wants, MayPlay, Said}
+use Rattle.link_run.proofs.Names.{Accounts, Carries, GoingTurn, IsInRange, IsPlayed, Link, RunsOver, SendsInOrder, SendsInRange, Spoken}
+use Rattle.link_run.proofs.Names.{Turn, User, arrival, offered_at, offered_times, said_at, served, start}
+use Rattle.link_run.specs.Counts.{number_in, segment_number, is_number, numbers_sent, repeated, sequence_number, sequence_in, sequence_of}
 use Rattle.link_run.specs.Counts.{next_count, again_in, CountsByNumber, SentBelowHigh}
 use Rattle.link_run.proofs.Keeping.{GoesOn, hears}
 use Rattle.link_run.proofs.Serving.{served-alone}

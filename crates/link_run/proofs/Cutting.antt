@@ -1,12 +1,14 @@
 -- The segments that an end was offered are its user's file, cut at the agreed length.
-use Rattle.link_run.proofs.Names.{◌≡◌, inl, inr, ℕ, zero, suc, ◌+◌, ◌*◌, ◌<◌, ◌≤◌, Bool, true, false, cond, List, [], ◌∷◌, ◌++◌, length}
-use Rattle.link_run.proofs.Names.{take, drop, arith, length-append, refl, sym, ◌∙◌, ap, subst, Option, Some, None, take_all, length-take}
-use Rattle.link_run.proofs.Names.{concat, false≢true, nat_tests, append-nil, append_assoc, take-append-drop, Terms, IsAllowed, Role}
-use Rattle.link_run.proofs.Names.{Outgoing, with_piece, Account, fresh, is_connected, wants, piece_size, IsPrefixOf, size_for, Phase, Setup}
-use Rattle.link_run.proofs.Names.{User, delivered, offered, offered_at, offered_times, piece_at, served, IsCut, IsOffered}
+use Rattle.std.proofs.Common.{◌≡◌, inl, inr, ℕ, zero, suc, ◌+◌, ◌*◌, ◌<◌, ◌≤◌, Bool, true, false, cond, List, [], ◌∷◌, ◌++◌, length, take}
+use Rattle.std.proofs.Common.{drop, arith, length-append, refl, sym, ◌∙◌, ap, subst, Option, Some, None}
+use Rattle.link_account.proofs.Names.{false≢true, nat_tests, append-nil, append_assoc, take-append-drop, Terms, IsAllowed, Role, Outgoing}
+use Rattle.link_account.proofs.Names.{with_piece, Account, fresh, is_connected, wants, piece_size, after_given, after_busy, IsPrefixOf}
+use Rattle.link_run.proofs.Names.{IsCut, IsOffered, Phase, Setup, User, delivered, is_busy, offered, offered_at, offered_times, piece_at}
+use Rattle.link_run.proofs.Names.{room_for, served, size_for}
 use Rattle.std.proofs.Math.Seq.{take-add}
-use Rattle.std.proofs.lemmas.List.{length-drop}
+use Rattle.std.proofs.lemmas.List.{take_all, length-take, length-drop}
 use Rattle.std.proofs.lemmas.List.Folds.{concat-append}
+use Rattle.std.specs.List.{concat}
 use Rattle.link_run.proofs.Keeping.{Books, stage, AreTerms, GoesOn}
 use Rattle.link_run.proofs.Speaking.{Speaks}
 use Rattle.link_run.proofs.Serving.{asks-alone, busy-alone}
@@ -130,7 +132,16 @@ delivered-cuts file a h = grind (arith)
 
 pub served-cuts : (u : User) (turn : ℕ) (released : Bool) (a : Account) → IsOffered u.file a
     → IsOffered u.file (served u turn released a).account
-served-cuts u turn released a h = grind (arith, delivered-cuts, offered-cuts, offered, busy-alone, asks-alone) steps 400000
+served-cuts u turn released a h =
+    let d = delivered-cuts u.file a h in
+    let g : IsOffered u.file (after_given (delivered a)) = record { allowed = d.allowed; terms = d.terms; size = d.size; cut = d.cut } in
+    let o = offered-cuts (room_for (after_given (delivered a))) u.file (after_given (delivered a)) g in
+    let c = offered u.file (after_given (delivered a)) in
+    let busy = is_busy turn u.busy in
+    let b : IsOffered u.file (after_busy busy c) =
+    subst (IsOffered u.file) (sym (busy-alone busy c)) (record { allowed = o.allowed; terms = o.terms; size = o.size; cut = o.cut }) in
+    subst (IsOffered u.file) (sym (asks-alone turn released u.breaks (after_busy busy c)))
+    (record { allowed = b.allowed; terms = b.terms; size = b.size; cut = b.cut })
 
 pub spoken-cuts : (file : List ℕ) (release : Bool) (a b : Account) → IsOffered file a → Speaks release a b → IsOffered file b
 spoken-cuts file release a b h x = grind (arith)

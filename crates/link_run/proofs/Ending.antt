@@ -1,8 +1,10 @@
 -- What holds once the originator was told to release, and in the end.
-use Rattle.link_run.proofs.Names.{arith, ◌≡◌, ℕ, ◌≤◌, Bool, List, [], ◌∷◌, length, sym, subst, Option, Role, Originator, Answerer, of}
-use Rattle.link_run.proofs.Names.{IsPrefixOf, IsAllowed, ReadsAllowed, KeepsTaken, Account, fresh, Play, MayPlay, AcknowledgesTaken}
-use Rattle.link_run.proofs.Names.{AnswersGiven, GivesBreaksInOrder, TakesInOrder, delivered, is_released, served, HearsPrefixes}
-use Rattle.link_run.proofs.Names.{HoldPrefixes, TakesPrefixes, IsOffered, Accounts, Hears, Link, RunOf, Turn, served_at}
+use Rattle.std.proofs.Common.{arith, ◌≡◌, ℕ, ◌≤◌, Bool, List, [], ◌∷◌, length, sym, subst, Option}
+use Rattle.link_account.proofs.Names.{Role, Originator, Answerer, of, IsPrefixOf, IsAllowed, ReadsAllowed, KeepsTaken, Account, fresh, Play}
+use Rattle.link_account.proofs.Names.{MayPlay}
+use Rattle.link_run.proofs.Names.{Accounts, AcknowledgesTaken, AnswersGiven, GivesBreaksInOrder, Hears, HearsPrefixes, HoldPrefixes}
+use Rattle.link_run.proofs.Names.{IsOffered, Link, RunOf, TakesInOrder, TakesPrefixes, Turn, delivered, is_released, served}
+use Rattle.link_run.proofs.Names.{served_at}
 use Rattle.link_run.proofs.Keeping.{GoesOn, hears}
 use Rattle.link_run.proofs.Speaking.{Speaks}
 use Rattle.link_run.proofs.Serving.{served-alone}
@@ -87,16 +89,16 @@ facts laws link m ends line p =
     let so = link.orig.setup in
     let sa = link.answ.setup in
     let es = p.leads.events in
-    subst (λ (q : Play). Facts q.originator.account q.answerer.account) p.leads.led (assumption (
-      (laws.in_order so sa es m).0,
-      (laws.in_order so sa es m).1,
-      (laws.taken so sa es m).0,
-      (laws.taken so sa es m).1,
-      (laws.breaks so sa es).0,
-      (laws.breaks so sa es).1,
-      (laws.answers so sa es).0,
-      (laws.answers so sa es).1,
-    ))
+    subst (λ (q : Play). Facts q.originator.account q.answerer.account) p.leads.led (record {
+      taken_a = (laws.in_order so sa es m).0;
+      taken_o = (laws.in_order so sa es m).1;
+      acked_o = (laws.taken so sa es m).0;
+      acked_a = (laws.taken so sa es m).1;
+      given_a = (laws.breaks so sa es).0;
+      given_o = (laws.breaks so sa es).1;
+      answered_o = (laws.answers so sa es).0;
+      answered_a = (laws.answers so sa es).1;
+    })
 
 abbrev pub allowed-both : (link : Link) → MayPlay link.orig.setup link.answ.setup → (r : Role) → IsAllowed (of r link).setup.offer
 allowed-both link m Originator = m.offer_o

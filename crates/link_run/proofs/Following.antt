@@ -1,9 +1,10 @@
 -- All through a run the frames that passed tell how far both ends are.
-use Rattle.link_run.proofs.Names.{◌≡◌, ◌≢◌, ◌⊎◌, ℕ, ◌≤◌, ◌||◌, Bool, true, false, cond, nat_le, List, [], ◌∷◌, length, arith, sym, ◌∙◌, ap}
-use Rattle.link_run.proofs.Names.{subst, Option, Some, None, Ok, Role, Originator, Answerer, of, Frame, ReadsAllowed, ReadsWritten}
-use Rattle.link_run.proofs.Names.{KeepsTaken, Sent, Account, hear, Said, MayPlay, first_terms, Answer, Phase, Setup, Carries, IsCarried}
-use Rattle.link_run.proofs.Names.{User, delivered, served, has_passed, is_xid, opens, Accounts, Hears, Link, RunOf, Spoken, Turn, arrival}
-use Rattle.link_run.proofs.Names.{served_at, spoken}
+use Rattle.std.proofs.Common.{◌≡◌, ◌≢◌, ◌⊎◌, ℕ, ◌≤◌, ◌||◌, Bool, true, false, cond, nat_le, List, [], ◌∷◌, length, arith, sym, ◌∙◌}
+use Rattle.std.proofs.Common.{ap, subst, Option, Some, None, Ok}
+use Rattle.link_account.proofs.Names.{Role, Originator, Answerer, of, Frame, ReadsAllowed, ReadsWritten, KeepsTaken, Sent, Account, hear}
+use Rattle.link_account.proofs.Names.{Said, MayPlay}
+use Rattle.link_run.proofs.Names.{Accounts, Answer, Carries, Hears, IsCarried, Link, Phase, RunOf, Setup, Spoken, Turn, User}
+use Rattle.link_run.proofs.Names.{arrival, delivered, first_terms, has_passed, is_xid, opens, served, served_at, spoken}
 use Rattle.link_run.proofs.Keeping.{stage}
 use Rattle.link_run.proofs.Speaking.{Speaks}
 use Rattle.link_run.proofs.Serving.{served-alone}

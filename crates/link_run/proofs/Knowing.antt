@@ -1,12 +1,12 @@
 -- What is known of both ends by the frames that passed: who has heard an XID frame has agreed, and who has heard a UA or a SABME is
 -- Connected.
-use Rattle.link_run.proofs.Names.{◌≡◌, ◌≢◌, ℕ, zero, suc, ◌-◌, ◌≤◌, ◌||◌, Bool, true, false, cond, nat_le, List, [], ◌∷◌, arith, refl, sym}
-use Rattle.link_run.proofs.Names.{◌∙◌, ap, Option, Some, None, Result, Ok, Err, slice_get, ConnectedWays, EarlyWays, false≢true, Role}
-use Rattle.link_run.proofs.Names.{Originator, Answerer, of, Frame, I, Rr, Rnr, Rej, Srej, Sabme, Disc, Ua, Xid, Terms, agree, written}
-use Rattle.link_run.proofs.Names.{Arrived, Sent, Heard, LinkFault, is_originator, Account, hear, without_adp, arrives, first_terms, Answer}
-use Rattle.link_run.proofs.Names.{Phase, Closed, Connected, Detecting, Establishing, Negotiating, Releasing, Setup, Crosses, sent_ago}
-use Rattle.link_run.proofs.Names.{sent_in, is_xid, opens, passes_in, Spoken, Turn, arrival}
-use Rattle.link_account.proofs.Names.{offer_in}
+use Rattle.std.proofs.Common.{inl, inr, ◌≡◌, ◌≢◌, ℕ, zero, suc, ◌-◌, ◌≤◌, ◌||◌, Bool, true, false, cond, nat_le, List, [], ◌∷◌, arith, refl}
+use Rattle.std.proofs.Common.{sym, ◌∙◌, ap, Option, Some, None, Result, Ok, Err, slice_get}
+use Rattle.link_account.proofs.Names.{false≢true, Role, Originator, Answerer, of, Frame, I, Rr, Rnr, Rej, Srej, Sabme, Disc, Ua, Xid, Terms}
+use Rattle.link_account.proofs.Names.{agree, offer_in, written, Arrived, Sent, Heard, LinkFault, is_originator, Offer, Account, hear}
+use Rattle.link_account.proofs.Names.{without_adp, arrives}
+use Rattle.link_run.proofs.Names.{Answer, Closed, Connected, ConnectedWays, Crosses, Detecting, EarlyWays, Establishing, Negotiating, Phase}
+use Rattle.link_run.proofs.Names.{Releasing, Setup, Spoken, Turn, arrival, first_terms, is_xid, opens, passes_in, sent_ago, sent_in}
 use Rattle.link_account.proofs.HearWays.{by-ways}
 use Rattle.link_run.proofs.Meeting.{brings}
 use Rattle.lapm_frames.specs.declared.arrived.Arrived.TheVariants as arrivals
@@ -187,7 +187,21 @@ module _ (so sa : Setup) (reads : Reads so sa) (m turn : ℕ) (a : Account) (set
 
   -- what changes nothing is no frame by which it would come farther
   ignored-o : (x : Arrived) → hear turn x a ≡ Ok a → OnArrived (SentA sa (rank a.phase) m) x → AfterO so sa m a.phase x (course a)
-  ignored-o x f k = grind (arith, stays-o, due, not-ignored, or-late)
+  ignored-o arrivals.Nothing f k = stays-o arrivals.Nothing _ due refl refl
+  ignored-o (arrivals.Pattern seen) f k = stays-o (arrivals.Pattern seen) _ due refl refl
+  ignored-o (arrivals.Frame frame) f k = on frame f k
+    where
+      on : (frame : Frame) → hear turn (arrivals.Frame frame) a ≡ Ok a → SentA sa (rank a.phase) m frame
+          → AfterO so sa m a.phase (arrivals.Frame frame) (course a)
+      on (Xid command pf info) f k = stays-o _ _ due (by a.phase refl) refl
+        where
+          by : (p : Phase) → a.phase ≡ p → nat_le 2 (rank a.phase) ≡ true || nat_le 2 (rank a.phase)
+          by p e = grind (arith, not-ignored)
+      on (Ua pf) f k = stays-o _ _ due refl (by a.phase refl)
+        where
+          by : (p : Phase) → a.phase ≡ p → nat_le 3 (rank a.phase) ≡ pf || nat_le 3 (rank a.phase)
+          by p e = grind (arith, not-ignored, or-late)
+      on frame f k = stays-o _ _ due refl refl
 
   ways-o : a.phase ≡ Connected → ConnectedWays HearsO turn a
   ways-o p = grind (arith)
@@ -245,13 +259,53 @@ module _ (so sa : Setup) (reads : Reads so sa) (r turn : ℕ) (a : Account) (set
 
   -- what changes nothing is no frame by which it would come farther
   ignored-a : (x : Arrived) → hear turn x a ≡ Ok a → OnArrived (SentO so r) x → AfterA so sa r a.phase x (course a)
-  ignored-a x f k = grind (arith, stays-a, due, not-ignored, role-is, met)
+  ignored-a arrivals.Nothing f k = stays-a arrivals.Nothing _ due refl refl
+  ignored-a (arrivals.Pattern seen) f k = stays-a (arrivals.Pattern seen) _ due refl refl
+  ignored-a (arrivals.Frame frame) f k = on frame f k
+    where
+      on : (frame : Frame) → hear turn (arrivals.Frame frame) a ≡ Ok a → SentO so r frame
+          → AfterA so sa r a.phase (arrivals.Frame frame) (course a)
+      on (Xid command pf info) f k = stays-a _ _ due (by a.phase refl) refl
+        where
+          by : (p : Phase) → a.phase ≡ p → nat_le 1 (rank a.phase) ≡ true || nat_le 1 (rank a.phase)
+          by p e = grind (arith, not-ignored, role-is)
+      on (Sabme pf) f k = stays-a _ _ due refl (by a.phase refl)
+        where
+          by : (p : Phase) → a.phase ≡ p → nat_le 3 (rank a.phase) ≡ true || nat_le 3 (rank a.phase)
+          by p e = grind (arith, met, not-ignored, role-is)
+      on frame f k = stays-a _ _ due refl refl
 
   ways-a : a.phase ≡ Connected → ConnectedWays HearsA turn a
   ways-a p = grind (arith)
 
   early-a : EarlyWays HearsA turn a
-  early-a = grind (arith, ignored-a, never-a, stays-a, met, moves-a)
+  early-a = record {
+    ignores = ignored-a;
+    detects = λ p v. never-a v;
+    detected = λ p v k. stays-a _ _ tt refl refl;
+    xid = λ p v pf info offer f k.
+        let both : Some offer ≡ Some so.offer = sym f ∙ (ap offer_in k.1 ∙ reads.orig) in
+        let same : offer ≡ so.offer = cc in
+        let low : rank a.phase ≤ 1 = elim p [ inl q ↦ omega (arith, ap rank q) | inr q ↦ omega (arith, ap rank q) ] in
+        record {
+          later = low;
+          due = (k.2, omega arith);
+          terms = ap (λ (s : Setup). agree offer s.offer) setup ∙ ap (λ (o : Offer). agree o sa.offer) same;
+          never_two = λ z. omega (arith, z);
+          never_four = λ z. omega (arith, z);
+          linked = λ z. absurd (omega (arith, z));
+          xid = refl;
+          opened = elim p [ inl q ↦ sym (ap (λ v. nat_le 3 (rank v)) q) | inr q ↦ sym (ap (λ v. nat_le 3 (rank v)) q) ];
+        };
+    agrees = λ p v. never-a v;
+    sabme_first = λ p v pf k. absurd (omega (arith, met k.1, ap rank p));
+    sabme = λ p v pf k. moves-a _ Negotiating Connected _ p (omega arith) (omega arith) (omega arith)
+        (λ z. omega (arith, z)) k k.1 refl refl
+        refl;
+    ua = λ p. absurd (two (ap rank p));
+    disc = λ p pf k. stays-a _ _ tt refl refl;
+    closes = λ p. absurd (four (ap rank p));
+  }
 
   pub a-hears : (x : Arrived) (b : Account) → hear turn x a ≡ Ok b → OnArrived (SentO so r) x → AfterA so sa r a.phase x (course b)
   a-hears x b e = by-ways HearsA turn a (record {

@@ -1,8 +1,8 @@
 -- What arrives determines the run of one end.
-use Rattle.link_run.proofs.Names.{◌≡◌, Bool, true, false, Result, Ok, Err, List, [], ◌∷◌, length, map, arith, refl, sym, ◌∙◌, ap, subst}
-use Rattle.link_run.proofs.Names.{Some, Account, hear, Said, ReadsAllowed, KeepsTaken, LinkFault, given_break, LoneTurn, lone_served}
-use Rattle.link_run.proofs.Names.{LoneGoing, LoneRun, has_finished, speaks_alone, Party, spoken}
-use Rattle.link_run.specs.Alone.{OneLoneRun, LoneNext, Goes_on, Is_last, Is_faulty, Is_broken}
+use Rattle.std.proofs.Common.{◌≡◌, Bool, true, false, Result, Ok, Err, List, [], ◌∷◌, length, map, arith, refl, sym, ◌∙◌, ap, subst, Some}
+use Rattle.link_account.proofs.Names.{Account, hear, Said, ReadsAllowed, KeepsTaken, LinkFault}
+use Rattle.link_run.proofs.Names.{Party, given_break, has_finished, speaks_alone, spoken}
+use Rattle.link_run.specs.Alone.{LoneTurn, lone_served, LoneGoing, OneLoneRun, LoneRun, LoneNext, Goes_on, Is_last, Is_faulty, Is_broken}
 use Rattle.link_run.specs.Alone.{hangs_up, LoneHearingsDeliver, LoneSpeakingTakesNothing, EachLoneTurnIsMade}
 use Rattle.link_run.proofs.Only.{one-ok}
 use Rattle.link_run.proofs.Playing.{head-of}

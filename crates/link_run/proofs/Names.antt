@@ -56,3 +56,12 @@ pub use Rattle.link_run.specs.Run.{Accounts, GoingTurn, Hears, IsBroken, IsSilen
 pub use Rattle.link_run.specs.Run.{arrival, finished_at, releases, said_at, served_at, served_ends, spoken, start}
 pub use Rattle.link_run.specs.Starved.{LosesSome}
 pub use Rattle.link_run.specs.Taken.{Segment, keeping, octets_in}
+pub use Rattle.link_account.proofs.HearWays.{IsNoWord, IsTest, IsUa, IsXid}
+pub use Rattle.link_account.proofs.HearWays.{numbers-alike}
+pub use Rattle.link_account.proofs.SpeakWays.{Breaks, Spends, Undetected}
+pub use Rattle.link_account.specs.Account.{break_waits, is_done}
+pub use Rattle.link_account.specs.Hear.{on_detecting, on_establishing, on_negotiating, on_xid_command, on_xid_response}
+pub use Rattle.link_account.specs.Laws.{played}
+pub use Rattle.link_account.specs.Play.{heard, seen_from}
+pub use Rattle.link_run.specs.End.{is_ready}
+pub use Rattle.link_run.specs.Laws.{IsAt}

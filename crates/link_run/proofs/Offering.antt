@@ -1,6 +1,7 @@
 -- Pieces are offered until none is wanted.
-use Rattle.link_run.proofs.Names.{◌≡◌, ℕ, zero, suc, ◌≤◌, List, [], ◌∷◌, arith, length-append, refl, sym, ◌∙◌, Option, None, Account, wants}
-use Rattle.link_run.proofs.Names.{after_offer, offered, offered_at, offered_times, room_for, OffersUntilNoneIsWanted}
+use Rattle.std.proofs.Common.{◌≡◌, ℕ, zero, suc, ◌≤◌, List, [], ◌∷◌, arith, length-append, refl, sym, ◌∙◌, Option, None}
+use Rattle.link_account.proofs.Names.{Account, wants, after_offer}
+use Rattle.link_run.proofs.Names.{OffersUntilNoneIsWanted, offered, offered_at, offered_times, room_for}
 use Rattle.link_run.proofs.Finishing.{offers-none, ended-wants}
 
 -- no room: none is wanted

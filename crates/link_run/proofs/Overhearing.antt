@@ -1,17 +1,15 @@
 -- What the frames that pass tell.
-use Rattle.link_run.proofs.Names.{zero, suc, ◌≡◌, inl, inr, ℕ, ◌+◌, ◌-◌, ◌%◌, ◌≤◌, Bool, true, false, cond, nat_eq, nat_le, List, [], ◌∷◌}
-use Rattle.link_run.proofs.Names.{◌++◌, length, map, arith, length-append, refl, sym, ◌∙◌, ap, subst, Option, Some, None, Result, Ok}
-use Rattle.link_run.proofs.Names.{slice_get, gives, Sixteen, ThirtyTwo, false≢true, nat_tests, append-nil, IsPrefixOf, Check, Role}
-use Rattle.link_run.proofs.Names.{Originator, Answerer, other, of, is_some, Frame, I, Terms, ReadsAllowed, ReadsWritten, KeepsTaken}
-use Rattle.link_run.proofs.Names.{kind_of, InOrder, Kept, Sent, Passed, LinkFault, Account, check_of, Slot, Play, MayPlay, first_terms}
-use Rattle.link_run.proofs.Names.{KnownByNumber, NextIsBreak, NextIsKnown, NextWasOffered, SendsBreaksTaken, SendsWhatWasOffered, has_begun}
-use Rattle.link_run.proofs.Names.{Phase, Setup, Crosses, HasDelays, IsCarried, sent_ago, sent_in, is_released, RunsOver, told_by_play}
-use Rattle.link_run.proofs.Names.{told_by_turn, AgreesByXid, EarlyBreaksAreIgnored, HearsAgreedCheck, IsOld, JudgesByItsCheck}
-use Rattle.link_run.proofs.Names.{JudgesOnceHeard, NothingNew, OpensByFrames, ReleasesLast, SegmentsPassLater, SendsAgreedCheck}
-use Rattle.link_run.proofs.Names.{agreed_check, agreed_terms, has_passed, is_xid, opens, Accounts, Link, RunOf, Spoken, Turn, arrival}
-use Rattle.link_run.proofs.Names.{spoken}
-use Rattle.link_account.proofs.Names.{Ui, Brk, word_in}
-use Rattle.link_account.proofs.Names.{on_frame}
+use Rattle.std.proofs.Common.{zero, suc, ◌≡◌, inl, inr, ℕ, ◌+◌, ◌-◌, ◌%◌, ◌≤◌, Bool, true, false, cond, nat_eq, nat_le, List, [], ◌∷◌, ◌++◌}
+use Rattle.std.proofs.Common.{length, map, arith, length-append, refl, sym, ◌∙◌, ap, subst, Option, Some, None, Result, Ok, slice_get}
+use Rattle.link_account.proofs.Names.{false≢true, nat_tests, append-nil, IsPrefixOf, Check, Role, Originator, Answerer, other, of, is_some}
+use Rattle.link_account.proofs.Names.{Frame, I, Ui, Terms, ReadsAllowed, ReadsWritten, KeepsTaken, kind_of, InOrder, Kept, Brk, word_in}
+use Rattle.link_account.proofs.Names.{Sent, Passed, LinkFault, Account, check_of, on_frame, Slot, Play, MayPlay}
+use Rattle.link_run.proofs.Names.{Accounts, AgreesByXid, Crosses, EarlyBreaksAreIgnored, HasDelays, HearsAgreedCheck, IsCarried, IsOld}
+use Rattle.link_run.proofs.Names.{JudgesByItsCheck, JudgesOnceHeard, KnownByNumber, Link, NextIsBreak, NextIsKnown, NextWasOffered}
+use Rattle.link_run.proofs.Names.{NothingNew, OpensByFrames, Phase, ReleasesLast, RunOf, RunsOver, SegmentsPassLater, SendsAgreedCheck}
+use Rattle.link_run.proofs.Names.{SendsBreaksTaken, SendsWhatWasOffered, Setup, Sixteen, Spoken, ThirtyTwo, Turn, agreed_check}
+use Rattle.link_run.proofs.Names.{agreed_terms, arrival, first_terms, gives, has_begun, has_passed, is_released, is_xid, opens, sent_ago}
+use Rattle.link_run.proofs.Names.{sent_in, spoken, told_by_play, told_by_turn}
 use Rattle.lapm_frames.specs.Checked.{check_for}
 use Rattle.lapm_frames.specs.Frame.{has_number}
 use Rattle.link_run.proofs.Keeping.{stage, GoesOn, hears, Standing, standing, stands-heard}

@@ -1,16 +1,16 @@
 -- What is offered is what was read, and files count in a run as far as they were read.
-use Rattle.link_run.proofs.Names.{◌≡◌, ℕ, zero, suc, ◌+◌, ◌*◌, ◌<◌, ◌≤◌, Bool, true, false, cond, ◌&&◌, nat_lt, List, [], ◌∷◌, ◌++◌, length}
-use Rattle.link_run.proofs.Names.{take, drop, arith, length-append, refl, sym, ◌∙◌, ap, subst, Option, Some, None, drop-append_seam}
-use Rattle.link_run.proofs.Names.{take_all, length-take, false≢true, nat_tests, append-nil, take-append-drop, Role, Originator, Answerer}
-use Rattle.link_run.proofs.Names.{of, IsAllowed, ReadsAllowed, KeepsTaken, Outgoing, with_piece, Account, wants, piece_size, after_offer}
-use Rattle.link_run.proofs.Names.{after_given, after_busy, speak, given_break, Served, User, asked, delivered, deliveries, has_finished}
-use Rattle.link_run.proofs.Names.{is_busy, is_released, offered, offered_at, offered_times, piece_at, room_for, served, BeginsUnoffered}
-use Rattle.link_run.proofs.Names.{HearingStaysOffered, IsCut, IsOffered, OffersWhatIsRead, OwnSegmentsStay, RunsByWhatIsReadOn}
-use Rattle.link_run.proofs.Names.{RunsByWhatWasRead, SameSoFar, SegmentsAreTold, SpeakingStaysOffered, with_files, with_segment, Accounts}
-use Rattle.link_run.proofs.Names.{GoingTurn, Link, SpeaksAt, arrival, said_at, served_at}
-use Rattle.std.proofs.Common.{drop-drop}
-use Rattle.std.proofs.lemmas.List.{take-take, drop-take, length-take-le}
-use Rattle.std.proofs.Math.Seq.{take-append_seam}
+use Rattle.std.proofs.Common.{◌≡◌, ℕ, zero, suc, ◌+◌, ◌*◌, ◌<◌, ◌≤◌, Bool, true, false, cond, ◌&&◌, nat_lt, List, [], ◌∷◌, ◌++◌, length}
+use Rattle.std.proofs.Common.{take, drop, arith, length-append, drop-drop, refl, sym, ◌∙◌, ap, subst, Option, Some, None}
+use Rattle.link_account.proofs.Names.{false≢true, nat_tests, append-nil, take-append-drop, Role, Originator, Answerer, of, IsAllowed}
+use Rattle.link_account.proofs.Names.{ReadsAllowed, KeepsTaken, Outgoing, with_piece, Account, wants, piece_size, after_offer, after_given}
+use Rattle.link_account.proofs.Names.{after_busy, speak}
+use Rattle.link_run.proofs.Names.{Accounts, BeginsUnoffered, GoingTurn, HearingStaysOffered, IsCut, IsOffered, Link, OffersWhatIsRead}
+use Rattle.link_run.proofs.Names.{OwnSegmentsStay, RunsByWhatIsReadOn, RunsByWhatWasRead, SameSoFar, SegmentsAreTold, Served}
+use Rattle.link_run.proofs.Names.{SpeakingStaysOffered, SpeaksAt, User, arrival, asked, delivered, deliveries, given_break, has_finished}
+use Rattle.link_run.proofs.Names.{is_busy, is_released, offered, offered_at, offered_times, piece_at, room_for, said_at, served, served_at}
+use Rattle.link_run.proofs.Names.{with_files, with_segment}
+use Rattle.std.proofs.lemmas.List.{take_all, take-take, drop-take, length-take, length-take-le}
+use Rattle.std.proofs.Math.Seq.{take-append_seam, drop-append_seam}
 use Rattle.link_run.proofs.Keeping.{GoesOn, hears}
 use Rattle.link_run.proofs.Speaking.{Speaks, speaks}
 use Rattle.link_run.proofs.Cutting.{fresh-cuts, heard-cuts, spoken-cuts, delivered-cuts, offered-cuts-at, wants-are, piece-size-is}
@@ -226,11 +226,12 @@ served-same u file others turn released a h s =
     let out : (served (record u { file = file }) turn released a).account.outgoing ≡ (offered file x).outgoing = ap
     (λ (b : Account). b.outgoing) (served-alone (record u { file = file }) turn released a) in
     let now : SameSoFar (offered file x).outgoing file others = subst (λ o. SameSoFar o file others) out s in
-    ap (λ (y : Account). (assumption (
-      deliveries a,
-      given_break a,
-      asked turn released u.breaks (after_busy (is_busy turn u.busy) y),
-    ))) (offered-same (room_for x) file others x g now)
+    ap (λ (y : Account). record {
+      segments = deliveries a;
+      given = given_break a;
+      account = asked turn released u.breaks
+          (after_busy (is_busy turn u.busy) y);
+    }) (offered-same (room_for x) file others x g now)
 
 -- speaking offers nothing
 pub same-spoken : (file others : List ℕ) (release : Bool) (a b : Account) → Speaks release a b → SameSoFar b.outgoing file others
