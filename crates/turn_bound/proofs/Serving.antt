@@ -1,3 +1,4 @@
+use Rattle.std.proofs.lemmas.Option.{slice_get_within}
 use Rattle.std.proofs.Common.{◌≡◌, ℕ, zero, suc, ◌+◌, ◌<◌, ◌≤◌, ◌&&◌, ◌⊎◌, not, Bool, true, false, cond, nat_lt, nat_le, List, [], ◌∷◌}
 use Rattle.std.proofs.Common.{length, length-append, inl, inr, arith, refl, sym, ◌∙◌, ap, subst, Option, Some, None}
 use Rattle.link_account.proofs.Names.{slice_get, Outgoing, wanted, with_piece, after_ask, Account, is_connected, wants, piece_size}
@@ -126,11 +127,6 @@ pub record Served (turn breaks : ℕ) (busy : Bool) (a b : Account) : Type 0 whe
 abbrev pub before_asking : User → ℕ → Account → Account
 before_asking user turn a = after_busy (is_busy turn user.busy) (offered user.file (after_given (delivered a)))
 
-slice-some : (breaks : List BreakLine) (n : ℕ) (b : BreakLine) → slice_get breaks n ≡ Some b → n < length breaks
-slice-some [] n b e = cc
-slice-some (x ∷ xs) zero b e = omega arith
-slice-some (x ∷ xs) (suc n) b e = let k = slice-some xs n b e in omega (arith, k)
-
 -- no break is taken, or the next one is
 abbrev pub AskedOwn : ℕ → ℕ → Account → OwnBreaks → Type 0
 AskedOwn turn breaks a own = (own ≡ a.own_breaks)
@@ -236,7 +232,7 @@ asked-own turn false breaks m = by (next_break breaks m) refl
         on true true f = (
           after_ask turn b.length_octet m.own_breaks,
           refl,
-          inr (b.length_octet, refl, slice-some breaks (length m.own_breaks.lengths) b e, f),
+          inr (b.length_octet, refl, slice_get_within breaks (length m.own_breaks.lengths) b e, f),
         )
 
 pub served-by : (user : User) (turn : ℕ) (released : Bool) (a : Account) → ServedBy user turn a (served_account user turn released a)
