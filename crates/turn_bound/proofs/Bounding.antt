@@ -1,15 +1,14 @@
 use Rattle.std.proofs.lemmas.Nat.{mul-le}
-use Rattle.std.proofs.Common.{◌≡◌, ℕ, ◌+◌, ◌-◌, ◌*◌, Bool, true, false, nat_eq, arith, sym, ◌∙◌, ap, subst, Err, ◌⊎◌, ◌<◌, ◌≤◌, List, []}
-use Rattle.std.proofs.Common.{◌∷◌, length, map}
-use Rattle.link_account.proofs.Names.{Role, Originator, Answerer, LinkFault, Account, is_connected, speak, Arrived, AllByRecursion}
-use Rattle.link_account.proofs.Names.{Outgoing, of}
-use Rattle.link_run.proofs.Names.{Phase, Negotiating, Establishing, Releasing, User, served_at, releases}
+use Rattle.turn_bound.proofs.Names.{◌≡◌, ℕ, ◌+◌, ◌-◌, ◌*◌, Bool, true, false, nat_eq, arith, sym, ◌∙◌, ap, subst, Err, ◌⊎◌, ◌<◌, ◌≤◌, List}
+use Rattle.turn_bound.proofs.Names.{[], ◌∷◌, length, map, mul-le-mul_right, mul-le-mul_left, Role, Originator, Answerer, LinkFault}
+use Rattle.turn_bound.proofs.Names.{is_connected, speak, Arrived, AllByRecursion, Outgoing, of, Breaks, why-broken, Phase, Negotiating}
+use Rattle.turn_bound.proofs.Names.{Establishing, Releasing, User, releases, BusyLine, busy_turns, IsBroken, AnswersAtOnce, IsWithin}
+use Rattle.link_account.proofs.Names.{Account}
+use Rattle.link_run.proofs.Names.{served_at}
 use Rattle.turn_bound.proofs.Value.{Rates, AreRates, Runs, IsOf, Tries, Stands}
 use Rattle.turn_bound.specs.Spent.{since, IsTimely, SpendsOnTime}
-use Rattle.turn_bound.proofs.Names.{AnswersAtOnce, Breaks, BusyLine, IsBroken, busy_turns, why-broken}
 use Rattle.turn_bound.proofs.OneTurn.{Hearing}
-use Rattle.std.proofs.Math.Nat.{mul-le-mul_right, mul-le-mul_left}
-use Rattle.turn_bound.specs.Offered.{HoldsFile, IsWithin, OffersWithin}
+use Rattle.turn_bound.specs.Offered.{HoldsFile, OffersWithin}
 use Rattle.turn_bound.specs.Limits.{IsShort, NoRunIsLong}
 use Rattle.turn_bound.specs.Bound.{of_both, weight, most_turns, offered_to, EndsSoon, EndsSoonByFiles, EndsSoonByOctets}
 use Rattle.turn_bound.specs.Together.{StandTogether}
