@@ -1,6 +1,6 @@
-use Rattle.turn_bound.proofs.Names.{arith, ◌≡◌, ℕ, ◌&&◌, ◌||◌, not, Bool, true, false, refl, sym, ◌∙◌, Option, Ok, acked, acked_back}
-use Rattle.turn_bound.proofs.Names.{numbers-alike, Originator, Answerer, Frame, Rr, Rnr, Rej, Outgoing, resumed, Arrived, hear, without_adp}
-use Rattle.turn_bound.proofs.Names.{ends_wait, Phase, Connected, Answer, is_closed, is_released}
+use Rattle.turn_bound.proofs.Names.{arith, ◌≡◌, ℕ, ◌&&◌, ◌||◌, not, Bool, true, false, refl, sym, ◌∙◌, Option, Ok, numbers-alike}
+use Rattle.turn_bound.proofs.Names.{Originator, Answerer, Frame, Rr, Rnr, Rej, Outgoing, resumed, Arrived, hear, without_adp, Phase}
+use Rattle.turn_bound.proofs.Names.{Connected, Answer, is_closed, is_released}
 use Rattle.turn_bound.proofs.Truths.{or-first, or-true}
 use Rattle.link_account.proofs.Names.{Account}
 use Rattle.link_account.proofs.HearWays.{Ways, by-ways}
@@ -21,9 +21,6 @@ pub record OHeard (ua final : Bool) (a b : Account) : Type 0 where
   pub released : is_released a.phase ≡ true → is_released b.phase ≡ true
   pub awaits : (a.phase ≡ Connected → a.outgoing.awaited ≡ true) → final ≡ false → b.phase ≡ Connected → b.outgoing.awaited ≡ true
 
-o-same : (ua final : Bool) (a b : Account) → b.phase ≡ a.phase → b.outgoing.awaited ≡ a.outgoing.awaited → OHeard ua final a b
-o-same ua final a b p w = grind (arith)
-
 -- it is not begun after it
 o-early : (ua final : Bool) (a b : Account) (p q : Phase) → a.phase ≡ p → b.phase ≡ q → is_released p ≡ false → is_begun q ≡ false
     → OHeard ua final a b
@@ -33,13 +30,6 @@ pub resumed-awaited : (o : Outgoing) → (resumed o).awaited ≡ o.awaited
 resumed-awaited o = grind (arith)
 
 -- a number is heard: the wait goes on unless the answer came
-acked-awaits : (command pf final : Bool) (a : Account) (n : ℕ) → ends_wait command pf a ≡ final → pf && not command ≡ false
-    → ((acked final a.outgoing n).awaited ≡ a.outgoing.awaited) × ((acked_back final a.outgoing n).awaited ≡ a.outgoing.awaited)
-acked-awaits command pf b a n e f = grind (arith)
-
-o-number : (ua final : Bool) (a b : Account) → a.phase ≡ Connected → b.phase ≡ Connected
-    → (final ≡ false → b.outgoing.awaited ≡ a.outgoing.awaited) → OHeard ua final a b
-o-number ua final a b e f k = grind (arith)
 
 o-ways : (turn : ℕ) (a : Account) → a.setup.role ≡ Originator
     → Ways (λ x b. OHeard (of_arrived frame_ua x) (of_arrived frame_final x) a b) turn a
