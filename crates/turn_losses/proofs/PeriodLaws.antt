@@ -1,4 +1,5 @@
 -- What holds of polls and their answers in every run.
+use Rattle.std.proofs.lemmas.Option.{slice_get_past}
 use Rattle.std.specs.Prelude.{◌≡◌, ℕ, ◌+◌, ◌<◌, ◌≤◌, true, false}
 use Rattle.link_account.specs.Account.{Account, is_connected}
 use Rattle.turn_losses.proofs.Names.{poll_due, EndRun, sends_poll, hears_poll, sends_final, hears_final, is_lost, past, sent_or, of_frame}
@@ -36,11 +37,6 @@ pub looked : (w : TimedRun) → (k t : ℕ) → t + k < length w.ts → slice_ge
 looked w zero t l = ap (λ n. slice_get (past w.ts n) 0) (omega arith) ∙ ap (λ us. slice_get us 0) (w.trace.grows t (omega (arith, l)))
 looked w (suc k) t l = grind (arith, looked w k t (omega (arith, l)))
 
-get-none : {A : Type 0} (xs : List A) (k : ℕ) → length xs ≤ k → slice_get xs k ≡ None
-get-none [] k l = refl
-get-none (x ∷ xs) zero l = absurd (omega (arith, l))
-get-none (x ∷ xs) (suc k) l = get-none xs k (omega (arith, l))
-
 -- what a line carries in a turn of a run, or in the one behind it
 pub carries-late : (w : TimedRun) (t : ℕ) → t ≤ length w.ts → (x : Turn) → Carries w.delay (past w.ts t) x → (role : Role)
     → ArrivesLate (w.delay (other role)) t (is_lost (of role x).heard) (end_of w (other role)).slot (arrival (of role x).heard)
@@ -53,7 +49,7 @@ carries-late w t within x carries role = record { early = early; late = late }
     one = w.keeps.delays (other role)
 
     early : t < d → arrival (of role x).heard ≡ arrivals.Nothing
-    early l = grind (arith, past-length, none-heard, get-none)
+    early l = grind (arith, past-length, none-heard, slice_get_past)
 
     late : d ≤ t → arrival (of role x).heard ≡ cond (is_lost (of role x).heard) arrivals.Nothing
         (arrives ((end_of w (other role)).slot (t - d)))

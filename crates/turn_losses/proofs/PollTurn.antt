@@ -1,3 +1,4 @@
+use Rattle.std.proofs.lemmas.Bool.{cases_Bool}
 use Rattle.std.proofs.Common.{◌⊎◌, inl, inr, ◌≡◌, ℕ, ◌+◌, ◌&&◌, ◌||◌, not, Bool, true, false, arith, refl, sym, ◌∙◌, ap, Option, Some, None}
 use Rattle.std.proofs.Common.{Ok, ◌≤◌, cond}
 use Rattle.turn_bound.proofs.Truths.{or-late, unlinked-connected, and-second, and-true, clash, and-drop}
@@ -182,9 +183,6 @@ connected-released p e = grind (arith)
 connected-closed : (p : Phase) → is_connected p ≡ true → is_closed p ≡ false
 connected-closed p e = grind (arith)
 
-either-bool : (b : Bool) → (b ≡ true) ⊎ (b ≡ false)
-either-bool b = grind (arith)
-
 -- b is the account once it has heard, c once it has spoken
 pub poll-turn : (period turn : ℕ) (role : Role) (polled final : Bool) (a b : Account) (said : Said) → 1 ≤ period
     → PollHeard role turn polled a b → SpeakPoll turn b said → OneDue role b → NoneDue a → Early role a
@@ -194,7 +192,7 @@ pub poll-turn : (period turn : ℕ) (role : Role) (polled final : Bool) (a b : A
     → (is_connected a.phase ≡ true → (count ≡ 0) ⊎ ((count ≡ a.outgoing.count) × (b.wait.timer ≡ a.wait.timer)))
     → (made : Bool) × PollTurn period turn role polled final made count said.sent a said.account
 poll-turn period turn role polled final a b said some h k one none early untimed silent q wait count same-count keeps =
-    go (either-bool (is_connected said.account.phase))
+    go (cases_Bool (is_connected said.account.phase))
   where
     c : Account
     c = said.account
@@ -204,7 +202,7 @@ poll-turn period turn role polled final a b said some h k one none early untimed
     unlinked-before e = sym k.linked ∙ e
 
     unlinked-first : is_linked b.phase ≡ false → is_linked a.phase ≡ false
-    unlinked-first e = elim (either-bool (is_linked a.phase)) [ inl x ↦ clash (is_linked b.phase) (h.linked x) e | inr x ↦ x ]
+    unlinked-first e = elim (cases_Bool (is_linked a.phase)) [ inl x ↦ clash (is_linked b.phase) (h.linked x) e | inr x ↦ x ]
 
     stays-linked : is_linked a.phase ≡ true → is_linked c.phase ≡ true
     stays-linked e = k.linked ∙ h.linked e
@@ -221,17 +219,17 @@ poll-turn period turn role polled final a b said some h k one none early untimed
 
     -- an answerer that has heard no I frame and no supervisory frame polls for nothing
     silent-poll : is_connected c.phase ≡ true → role ≡ Answerer → c.numbered ≡ false → c.wait.poll ≡ true → ⊥
-    silent-poll e r n p = grind (arith, either-bool, clash)
+    silent-poll e r n p = grind (arith, cases_Bool, clash)
 
     early-silent : role ≡ Answerer → is_connected c.phase ≡ true → c.numbered ≡ false → c.wait.poll ≡ false
-    early-silent r e n = elim (either-bool c.wait.poll) [ inl p ↦ absurd (silent-poll e r n p) | inr p ↦ p ]
+    early-silent r e n = elim (cases_Bool c.wait.poll) [ inl p ↦ absurd (silent-poll e r n p) | inr p ↦ p ]
 
     after-early : Early role c
     after-early = record { poll = early-poll; numbered = early-numbered; silent = early-silent }
 
     -- no answer is due where a poll is held up
     no-answer : is_connected c.phase ≡ true → is_connected b.phase ≡ true → SaidPoll turn b said → c.wait.poll ≡ true → b.owes.answer ≡ None
-    no-answer e f l p = grind (arith, connected-closed, either-bool, silent-poll, clash)
+    no-answer e f l p = grind (arith, connected-closed, cases_Bool, silent-poll, clash)
 
     held : is_connected c.phase ≡ true → poll_due c ≡ true → polled ≡ true
     held e d = grind (arith, and-second, reply-heard, no-answer)
@@ -353,7 +351,7 @@ poll-turn period turn role polled final a b said some h k one none early untimed
     )
       where
         none-kept : (l.made ≡ false → b.wait.poll ≡ true) → ⊥
-        none-kept w = grind (arith, either-bool, clash)
+        none-kept w = grind (arith, cases_Bool, clash)
 
     go : (is_connected c.phase ≡ true) ⊎ (is_connected c.phase ≡ false)
         → (made : Bool) × PollTurn period turn role polled final made count said.sent a c
