@@ -1,18 +1,14 @@
 use Rattle.std.proofs.lemmas.Bool.{cases_Bool}
-use Rattle.std.proofs.Common.{◌⊎◌, inl, inr, ◌≡◌, ℕ, ◌+◌, ◌&&◌, ◌||◌, not, Bool, true, false, arith, refl, sym, ◌∙◌, ap, Option, Some, None}
-use Rattle.std.proofs.Common.{Ok, ◌≤◌, cond}
-use Rattle.turn_bound.proofs.Truths.{or-late, unlinked-connected, and-second, and-true, clash, and-drop}
-use Rattle.link_account.proofs.Names.{Frame, Account, is_connected, trying, Said, frame_for, nr_of, ready_frame, speak, Role, Originator}
-use Rattle.link_account.proofs.Names.{Answerer}
-use Rattle.link_run.proofs.Names.{Connected, Releasing, Answer, Phase, is_closed, is_released}
+use Rattle.turn_losses.proofs.Names.{◌⊎◌, inl, inr, ◌≡◌, ℕ, ◌+◌, ◌&&◌, ◌||◌, not, Bool, true, false, arith, refl, sym, ◌∙◌, ap, Option}
+use Rattle.turn_losses.proofs.Names.{Some, None, Ok, ◌≤◌, cond, Frame, Account, is_connected, trying, Said, frame_for, nr_of, ready_frame}
+use Rattle.turn_losses.proofs.Names.{speak, Role, Originator, Answerer, linked-so, Steps, steps-so, Tries, Ways, next-keeps, Connected}
+use Rattle.turn_losses.proofs.Names.{Releasing, Answer, Phase, is_closed, is_released, OneDue, of_frame, keeps, or-late, unlinked-connected}
+use Rattle.turn_losses.proofs.Names.{and-second, and-true, clash, and-drop, NoneDue, SetFrom, is_linked, poll_due, PollTurn, is_poll}
+use Rattle.turn_losses.proofs.Names.{is_final}
 use Rattle.link_account.specs.Speak.{running}
-use Rattle.link_account.proofs.SpeakWays.{linked-so, Before, Steps, steps-so, ConnectedWays, Tries, Ways, by-ways, answers-unconnected}
-use Rattle.link_account.proofs.SpeakWays.{next-keeps}
+use Rattle.link_account.proofs.SpeakWays.{Before, ConnectedWays, by-ways, answers-unconnected}
 use Rattle.turn_losses.proofs.PollHear.{set-same, PollHeard, linked-connected}
-use Rattle.turn_losses.proofs.Names.{is_poll, is_final, of_frame, SetFrom, is_linked, NoneDue, poll_due, PollTurn}
-use Rattle.turn_bound.proofs.AtMostOne.{OneDue}
 use Rattle.turn_losses.proofs.Trace.{Early}
-use Rattle.turn_bound.proofs.Tied.{keeps}
 
 -- What the nine steps make of an end's polls and replies, once its timers are done.
 pub record StepPoll (turn : ℕ) (a : Account) (said : Said) : Type 0 where
@@ -52,47 +48,10 @@ answer-quiet d a = grind (arith)
 
 steps-poll : (turn : ℕ) (special : Bool) (a : Account) → Steps (StepPoll turn a) turn special a
 steps-poll turn special a = record {
-  answers = λ d e. let q = answer-quiet d a in record {
-    phase = refl;
-    numbered = refl;
-    timer = set-same turn a.wait.timer;
-    sent = λ h. let wrong : true ≡ false = sym h ∙ q.0 in cc;
-    kept = λ h. (h, (λ n. let wrong : None ≡ Some d = sym n ∙ e in cc));
-    final = λ h. let wrong : true ≡ false = sym h ∙ q.1 in cc;
-    replies = λ n k. let wrong : None ≡ Some d = sym n ∙ e in cc;
-    goes = λ h. inr h;
-    awaited = refl;
-    count = refl;
-    runs = λ s h. h;
-  };
-  final = λ n e. let k = ready-kinds a.owes.busy false true (nr_of a) in record {
-    phase = refl;
-    numbered = refl;
-    timer = set-same turn a.wait.timer;
-    sent = λ h. let wrong : true ≡ false = sym h ∙ k.0 in cc;
-    kept = λ h. (h, (λ n. (e, k.1)));
-    final = λ h. e;
-    replies = λ n h. k.1;
-    goes = λ h. inr h;
-    awaited = refl;
-    count = refl;
-    runs = λ s h. h;
-  };
-  poll = λ n r e. let k = ready-kinds a.owes.busy true true (nr_of a) in record {
-    phase = refl;
-    numbered = refl;
-    timer = set-same turn a.wait.timer;
-    sent = λ h. (e, refl);
-    kept = λ h. cc;
-    final = λ h. let wrong : true ≡ false = sym h ∙ k.1 in cc;
-    replies = λ n h. let wrong : true ≡ false = sym h ∙ r in cc;
-    goes = λ h. inl k.0;
-    awaited = refl;
-    count = refl;
-    runs = λ s h. h;
-  };
-  segment = λ k u n e. quiet turn a _ k refl refl (set-running turn a.wait.timer) refl refl refl (next-keeps a.outgoing).awaited
-      (next-keeps a.outgoing).count (running-runs turn a.wait.timer);
+  answers = grind (arith, answer-quiet, set-same);
+  final = grind (arith, ready-kinds, nr_of, set-same);
+  poll = grind (arith, ready-kinds, nr_of, set-same);
+  segment = grind (arith, quiet, set-running, next-keeps, running-runs);
   brkack = λ k s word e. still k _ refl refl (refl, refl) refl refl;
   brk = λ k s w word e. still k _ refl refl (refl, refl) refl refl;
   tell = λ k w e. let q = ready-kinds a.owes.busy false false (nr_of a) in still k _ refl refl (refl, refl) q.0 q.1;
@@ -147,8 +106,7 @@ other-speaks turn a said f l p n x y = grind (arith)
 
 poll-ways : (turn : ℕ) (release : Bool) (a : Account) → Ways (SpeakPoll turn a) turn release a
 poll-ways turn release a = record {
-  answers = λ alone d e. let q = answer-quiet d a in
-      other-speaks turn a _ (answers-unconnected a.phase a.setup.role alone) refl refl refl q.0 q.1;
+  answers = grind (arith, answer-quiet, other-speaks, answers-unconnected);
   flags = λ alone e. other-speaks turn a _ (answers-unconnected a.phase a.setup.role alone) refl refl refl refl refl;
   mark = λ p r e. other-speaks turn a _ (ap is_connected p) refl refl refl refl refl;
   odp = λ p r l. other-speaks turn a _ (ap is_connected p) refl refl refl refl refl;
