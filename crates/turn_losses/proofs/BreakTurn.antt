@@ -1,13 +1,16 @@
 -- What speaking makes of an end's breaks, of what it owes for the other end's, and of its urgent segment.
-use Rattle.turn_losses.proofs.Names.{◌⊎◌, inl, inr, ◌≡◌, ℕ, ◌+◌, ◌-◌, ◌%◌, ◌<◌, ◌&&◌, ◌||◌, not, Bool, true, false, nat_eq, nat_lt, length}
-use Rattle.turn_losses.proofs.Names.{arith, refl, sym, ◌∙◌, ap, Option, Some, None, Ok, ◌≤◌, length-append, after_asked, is_some, nat_tests}
-use Rattle.turn_losses.proofs.Names.{Srej, BreakWord, OwnBreaks, waits, ticked, Account, Said, ready_frame, speak_linked, Role, Sent}
-use Rattle.turn_losses.proofs.Names.{Arrived, is_connected, Steps, steps-so, Link, of_frame, of_arrived, Served, or-late, clash, and-true}
-use Rattle.turn_losses.proofs.Names.{and-second, and-drop, IsAck, is_poll, is_final}
+use Rattle.std.proofs.Common.{◌⊎◌, inl, inr, ◌≡◌, ℕ, ◌+◌, ◌-◌, ◌%◌, ◌<◌, ◌&&◌, ◌||◌, not, Bool, true, false, nat_eq, nat_lt, length}
+use Rattle.std.proofs.Common.{arith, refl, sym, ◌∙◌, ap, Option, Some, None, Ok, ◌≤◌, length-append}
+use Rattle.link_account.proofs.Names.{is_some, nat_tests, Srej, BreakWord, OwnBreaks, waits, ticked, Account, Said, ready_frame}
+use Rattle.link_account.proofs.Names.{speak_linked, Role, Sent, Arrived, is_connected}
+use Rattle.link_run.proofs.Names.{Link}
+use Rattle.lapm_receiver.specs.Incoming.{after_asked}
 use Rattle.break_signals.specs.Breaks.{own_due, after_brk, after_ack}
 use Rattle.link_account.specs.Speak.{says_word}
-use Rattle.link_account.proofs.SpeakWays.{NoWord, polling_at, by-linked}
-use Rattle.turn_bound.proofs.Truths.{or-first}
+use Rattle.turn_bound.proofs.Value.{IsAck}
+use Rattle.link_account.proofs.SpeakWays.{NoWord, Steps, steps-so, polling_at, by-linked}
+use Rattle.turn_bound.proofs.Truths.{or-late, or-first, clash, and-true, and-second, and-drop}
+use Rattle.turn_losses.proofs.Names.{of_frame, is_poll, is_final, of_arrived, Served}
 use Rattle.turn_losses.proofs.Words.{ack_of, any_brk, brk_of, of_word, pends_of, pends}
 use Rattle.lapm_frames.specs.declared.sent.Sent.TheVariants as slots
 use Rattle.turn_losses.proofs.InTurn.{InTurn}

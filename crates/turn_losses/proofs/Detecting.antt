@@ -1,19 +1,22 @@
 -- Where the originator sees no pattern, something was lost in each period.
-use Rattle.turn_losses.proofs.Names.{◌⊎◌, inl, inr, ◌≡◌, ℕ, zero, suc, ◌+◌, ◌-◌, ◌*◌, ◌<◌, ◌≤◌, Bool, true, false, cond, length, arith, sym}
-use Rattle.turn_losses.proofs.Names.{◌∙◌, ap, Option, Some, Result, Ok, Err, List, [], ◌∷◌, numbers-alike, cases_lt, Originator, Answerer}
-use Rattle.turn_losses.proofs.Names.{Arrived, LinkFault, NotDetected, Account, hear, arrives, Said, says, speak, Role, Heard, why-broken}
-use Rattle.turn_losses.proofs.Names.{else_says, answering, Detecting, Connected, Releasing, Answer, User, is_busy, is_released, Accounts}
-use Rattle.turn_losses.proofs.Names.{arrival, served_at, releases, Link, Turn, RunOf, IsCarried, speaks-phase, served_account, Served}
-use Rattle.turn_losses.proofs.Names.{serves-all, KeepsTime, EndRun, TwoEnds, TimedRun, end_of, OriginatorWantsPattern, UndetectedIsStarved}
-use Rattle.turn_losses.proofs.Names.{PeriodLoses}
-use Rattle.link_account.proofs.Names.{Passed}
+use Rattle.std.proofs.Common.{◌⊎◌, inl, inr, ◌≡◌, ℕ, zero, suc, ◌+◌, ◌-◌, ◌*◌, ◌<◌, ◌≤◌, Bool, true, false, cond, length, arith, sym}
+use Rattle.std.proofs.Common.{◌∙◌, ap, Option, Some, Result, Ok, Err, List, [], ◌∷◌}
+use Rattle.link_account.proofs.Names.{cases_lt, Originator, Answerer, Arrived, LinkFault, NotDetected, Account, hear, arrives, Said, says}
+use Rattle.link_account.proofs.Names.{speak, Role, Heard, Passed}
+use Rattle.link_run.proofs.Names.{Detecting, Connected, Releasing, Answer, User, is_busy, is_released, Accounts, arrival, served_at}
+use Rattle.link_run.proofs.Names.{releases, Link, Turn, RunOf, IsCarried}
+use Rattle.link_account.specs.Speak.{else_says, answering}
 use Rattle.turn_bound.specs.Spent.{SpendsOnTime}
+use Rattle.link_run.proofs.Speaking.{speaks-phase}
 use Rattle.turn_losses.proofs.Periods.{once, times, loses-of}
-use Rattle.turn_losses.specs.Losses.{PassesNoPattern, UndetectedOnTime}
+use Rattle.turn_losses.specs.Losses.{OriginatorWantsPattern, UndetectedIsStarved, PassesNoPattern, UndetectedOnTime}
+use Rattle.link_account.proofs.HearWays.{numbers-alike}
+use Rattle.link_account.proofs.SpeakWays.{why-broken}
 use Rattle.turn_losses.proofs.Tracing.{timed-run, end-turn, last-turn}
 use Rattle.turn_losses.proofs.PeriodLaws.{two-ends, NoneLost}
 use Rattle.turn_losses.proofs.Expiries.{LostIn, lost-or-none}
 use Rattle.turn_losses.proofs.Wanting.{all-but-one}
+use Rattle.turn_losses.proofs.Names.{served_account, Served, serves-all, PeriodLoses, EndRun, TwoEnds, TimedRun, end_of, KeepsTime}
 use Rattle.lapm_frames.specs.declared.seen.Seen.TheVariants as seens
 use Rattle.lapm_frames.specs.declared.sent.Sent.TheVariants as slots
 use Rattle.lapm_frames.specs.declared.arrived.Arrived.TheVariants as arrivals

@@ -1,12 +1,14 @@
-use Rattle.turn_losses.proofs.Names.{◌≡◌, ℕ, ◌+◌, ◌-◌, ◌<◌, Bool, true, ◌∷◌, length, arith, refl, sym, ◌∙◌, ap, Option, Some, slice_get}
-use Rattle.turn_losses.proofs.Names.{Role, Originator, Answerer, other, of, Frame, Heard, is_connected, Accounts, Spoken, Turn, arrival}
-use Rattle.turn_losses.proofs.Names.{sent_in, turn_at, of_frame, of_arrived, and-not, TwoEnds, Deed, past, sent_or, sends_poll, hears_poll}
-use Rattle.turn_losses.proofs.Names.{sends_final, hears_final, TimedRun, end_of, is_poll, is_final}
+use Rattle.std.proofs.Common.{◌≡◌, ℕ, ◌+◌, ◌-◌, ◌<◌, Bool, true, ◌∷◌, length, arith, refl, sym, ◌∙◌, ap, Option, Some}
+use Rattle.turn_losses.proofs.Names.{TwoEnds, of_frame, of_arrived, is_poll, is_final, Deed, past, sent_or, sends_poll, hears_poll}
+use Rattle.turn_losses.proofs.Names.{sends_final, hears_final, TimedRun, end_of}
 use Rattle.turn_losses.proofs.PeriodLaws.{polls-apart, still-awaited, reply-matches, two-ends, Answers, StillAwaited, looked}
-use Rattle.link_run.proofs.Names.{sent_ago}
+use Rattle.link_account.proofs.Names.{slice_get, Role, Originator, Answerer, other, of, Frame, Heard, is_connected}
+use Rattle.link_run.proofs.Names.{Accounts, Spoken, Turn, arrival, sent_in, sent_ago}
 use Rattle.link_run.specs.Overheard.{passes_in}
+use Rattle.link_run.specs.Starved.{turn_at}
 use Rattle.turn_losses.specs.Polls.{sends_of, PollsIn, PollsKeepApart, RepliesAtOnce, AnswersPoll, AnswersMatchPolls}
 use Rattle.turn_losses.proofs.Tracing.{OneMore, traced-turn, past-all, past-before, timed-run, timed-of}
+use Rattle.turn_bound.proofs.Truths.{and-not}
 
 sends-kind : (is : Frame → Bool) (m : Option Spoken) (s : Spoken) → m ≡ Some s → sends_of is m ≡ of_frame is (sent_or m)
 sends-kind is b s e = grind (arith)

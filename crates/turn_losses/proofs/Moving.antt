@@ -1,15 +1,15 @@
 -- What an originator's try sends and hears, and what ends it.
-use Rattle.turn_losses.proofs.Names.{◌⊎◌, ◌≡◌, ℕ, ◌+◌, ◌≤◌, Bool, true, false, nat_eq, arith, refl, sym, ◌∙◌, ap, Option, Some, Ok, Err}
-use Rattle.turn_losses.proofs.Names.{Result, not, by-ways, numbers-alike, is_some, nat_tests, Role, Originator, Answerer, Frame, Sabme}
-use Rattle.turn_losses.proofs.Names.{Disc, Offer, offer_in, written, Arrived, LinkFault, Account, hear, on_nothing, trying, Said, speak}
-use Rattle.turn_losses.proofs.Names.{speak_linked, Sent, says, frame_for, speak_in, Tries, linked-so, linked-alike, connected, else_says}
-use Rattle.turn_losses.proofs.Names.{answering, Phase, Detecting, Negotiating, Establishing, Connected, Releasing, Closed, Answer, of_frame}
-use Rattle.turn_losses.proofs.Names.{of_arrived}
-use Rattle.link_account.proofs.Names.{Ua, Dm, Xid}
-use Rattle.link_account.proofs.Names.{on_frame}
-use Rattle.link_account.specs.Hear.{on_xid_command}
-use Rattle.link_account.specs.Speak.{speak_negotiating}
-use Rattle.link_account.proofs.SpeakWays.{answers_alone, by-linked}
+use Rattle.std.proofs.Common.{◌⊎◌, inl, inr, ◌≡◌, ℕ, ◌+◌, ◌≤◌, Bool, true, false, nat_eq, arith, refl, sym, ◌∙◌, ap, Option, Some, Ok, Err}
+use Rattle.std.proofs.Common.{Result, not}
+use Rattle.link_account.proofs.Names.{is_some, nat_tests, Role, Originator, Answerer, Frame, Sabme, Disc, Ua, Dm, Xid, Offer, offer_in}
+use Rattle.link_account.proofs.Names.{written, Arrived, LinkFault, Account, hear, on_frame, on_nothing, trying, Said, speak, speak_linked}
+use Rattle.link_account.proofs.Names.{Sent, says, frame_for, speak_in}
+use Rattle.link_run.proofs.Names.{Phase, Detecting, Negotiating, Establishing, Connected, Releasing, Closed, Answer}
+use Rattle.link_account.specs.Hear.{connected, on_xid_command}
+use Rattle.link_account.specs.Speak.{else_says, answering, speak_answer, speak_negotiating}
+use Rattle.turn_bound.proofs.MeetHear.{of_frame, of_arrived}
+use Rattle.link_account.proofs.HearWays.{by-ways, numbers-alike}
+use Rattle.link_account.proofs.SpeakWays.{Tries, answers_alone, by-linked, linked-so, linked-alike}
 use Rattle.turn_losses.proofs.PollTurn.{SaidPoll, linked-poll}
 use Rattle.lapm_frames.specs.declared.arrived.Arrived.TheVariants as arrivals
 use Rattle.link_account.proofs.SpeakWays as SpeakWays
@@ -186,4 +186,18 @@ says-due Negotiating turn b said r offers (e, d) h =
     ∙ (ap (of_frame (moves_on Negotiating)) (says-answer b slots.Flags answers.Xid d) ∙ offers)
 says-due Establishing turn b said r offers (e, d) h = ap (of_frame (moves_on Establishing))
     (linked-answers turn b said true d (ap (λ q. speak_in q turn false b) (sym e) ∙ h))
+says-due Releasing turn b said r offers (e, d) h = go d
+  where
+    there : speak_answer b ≡ Ok said
+    there = ap (λ q. speak_in q turn false b) (sym e) ∙ h
+
+    same : else_says (answering b.owes.answer b) (says slots.Flags b) ≡ said
+    same = let w = there in cc
+
+    go : (b.owes.answer ≡ Some (answers.Ua true)) ⊎ (b.owes.answer ≡ Some (answers.Dm true))
+        → of_frame (moves_on Releasing) said.sent ≡ true
+    go (inl x) = ap (λ s. of_frame (moves_on Releasing) s.sent) (sym same)
+        ∙ ap (of_frame (moves_on Releasing)) (says-answer b slots.Flags (answers.Ua true) x)
+    go (inr x) = ap (λ s. of_frame (moves_on Releasing) s.sent) (sym same)
+        ∙ ap (of_frame (moves_on Releasing)) (says-answer b slots.Flags (answers.Dm true) x)
 says-due p turn b said r offers d h = grind (arith)

@@ -42,3 +42,4 @@ pub use Rattle.turn_losses.specs.Losses.{AnswererWantsAnswers, LosesEach, Origin
 pub use Rattle.turn_losses.specs.Losses.{OriginatorWantsPattern, PeriodLoses, UndetectedIsStarved}
 pub use Rattle.turn_losses.specs.Polls.{is_final, is_poll}
 pub use Rattle.turn_losses.specs.Tries.{AnswererWantsAnswer, GivesUpForLosses, OriginatorWantsFrame}
+pub use Rattle.turn_bound.proofs.Serving.{serves-well}

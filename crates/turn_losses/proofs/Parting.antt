@@ -1,20 +1,20 @@
 -- An answerer that gives up, also while the originator releases.
-use Rattle.turn_losses.proofs.Names.{◌⊎◌, inl, inr, ◌≡◌, ◌≢◌, ℕ, zero, suc, ◌+◌, ◌-◌, ◌*◌, ◌<◌, ◌≤◌, ◌&&◌, ◌||◌, not, Bool, true, false}
-use Rattle.turn_losses.proofs.Names.{cond, nat_eq, max, List, ◌∷◌, length, arith, refl, sym, ◌∙◌, ap, subst, Some, None, Ok, Err, cases_lt}
-use Rattle.turn_losses.proofs.Names.{nat_tests, Role, Originator, Answerer, Outgoing, ReadsWritten, waits, Arrived, LinkFault, Spent}
-use Rattle.turn_losses.proofs.Names.{Account, is_connected, hear, trying, MayPlay, Said, speak, speak_in, speak_linked, other, Phase}
-use Rattle.turn_losses.proofs.Names.{Detecting, Connected, Releasing, Closed, is_released, is_closed, Link, Accounts, Turn, Hears, arrival}
-use Rattle.turn_losses.proofs.Names.{served_at, releases, Carries, BrokenTurn, SpanLoses, IsStarved, of_arrived, is_lost, and-two, clash}
-use Rattle.turn_losses.proofs.Names.{is-true, linked-of, connected-is, Rates, rates, Sends, Stands, is_linked, EndRun, TwoEnds, hears_final}
-use Rattle.turn_losses.proofs.Names.{TimedRun, end_of, AnswererWantsAnswers, PeriodLoses, LosesEach, AnswererWantsAnswer}
+use Rattle.std.proofs.Common.{◌⊎◌, inl, inr, ◌≡◌, ◌≢◌, ℕ, zero, suc, ◌+◌, ◌-◌, ◌*◌, ◌<◌, ◌≤◌, ◌&&◌, ◌||◌, not, Bool, true, false, cond}
+use Rattle.std.proofs.Common.{nat_eq, max, List, ◌∷◌, length, arith, refl, sym, ◌∙◌, ap, subst, Some, None, Ok, Err}
+use Rattle.turn_bound.proofs.Truths.{and-two, clash, is-true}
+use Rattle.turn_bound.proofs.Value.{linked-of, connected-is}
 use Rattle.turn_bound.proofs.Speaking.{stopped}
-use Rattle.link_account.proofs.Names.{is_originator}
-use Rattle.link_account.proofs.Names.{speak_releasing}
-use Rattle.link_run.proofs.Names.{next_break}
+use Rattle.link_account.proofs.Names.{cases_lt, nat_tests, Role, Originator, Answerer, is_originator, Outgoing, ReadsWritten, waits}
+use Rattle.link_account.proofs.Names.{Arrived, LinkFault, Spent, Account, is_connected, hear, trying, MayPlay, Said, speak, speak_in}
+use Rattle.link_account.proofs.Names.{speak_linked, speak_releasing, other}
+use Rattle.link_run.proofs.Names.{Phase, Detecting, Connected, Releasing, Closed, is_released, is_closed, next_break, Link, Accounts, Turn}
+use Rattle.link_run.proofs.Names.{Hears, arrival, served_at, releases, Carries}
 use Rattle.lapm_sender.specs.Outgoing.{is_whole}
 use Rattle.link_run.specs.End.{is_ready}
-use Rattle.link_run.specs.Run.{finished_at, served_ends}
+use Rattle.link_run.specs.Run.{BrokenTurn, finished_at, served_ends}
+use Rattle.link_run.specs.Starved.{SpanLoses, IsStarved}
 use Rattle.turn_losses.proofs.Periods.{once, later-loses, loses-at, loses-last, loses-of}
+use Rattle.turn_losses.specs.Losses.{AnswererWantsAnswers}
 use Rattle.turn_losses.proofs.PollHear.{linked-connected}
 use Rattle.turn_losses.proofs.Tracing.{timed-run, EndTurn, TurnAt, end-turn, last-turn, starts-fresh}
 use Rattle.turn_losses.proofs.Numbering.{Plays, counts-of}
@@ -25,8 +25,11 @@ use Rattle.turn_losses.proofs.HeardNumber.{CountKept, count-hears, PausedHeard, 
 use Rattle.std.specs.Prelude.{nat_lt}
 use Rattle.turn_losses.proofs.Acknowledged.{Counts}
 use Rattle.turn_losses.proofs.Wanting.{LastTry, last-try, peer-linked}
+use Rattle.turn_losses.specs.Tries.{AnswererWantsAnswer}
 use Rattle.turn_losses.proofs.Moving.{asks, try-heard, linked-phase, answer-due}
 use Rattle.turn_losses.proofs.Trying.{TryTurn, TriesSo, Tried, tried, tries-so}
+use Rattle.turn_losses.proofs.Names.{Rates, rates, Sends, Stands, of_arrived, is_lost, PeriodLoses, LosesEach, is_linked, EndRun, TwoEnds}
+use Rattle.turn_losses.proofs.Names.{hears_final, TimedRun, end_of}
 
 abbrev IsFree : Account → Type 0
 IsFree a = (a.outgoing.awaited ≡ false) × (a.outgoing.paused ≡ false)
