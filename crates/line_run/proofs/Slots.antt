@@ -1,7 +1,6 @@
 -- The slot that arrives in a turn, and the turns in which those before it were sent.
-use Rattle.std.proofs.Common.{◌≡◌, ℕ, zero, suc, ◌+◌, ◌-◌, ◌≤◌, List, [], ◌∷◌, length, drop, arith, refl, subst, Some}
-use Rattle.std.specs.Prelude.{slice_get}
-use Rattle.line_run.proofs.Cited.{IsSendable, Role, Spoken, Turn, of, sent_ago, sent_in}
+use Rattle.line_run.proofs.Cited.{◌≡◌, ℕ, zero, suc, ◌+◌, ◌-◌, ◌≤◌, List, [], ◌∷◌, length, drop, arith, refl, subst, Some, slice_get}
+use Rattle.line_run.proofs.Cited.{IsSendable, sent_ago, sent_in, Spoken, Turn, of, Role}
 use Rattle.line_run.specs.Stream.{AllSendable}
 
 -- it was sent in this turn, behind those
@@ -16,8 +15,7 @@ pub sent-in : (role : Role) (n : ℕ) (ts : List Turn) (slot : Spoken) → sent_
 sent-in role n [] slot e = absurd cc
 sent-in role zero (t ∷ ts) slot e = record { turn = t; rest = refl; sent = e; count = omega arith; sendable = λ s. s.0 role slot e }
 sent-in role (suc n) (t ∷ ts) slot e =
-    let s = sent-in role n ts slot e in
-    record { turn = s.turn; rest = s.rest; sent = s.sent; count = omega (arith, s.count); sendable = λ a. s.sendable a.1 }
+    let s = sent-in role n ts slot e in grind (arith)
 
 -- the same by the turns that a slot is on its way
 pub record SentAgo (role : Role) (delay : ℕ) (ts : List Turn) (slot : Spoken) : Type 0 where
@@ -34,11 +32,4 @@ sent-ago role delay ts slot low e =
     let s = sent-in role (delay - 1) ts slot e in
     let d : suc (delay - 1) ≡ delay = omega (arith, low) in
     let c : length (drop delay ts) + delay ≡ length ts = subst (λ k. length (drop k ts) + k ≡ length ts) d s.count in
-    record {
-      turn = s.turn;
-      rest = subst (λ k. drop (delay - 1) ts ≡ s.turn ∷ drop k ts) d s.rest;
-      sent = s.sent;
-      count = omega (arith, c);
-      enough = omega (arith, c);
-      sendable = s.sendable;
-    }
+    grind (arith)

@@ -1,18 +1,14 @@
 -- Samples that no line of a script displaces, up to some symbol.
-use Rattle.std.proofs.Common.{◌≡◌, ◌∙◌, ℕ, zero, suc, ◌+◌, ◌*◌, ◌-◌, ◌<◌, ◌≤◌, nat_le, Bool, true, false, cond, ◌&&◌, All, List, [], ◌∷◌}
-use Rattle.std.proofs.Common.{length, map, refl, ap, arith, Some, None}
-use Rattle.std.proofs.lemmas.Bool.Decides.{nat_tests}
-use Rattle.std.proofs.lemmas.List.Elements.{All-head, All-nil, All-same, All-tail}
+use Rattle.line_run.proofs.Cited.{◌≡◌, ◌∙◌, ℕ, zero, suc, ◌+◌, ◌*◌, ◌-◌, ◌<◌, ◌≤◌, Bool, true, cond, ◌&&◌, All, List, [], ◌∷◌, length, map}
+use Rattle.line_run.proofs.Cited.{refl, ap, arith, Some, None, All-head, All-tail, lost-once, line_depth, line_trellis, comes-back}
+use Rattle.line_run.proofs.Cited.{four-each, Demodulates, DisplacesNoneBefore, length-points, covers, ScriptValue, mode_of, LosesAt}
+use Rattle.line_run.proofs.Cited.{Records, displaced, displaced_from, tap_of, same_role, Role, map_points, plus, point_of, Sample}
 use Rattle.std.specs.Prelude.{ℤ, pos, ◌*ℤ◌, slice_index_or}
-use Rattle.line_run.proofs.Cited.{DisplacesNoneBefore, LosesAt, Records, Role, Sample, ScriptValue, comes-back, displaced, displaced_from}
-use Rattle.line_run.proofs.Cited.{four-each, line_depth, line_trellis, lost-once, map_points, mode_of, plus, point_of, same_role, tap_of}
 use Rattle.noise_bound.specs.Noiseless.{IsNoiseless}
-use Rattle.noise_bound.proofs.NoiselessCosts.{length-points}
 use Rattle.noise_bound.proofs.Followed.{few-unreleased_at, never-lost, released-sent_at}
-use Rattle.line_coding.specs.Demodulates.{Demodulates}
 use Rattle.noise_script.specs.declared.entry.Hit.{Hit}
 use Rattle.noise_script.specs.declared.entry.Noise.{Noise}
-use Rattle.noise_script.specs.Offsets.{covers, drawn_offset, nothing, hit_offset, noise_offset, stream_of, sum_of, word_at}
+use Rattle.noise_script.specs.Offsets.{nothing, hit_offset, noise_offset, sum_of}
 use Rattle.noise_script.specs.Offsets as offsets
 use Rattle.line_run.proofs.Following.{Follows, all-of}
 
@@ -20,11 +16,7 @@ use Rattle.line_run.proofs.Following.{Follows, all-of}
 
 quiet : {X : Type 0} (b : Bool) (from n symbol count : ℕ) (there none : X) → (b ≡ true → count ≤ from) → symbol < count
     → cond (b && covers from n symbol) there none ≡ none
-quiet true from n symbol count there none late within =
-    let least : count ≤ from = late refl in
-    let before : nat_le from symbol ≡ false = grind (arith, nat_tests) in
-    rw before refl
-quiet false from n symbol count there none late within = refl
+quiet b from n symbol count there none late within = grind (arith)
 
 hits-none : (sender : Role) (symbol count : ℕ) (hits : List Hit) → symbol < count
     → All (λ (hit : Hit). same_role hit.role sender ≡ true → count ≤ hit.from) hits → sum_of (map (hit_offset sender symbol) hits) ≡ nothing
@@ -33,10 +25,7 @@ hits-none sender symbol count (hit ∷ hits) within h =
     let late : same_role hit.role sender ≡ true → count ≤ hit.from =
     All-head (λ (one : Hit). same_role one.role sender ≡ true → count ≤ one.from) hit hits h in
     let rest = hits-none sender symbol count hits within
-    (All-tail (λ (one : Hit). same_role one.role sender ≡ true → count ≤ one.from) hit hits h) in
-    ap (λ offset. offsets.plus (hit_offset sender symbol hit) offset) rest
-    ∙ ap (λ offset. offsets.plus offset nothing)
-    (quiet (same_role hit.role sender) hit.from hit.count symbol count (record { re = hit.re; im = hit.im }) nothing late within)
+    (All-tail (λ (one : Hit). same_role one.role sender ≡ true → count ≤ one.from) hit hits h) in grind (arith, nothing, quiet)
 
 noises-none : (sender : Role) (symbol count : ℕ) (noises : List Noise) → symbol < count
     → All (λ (noise : Noise). same_role noise.role sender ≡ true → count ≤ noise.from) noises
@@ -47,27 +36,17 @@ noises-none sender symbol count (noise ∷ noises) within h =
     All-head (λ (one : Noise). same_role one.role sender ≡ true → count ≤ one.from) noise noises h in
     let rest = noises-none sender symbol count noises within
     (All-tail (λ (one : Noise). same_role one.role sender ≡ true → count ≤ one.from) noise noises h) in
-    ap (λ offset. offsets.plus (noise_offset sender symbol noise) offset) rest
-    ∙ ap (λ offset. offsets.plus offset nothing)
-    (quiet (same_role noise.role sender) noise.from noise.count symbol count
-    (drawn_offset noise.amplitude (word_at noise.seed (stream_of noise.role) (symbol - noise.from))) nothing late within)
+    grind (arith, nothing, quiet)
 
 pub later-displace_none : (script : ScriptValue) (sender : Role) (count : ℕ)
     → All (λ (hit : Hit). same_role hit.role sender ≡ true → count ≤ hit.from) script.hits
     → All (λ (noise : Noise). same_role noise.role sender ≡ true → count ≤ noise.from) script.noises
     → DisplacesNoneBefore script sender count
-later-displace_none script sender count hits noises symbol within =
-    ap (λ offset. offsets.plus offset (sum_of (map (noise_offset sender symbol) script.noises)))
-    (hits-none sender symbol count script.hits within hits)
-    ∙ ap (offsets.plus nothing) (noises-none sender symbol count script.noises within noises)
+later-displace_none script sender count hits noises symbol within = grind (arith, hits-none, nothing, noises-none)
 
 pub empty-displaces_none : (script : ScriptValue) (sender : Role) (count : ℕ) → script.hits ≡ [] → script.noises ≡ []
     → DisplacesNoneBefore script sender count
-empty-displaces_none script sender count hits noises = later-displace_none script sender count
-    (All-same (λ (hit : Hit). same_role hit.role sender ≡ true → count ≤ hit.from) script.hits [] hits
-    (All-nil (λ (hit : Hit). same_role hit.role sender ≡ true → count ≤ hit.from)))
-    (All-same (λ (noise : Noise). same_role noise.role sender ≡ true → count ≤ noise.from) script.noises [] noises
-    (All-nil (λ (noise : Noise). same_role noise.role sender ≡ true → count ≤ noise.from)))
+empty-displaces_none script sender count hits noises = grind (arith, later-displace_none)
 
 -- points of the map stay where they are
 
@@ -179,13 +158,7 @@ pub recorded-noiseless : (script : ScriptValue) (sender : Role) (count : ℕ) (b
     → (r : Records script sender bits samples) → IsNoiseless 0 r.modulated.labels samples
 recorded-noiseless script sender count bits samples h few r =
     let fours = four-each (tap_of (mode_of sender)) r.modulated.labels bits (carried script sender bits samples r) in
-    record {
-      start_there = omega arith;
-      end = r.modulated.end;
-      leads = r.modulated.encoded.leads;
-      exact = r.samples_are ∙ ap (displaced_from script sender 0) r.modulated.points
-          ∙ points-stay script sender count 0 r.modulated.labels h (omega (arith, few, fours));
-    }
+    grind (arith, points-stay)
 
 none-at : (sender : Role) (script : ScriptValue) (count : ℕ) (bits : List Bool) (symbol : ℕ) → DisplacesNoneBefore script sender count
     → length bits ≤ 4 * count → LosesAt sender script bits symbol → ⊥
