@@ -1,13 +1,12 @@
 -- A script and two users have one result at most.
-use Rattle.line_run.proofs.Cited.{◌≡◌, ◌≢◌, ℕ, zero, suc, ◌<◌, List, [], ◌∷◌, ◌++◌, length, arith, refl, sym, ◌∙◌, ap, subst, ChanceMatch}
-use Rattle.line_run.proofs.Cited.{EndsBy, EndsInTurn, IsDone, Leaves, Left, LineLost, LinkLost, OneResult, RunEnd, RunsTo, EndsOrGoesOn}
-use Rattle.line_run.proofs.Cited.{HeardOnce, OneLineEnd, OneLineRun, EndsLine, HeardIn, IsHeardOver, LineEnd, LineRun, Wire, OneOutcome}
-use Rattle.line_run.proofs.Cited.{heard_in, Outcome, Done, TurnIs, Accounts, GoingTurn, Hears, Link, RunOf, Turn, of, other, Role, Answerer}
-use Rattle.line_run.proofs.Cited.{Originator}
-use Rattle.std.proofs.Common.{◌⊎◌, inl, inr}
+use Rattle.std.proofs.Common.{◌≡◌, ◌≢◌, ◌⊎◌, inl, inr, ℕ, zero, suc, ◌<◌, List, [], ◌∷◌, ◌++◌, length, arith, refl, sym, ◌∙◌, ap, subst}
+use Rattle.line_run.proofs.Cited.{Accounts, Answerer, ChanceMatch, EndsBy, EndsInTurn, EndsLine, EndsOrGoesOn, GoingTurn, HeardIn}
+use Rattle.line_run.proofs.Cited.{HeardOnce, Hears, IsDone, IsHeardOver, Leaves, Left, LineEnd, LineLost, LineRun, Link}
+use Rattle.line_run.proofs.Cited.{LinkLost, OneLineEnd, OneLineRun, OneOutcome, OneResult, Originator, Role, RunEnd, RunOf, RunsTo, Turn}
+use Rattle.line_run.proofs.Cited.{Wire, heard_in, of, other}
 use Rattle.shared_terms.specs.declared.fault.LinkFault.{LinkFault}
 use Rattle.shared_terms.specs.declared.fault.LinkFault.TheVariants.{NotDetected, Spent}
-use Rattle.link_run.specs.Outcomes.{Going, Broken}
+use Rattle.link_run.specs.Outcomes.{Outcome, Going, Done, Broken, TurnIs}
 use Rattle.line_texts.specs.LineText.{chance_line}
 use Rattle.link_run.specs.Trace.{trace_text}
 use Rattle.line_run.specs.Sampled as lines
@@ -151,7 +150,17 @@ cut c link n [] es h k l = absurd (omega (arith, l))
 cut c link n (t ∷ ts) es h k l = go (same-or-less n (length ts) l) (cut c link n ts h.0 h.1 k.1)
   where
     go : (length ts ≡ n) ⊎ (n < length ts) → (n < length ts → Cut c link n) → Cut c link n
-    go given f = grind (arith)
+    go (inl e) f = record {
+      turns = ts;
+      before = h.0;
+      count = e;
+      run = record { run = h.1; heard = k.1 };
+      turn = t;
+      after = es;
+      going = h.2;
+      heard = k.0;
+    }
+    go (inr e) f = f e
 
 -- a run that ended doesn't go on
 ended-stays : (laws : ResultLaws) (c : Wire) (link : Link) (end : RunEnd) (left : Left) (r : RunsTo c link end left) (ts : List Turn)

@@ -1,6 +1,7 @@
 -- The slot that arrives in a turn, and the turns in which those before it were sent.
-use Rattle.line_run.proofs.Cited.{◌≡◌, ℕ, zero, suc, ◌+◌, ◌-◌, ◌≤◌, List, [], ◌∷◌, length, drop, arith, refl, subst, Some, slice_get}
-use Rattle.line_run.proofs.Cited.{IsSendable, sent_ago, sent_in, Spoken, Turn, of, Role}
+use Rattle.std.proofs.Common.{◌≡◌, ℕ, zero, suc, ◌+◌, ◌-◌, ◌≤◌, List, [], ◌∷◌, length, drop, arith, refl, subst, Some}
+use Rattle.std.specs.Prelude.{slice_get}
+use Rattle.line_run.proofs.Cited.{IsSendable, Role, Spoken, Turn, of, sent_ago, sent_in}
 use Rattle.line_run.specs.Stream.{AllSendable}
 
 -- it was sent in this turn, behind those
@@ -32,4 +33,11 @@ sent-ago role delay ts slot low e =
     let s = sent-in role (delay - 1) ts slot e in
     let d : suc (delay - 1) ≡ delay = omega (arith, low) in
     let c : length (drop delay ts) + delay ≡ length ts = subst (λ k. length (drop k ts) + k ≡ length ts) d s.count in
-    grind (arith)
+    record {
+      turn = s.turn;
+      rest = subst (λ k. drop (delay - 1) ts ≡ s.turn ∷ drop k ts) d s.rest;
+      sent = s.sent;
+      count = omega (arith, c);
+      enough = omega (arith, c);
+      sendable = s.sendable;
+    }

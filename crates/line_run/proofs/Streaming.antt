@@ -1,9 +1,11 @@
 -- The slots of a direction in order, and which one is due.
-use Rattle.line_run.proofs.Cited.{◌≡◌, ℕ, zero, suc, ◌-◌, ◌<◌, ◌≤◌, true, List, [], ◌∷◌, ◌++◌, length, map, take, drop, arith}
-use Rattle.line_run.proofs.Cited.{length-append, refl, sym, ◌∙◌, ap, Option, Some, None, append-nil, append_assoc, take-append_seam}
-use Rattle.line_run.proofs.Cited.{drop-append_seam, map-append, length-drop, slice_get, is_some, LoneSlotsAreCounted, LoneSlotsAreDue}
-use Rattle.line_run.proofs.Cited.{IsAlone, Wire, and_then, signal_in, signals, signals_before, sent_ago, sent_in, Accounts, Link, RunOf}
-use Rattle.line_run.proofs.Cited.{Spoken, Turn, delay_of, of, Role}
+use Rattle.std.proofs.Common.{◌≡◌, ℕ, zero, suc, ◌-◌, ◌<◌, ◌≤◌, true, List, [], ◌∷◌, ◌++◌, length, map, take, drop, arith, length-append}
+use Rattle.std.proofs.Common.{refl, sym, ◌∙◌, ap, Option, Some, None, append-nil, append_assoc}
+use Rattle.std.specs.Prelude.{slice_get, is_some}
+use Rattle.std.proofs.lemmas.List.{map-append, length-drop}
+use Rattle.std.proofs.Math.Seq.{take-append_seam, drop-append_seam}
+use Rattle.line_run.proofs.Cited.{Accounts, IsAlone, Link, LoneSlotsAreCounted, LoneSlotsAreDue, Role, RunOf, Spoken, Turn, Wire, and_then}
+use Rattle.line_run.proofs.Cited.{delay_of, of, sent_ago, sent_in, signal_in, signals, signals_before}
 use Rattle.line_run.specs.Stream.{Carried, carried_signal, carry, sent_by, AreSent}
 
 -- one slot is carried
@@ -52,10 +54,10 @@ pub record CutAt (stream front : List Carried) (x : Carried) (n : ℕ) : Type 0 
 
 pub cut-at : (stream front : List Carried) (x : Carried) (rest : List Carried) (n : ℕ) → stream ≡ front ++ (x ∷ rest) → n ≡ length front
     → CutAt stream front x n
-cut-at stream front x rest n e f = assumption (
-  at ∙ ap (λ l. x ∷ l) (sym more),
-  ap (take n) e ∙ ap (λ m. take m (front ++ (x ∷ rest))) f ∙ take-append_seam front (x ∷ rest),
-)
+cut-at stream front x rest n e f = record {
+  rest = at ∙ ap (λ l. x ∷ l) (sym more);
+  before = ap (take n) e ∙ ap (λ m. take m (front ++ (x ∷ rest))) f ∙ take-append_seam front (x ∷ rest);
+}
   where
     at : drop n stream ≡ x ∷ rest
     at = ap (drop n) e ∙ ap (λ m. drop m (front ++ (x ∷ rest))) f ∙ drop-append_seam front (x ∷ rest)
@@ -125,7 +127,8 @@ lone-slots-are-due c role ts alone some h = record {
         let cut : stream ≡ front ++ (x ∷ f.0) = f.1 ∙ ap (λ l. l ++ f.0) there ∙ append_assoc front (x ∷ []) f.0 in
         let front-count = lone-length c.dlci role (drop d ts) (sent-dropped role d ts h) in
         let place : length stream - d ≡ length front = omega (arith, count, front-count, length-drop d ts, l, some) in
-        let q = cut-at stream front x f.0 (length stream - d) cut place in grind (arith, lone-signals, d)
+        let q = cut-at stream front x f.0 (length stream - d) cut place in
+        (b.slot, b.ago, q.rest, ap (map (carried_signal role)) q.before ∙ lone-signals c role (drop d ts) alone)
 
 pub lone-count : LoneSlotsAreCounted
 lone-count dlci role ts h = lone-length dlci role ts h

@@ -1,14 +1,17 @@
 -- Samples that no line of a script displaces, up to some symbol.
-use Rattle.line_run.proofs.Cited.{◌≡◌, ◌∙◌, ℕ, zero, suc, ◌+◌, ◌*◌, ◌-◌, ◌<◌, ◌≤◌, Bool, true, cond, ◌&&◌, All, List, [], ◌∷◌, length, map}
-use Rattle.line_run.proofs.Cited.{refl, ap, arith, Some, None, All-head, All-tail, lost-once, line_depth, line_trellis, comes-back}
-use Rattle.line_run.proofs.Cited.{four-each, Demodulates, DisplacesNoneBefore, length-points, covers, ScriptValue, mode_of, LosesAt}
-use Rattle.line_run.proofs.Cited.{Records, displaced, displaced_from, tap_of, same_role, Role, map_points, plus, point_of, Sample}
+use Rattle.std.proofs.Common.{◌≡◌, ◌∙◌, ℕ, zero, suc, ◌+◌, ◌*◌, ◌-◌, ◌<◌, ◌≤◌, Bool, true, cond, ◌&&◌, All, List, [], ◌∷◌}
+use Rattle.std.proofs.Common.{length, map, refl, ap, arith, Some, None}
+use Rattle.std.proofs.lemmas.List.Elements.{All-head, All-tail}
 use Rattle.std.specs.Prelude.{ℤ, pos, ◌*ℤ◌, slice_index_or}
+use Rattle.line_run.proofs.Cited.{DisplacesNoneBefore, LosesAt, Records, Role, Sample, ScriptValue, comes-back, displaced, displaced_from}
+use Rattle.line_run.proofs.Cited.{four-each, line_depth, line_trellis, lost-once, map_points, mode_of, plus, point_of, same_role, tap_of}
 use Rattle.noise_bound.specs.Noiseless.{IsNoiseless}
+use Rattle.noise_bound.proofs.NoiselessCosts.{length-points}
 use Rattle.noise_bound.proofs.Followed.{few-unreleased_at, never-lost, released-sent_at}
+use Rattle.line_coding.specs.Demodulates.{Demodulates}
 use Rattle.noise_script.specs.declared.entry.Hit.{Hit}
 use Rattle.noise_script.specs.declared.entry.Noise.{Noise}
-use Rattle.noise_script.specs.Offsets.{nothing, hit_offset, noise_offset, sum_of}
+use Rattle.noise_script.specs.Offsets.{covers, drawn_offset, nothing, hit_offset, noise_offset, stream_of, sum_of, word_at}
 use Rattle.noise_script.specs.Offsets as offsets
 use Rattle.line_run.proofs.Following.{Follows, all-of}
 
@@ -36,7 +39,10 @@ noises-none sender symbol count (noise ∷ noises) within h =
     All-head (λ (one : Noise). same_role one.role sender ≡ true → count ≤ one.from) noise noises h in
     let rest = noises-none sender symbol count noises within
     (All-tail (λ (one : Noise). same_role one.role sender ≡ true → count ≤ one.from) noise noises h) in
-    grind (arith, nothing, quiet)
+    ap (λ offset. offsets.plus (noise_offset sender symbol noise) offset) rest
+    ∙ ap (λ offset. offsets.plus offset nothing)
+    (quiet (same_role noise.role sender) noise.from noise.count symbol count
+    (drawn_offset noise.amplitude (word_at noise.seed (stream_of noise.role) (symbol - noise.from))) nothing late within)
 
 pub later-displace_none : (script : ScriptValue) (sender : Role) (count : ℕ)
     → All (λ (hit : Hit). same_role hit.role sender ≡ true → count ≤ hit.from) script.hits
@@ -158,7 +164,13 @@ pub recorded-noiseless : (script : ScriptValue) (sender : Role) (count : ℕ) (b
     → (r : Records script sender bits samples) → IsNoiseless 0 r.modulated.labels samples
 recorded-noiseless script sender count bits samples h few r =
     let fours = four-each (tap_of (mode_of sender)) r.modulated.labels bits (carried script sender bits samples r) in
-    grind (arith, points-stay)
+    record {
+      start_there = omega arith;
+      end = r.modulated.end;
+      leads = r.modulated.encoded.leads;
+      exact = r.samples_are ∙ ap (displaced_from script sender 0) r.modulated.points
+          ∙ points-stay script sender count 0 r.modulated.labels h (omega (arith, few, fours));
+    }
 
 none-at : (sender : Role) (script : ScriptValue) (count : ℕ) (bits : List Bool) (symbol : ℕ) → DisplacesNoneBefore script sender count
     → length bits ≤ 4 * count → LosesAt sender script bits symbol → ⊥
