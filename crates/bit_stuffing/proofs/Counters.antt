@@ -1,10 +1,10 @@
 -- A machine of two counters, for bits of which only the runs of ones are known.
+use Rattle.std.proofs.lemmas.List.{length_push}
 use Rattle.bit_stuffing.proofs.Names.{◌≡◌, ◌≢◌, ℕ, ◌+◌, ◌<◌, min, Bool, true, false, if◌then◌else◌, nat_eq, List, [], ◌∷◌, ◌++◌, length}
 use Rattle.bit_stuffing.proofs.Names.{Option, Some, None, arith, append_assoc, refl, sym, ◌∙◌, ap, subst, false≢true, eqb-true, append-nil}
 use Rattle.bit_stuffing.proofs.Names.{CountsSince, OpenedAt, SevenOnesEndAt, Aborts, Closes, Found, listed}
 use Rattle.std.proofs.lemmas.Bool.{eqb-false}
 use Rattle.bit_stuffing.specs.Found.{found_at, pieces_of}
-use Rattle.bit_stuffing.proofs.Places.{length-snoc}
 use Rattle.bit_stuffing.proofs.Ones.{CountsOnes, one-more, zero-more, no_flag-one, flag-six, six-flag, seven-ones, ones-seven}
 use Rattle.bit_stuffing.proofs.Ones.{no_seven-zero, opened-few}
 use Rattle.bit_stuffing.proofs.Openings.{opened-once, opened-stays, at_end, seven_at_end, flag-opens, seven-shuts, counts-more, shut-stays}
@@ -114,7 +114,7 @@ no_close k past false h e c = each k.since refl h.since (nat_eq k.ones 6) refl
     each (Some count) g s false f = eqb-false k.ones 6 f (six-flag past k.ones h.ones (at_end past false c.closing))
     each (Some count) g s true f =
         let near : nat_eq count 8 ≡ false = rw (f, g) at e in
-        eqb-false count 8 near (omega (arith, s.2, c.some, length-snoc past false, opened-once past c.opened s.0 c.is_opened s.1))
+        eqb-false count 8 near (omega (arith, s.2, c.some, length_push past false, opened-once past c.opened s.0 c.is_opened s.1))
 
 -- what is found along bits behind others
 abbrev pub along : List Bool → List Bool → List Found

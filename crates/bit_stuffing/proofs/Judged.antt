@@ -1,4 +1,5 @@
 -- What a content is, as a relation and as a function.
+use Rattle.std.proofs.lemmas.Bool.{and_parts}
 use Rattle.bit_stuffing.proofs.Names.{◌≡◌, ◌≢◌, ◌⊎◌, inl, inr, ℕ, ◌*◌, ◌/◌, ◌%◌, ◌≤◌, Bool, true, false, ◌&&◌, not, if◌then◌else◌, List}
 use Rattle.bit_stuffing.proofs.Names.{length, nat_eq, nat_lt, arith, refl, sym, ◌∙◌, ap, subst, false≢true, ltb-true, ltb-false, eqb-true}
 use Rattle.bit_stuffing.proofs.Names.{eq-eqb, beq, pointwise, judged, octets_in, Carries, IsWhole, Judged, Stuffs, stuffed, removed}
@@ -37,14 +38,10 @@ pub carries_once : (line : List Bool) (octets others : List ℕ) → Carries lin
 carries_once line octets others h k = same_octets octets others h.small k.small (is_removed h.stuffs ∙ sym (is_removed k.stuffs))
 
 -- the test whether it carries any
-and_true : (a b : Bool) → (a && b) ≡ true → (a ≡ true) × (b ≡ true)
-and_true true true e = (refl, refl)
-and_true true false e = absurd (false≢true e)
-and_true false b e = absurd (false≢true e)
 
 pub carries-octets : (line : List Bool) → are_octets line ≡ true → Carries line (octets_of (length (removed 5 line) / 8) (removed 5 line))
 carries-octets line e =
-    let both = and_true (nat_eq (length (removed 5 line) % 8) 0) (pointwise beq (stuffed 5 (removed 5 line)) line) e in
+    let both = and_parts (nat_eq (length (removed 5 line) % 8) 0) (pointwise beq (stuffed 5 (removed 5 line)) line) e in
     let whole : length (removed 5 line) % 8 ≡ 0 = eqb-true (length (removed 5 line) % 8) 0 both.0 in
     let wide : length (removed 5 line) ≡ 8 * (length (removed 5 line) / 8) = omega arith in
     let content_is = bits_of-octets_of (length (removed 5 line) / 8) (removed 5 line) wide in

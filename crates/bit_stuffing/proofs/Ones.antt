@@ -1,7 +1,8 @@
 -- The ones in a row at the end of a stream.
+use Rattle.std.proofs.lemmas.List.{length_push}
 use Rattle.bit_stuffing.proofs.Names.{◌≡◌, ℕ, ◌+◌, ◌-◌, ◌<◌, ◌≤◌, inl, inr, Bool, true, false, List, [], ◌∷◌, ◌++◌, length, arith, refl}
 use Rattle.bit_stuffing.proofs.Names.{sym, ◌∙◌, min, cases_lt, false≢true, bit_of, flag, FlagEndsAt, SevenOnesEndAt, OpenedAt}
-use Rattle.bit_stuffing.proofs.Places.{length-snoc, bit-before, bit-last}
+use Rattle.bit_stuffing.proofs.Places.{bit-before, bit-last}
 use Rattle.bit_stuffing.proofs.Openings.{before_open}
 use Rattle.bit_stuffing.proofs.Latest.{below8}
 
@@ -15,13 +16,13 @@ pub one-more : (bits : List Bool) (k : ℕ) → CountsOnes k bits → CountsOnes
 one-more bits k h = record {
   few = omega arith;
   set = λ i within reaches. elim (cases_lt i (length bits)) [
-    | inl l ↦ bit-before bits true i l ∙ h.set i l (omega (arith, length-snoc bits true))
-    | inr l ↦ bit-last bits true i (omega (arith, length-snoc bits true))
+    | inl l ↦ bit-before bits true i l ∙ h.set i l (omega (arith, length_push bits true))
+    | inr l ↦ bit-last bits true i (omega (arith, length_push bits true))
   ];
   zero = λ few.
       let z = h.zero (omega arith) in
-      let n : length (bits ++ true ∷ []) - 1 - (min k 6 + 1) ≡ length bits - 1 - k = omega (arith, z.0, length-snoc bits true) in
-      (omega (arith, z.0, length-snoc bits true), rw n (bit-before bits true (length bits - 1 - k) (omega (arith, z.0)) ∙ z.1));
+      let n : length (bits ++ true ∷ []) - 1 - (min k 6 + 1) ≡ length bits - 1 - k = omega (arith, z.0, length_push bits true) in
+      (omega (arith, z.0, length_push bits true), rw n (bit-before bits true (length bits - 1 - k) (omega (arith, z.0)) ∙ z.1));
 }
 
 pub zero-more : (bits : List Bool) → CountsOnes 0 (bits ++ false ∷ [])
@@ -29,8 +30,8 @@ zero-more bits = record {
   few = omega arith;
   set = λ i within reaches. absurd (omega arith);
   zero = λ few. (
-    omega (arith, length-snoc bits false),
-    bit-last bits false (length (bits ++ false ∷ []) - 1 - 0) (omega (arith, length-snoc bits false)),
+    omega (arith, length_push bits false),
+    bit-last bits false (length (bits ++ false ∷ []) - 1 - 0) (omega (arith, length_push bits false)),
   );
 }
 
@@ -55,7 +56,7 @@ flag-end i low high = let e : i ≡ 7 = omega arith in rw e refl
 pub flag-six : (bits : List Bool) → CountsOnes 6 bits → FlagEndsAt (bits ++ false ∷ []) (length bits + 1)
 flag-six bits h = let z = h.zero (omega arith) in let start : length bits + 1 - 8 + 0 ≡ length bits - 1 - 6 = omega (arith, z.0) in record {
   room = omega (arith, (h.zero (omega arith)).0);
-  within = omega (arith, length-snoc bits false);
+  within = omega (arith, length_push bits false);
   spelled = λ i l. elim (cases_lt i 7) [
     | inl front ↦ elim (cases_lt 0 i) [
       | inl later ↦ bit-before bits false (length bits + 1 - 8 + i) (omega (arith, z.0))
@@ -88,7 +89,7 @@ six-flag bits k h f = elim (cases_lt k 6) [
 pub seven-ones : (bits : List Bool) → CountsOnes 6 bits → SevenOnesEndAt (bits ++ true ∷ []) (length bits + 1)
 seven-ones bits h = let z = h.zero (omega arith) in record {
   room = omega (arith, (h.zero (omega arith)).0);
-  within = omega (arith, length-snoc bits true);
+  within = omega (arith, length_push bits true);
   ones = λ i l. elim (cases_lt i 6) [
     | inl front ↦ bit-before bits true (length bits + 1 - 7 + i) (omega (arith, z.0))
         ∙ h.set (length bits + 1 - 7 + i) (omega (arith, z.0)) (omega (arith, z.0))

@@ -1,9 +1,7 @@
 -- One more bit: what ended at an earlier place still does.
+use Rattle.std.proofs.lemmas.List.{length_push}
 use Rattle.bit_stuffing.proofs.Names.{◌≡◌, ℕ, ◌+◌, ◌-◌, ◌<◌, ◌≤◌, Bool, List, [], ◌∷◌, ◌++◌, length, arith, length-append, sym, ◌∙◌}
 use Rattle.bit_stuffing.proofs.Names.{false≢true, common_steps, bit_of, FlagEndsAt, SevenOnesEndAt}
-
-pub length-snoc : (bits : List Bool) (b : Bool) → length (bits ++ b ∷ []) ≡ length bits + 1
-length-snoc bits b = omega (arith, length-append {A = Bool})
 
 -- a bit before the last one
 pub bit-before : (bits : List Bool) (b : Bool) (i : ℕ) → i < length bits → bit_of (bits ++ b ∷ []) i ≡ bit_of bits i
@@ -15,7 +13,7 @@ bit-last bits b i h = grind (arith, common_steps)
 pub flag-stays : (bits : List Bool) (b : Bool) (n : ℕ) → FlagEndsAt bits n → FlagEndsAt (bits ++ b ∷ []) n
 flag-stays bits b n h = record {
   room = h.room;
-  within = omega (arith, h.within, length-snoc bits b);
+  within = omega (arith, h.within, length_push bits b);
   spelled = λ i l. bit-before bits b (n - 8 + i) (omega (arith, h.room, h.within)) ∙ h.spelled i l;
 }
 
@@ -36,7 +34,7 @@ seven-was bits b n within h = record {
 pub seven-stays : (bits : List Bool) (b : Bool) (n : ℕ) → SevenOnesEndAt bits n → SevenOnesEndAt (bits ++ b ∷ []) n
 seven-stays bits b n h = record {
   room = h.room;
-  within = omega (arith, h.within, length-snoc bits b);
+  within = omega (arith, h.within, length_push bits b);
   ones = λ i l. bit-before bits b (n - 7 + i) (omega (arith, h.room, h.within)) ∙ h.ones i l;
 }
 

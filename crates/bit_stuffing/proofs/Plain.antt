@@ -1,11 +1,10 @@
 -- Given bits in a slot: no flag stands in them, and they end with seven ones.
+use Rattle.std.proofs.lemmas.List.{length_push, get_or-append_right}
 use Rattle.bit_stuffing.proofs.Names.{◌≡◌, ℕ, ◌+◌, ◌-◌, ◌<◌, ◌≤◌, ◌⊎◌, inl, inr, Bool, true, false, List, [], ◌∷◌, ◌++◌, length, min, None}
 use Rattle.bit_stuffing.proofs.Names.{arith, append_assoc, length-append, refl, sym, ◌∙◌, ap, subst, cases_lt, false≢true, append-nil}
 use Rattle.bit_stuffing.proofs.Names.{get_or_append_left, beq, ends_with, CountsSince, bit_of, flag, FlagEndsAt, SevenOnesEndAt, OpenedAt}
 use Rattle.bit_stuffing.proofs.Names.{seven_ones, IsPlain, Aborted}
-use Rattle.std.proofs.lemmas.List.{get_or-append_right}
 use Rattle.bit_stuffing.specs.Found.{found_at}
-use Rattle.bit_stuffing.proofs.Places.{length-snoc}
 use Rattle.bit_stuffing.proofs.Ones.{CountsOnes, ones-shut}
 use Rattle.bit_stuffing.proofs.Openings.{at_end, from_end, seven_at_end, seven_from_end, opened-once, opened-stays, opened-by_flag}
 use Rattle.bit_stuffing.proofs.Openings.{seven_behind, seven-aborts, seven-shuts, shut-stays, shut-quiet, flag-near, quiet}
@@ -92,7 +91,7 @@ along-shut all past (b ∷ rest) e never s =
     let none = shut-quiet past b s in
     let here : found_at (past ++ b ∷ []) ≡ None = found-quiet past b none.0 none.1 in
     let after : along (past ++ b ∷ []) rest ≡ [] =
-    along-shut all (past ++ b ∷ []) rest split (λ n l f. never n (omega (arith, l, length-snoc past b)) f)
+    along-shut all (past ++ b ∷ []) rest split (λ n l f. never n (omega (arith, l, length_push past b)) f)
     (shut-stays past b no_flag s) in
     rw (here, after) refl
 
@@ -122,11 +121,11 @@ along-open all past (b ∷ rest) e first near p low o =
     split = e ∙ sym (append_assoc past (b ∷ []) rest)
 
     near_more : (n : ℕ) → length (past ++ b ∷ []) < n → FlagEndsAt all n → n ≤ first + 8
-    near_more n l f = near n (omega (arith, l, length-snoc past b)) f
+    near_more n l f = near n (omega (arith, l, length_push past b)) f
 
     goes_on : found_at (past ++ b ∷ []) ≡ None → OnceAborted all (past ++ b ∷ []) rest → OnceAborted all past (b ∷ rest)
     goes_on here (inl (after, still)) = inl (rw (here, after) refl, still)
-    goes_on here (inr (place, later, within, after)) = inr (place, omega (arith, later, length-snoc past b), within, rw (here, after) refl)
+    goes_on here (inr (place, later, within, after)) = inr (place, omega (arith, later, length_push past b), within, rw (here, after) refl)
 
     each : (f s : Bool) → ends_with beq (past ++ b ∷ []) flag ≡ f → ends_with beq (past ++ b ∷ []) seven_ones ≡ s
         → ((q : ℕ) → first ≤ q → OpenedAt (past ++ b ∷ []) q → OnceAborted all (past ++ b ∷ []) rest) → OnceAborted all past (b ∷ rest)
@@ -142,12 +141,12 @@ along-open all past (b ∷ rest) e first near p low o =
         let here = found-ones past b (seven-aborts past b s (min 8 (length past - p)) (p, o, refl)) in
         let s_all = subst (λ l. SevenOnesEndAt l (length past + 1)) (sym split) (seven-front (past ++ b ∷ []) rest (length past + 1) s) in
         let never : (n : ℕ) → length (past ++ b ∷ []) < n → FlagEndsAt all n → ⊥ = λ n l f.
-        let close = near n (omega (arith, l, length-snoc past b)) f in
-        late_flag all (length past + 1) n s_all f (omega (arith, l, length-snoc past b)) (omega arith) in
+        let close = near n (omega (arith, l, length_push past b)) f in
+        late_flag all (length past + 1) n s_all f (omega (arith, l, length_push past b)) (omega arith) in
         let after = along-shut all (past ++ b ∷ []) rest split never (seven-shuts past b s) in
         inr (
           length (past ++ b ∷ []),
-          omega (arith, length-snoc past b),
+          omega (arith, length_push past b),
           omega (arith, ap length split, length-append {A = Bool} (past ++ b ∷ []) rest),
           rw (here, after) refl,
         )

@@ -1,4 +1,5 @@
 -- Octets with whose bits nothing ends.
+use Rattle.std.proofs.lemmas.List.{length_push}
 use Rattle.bit_stuffing.proofs.Names.{◌≡◌, ◌⊎◌, ℕ, zero, suc, ◌+◌, ◌-◌, ◌*◌, ◌/◌, ◌%◌, ◌^◌, ◌<◌, ◌≤◌, min, Bool, true, false, not, nat_eq}
 use Rattle.bit_stuffing.proofs.Names.{List, [], ◌∷◌, ◌++◌, length, drop, Some, None, bit_and, lit<, arith, append_assoc, refl, sym, ◌∙◌, ap}
 use Rattle.bit_stuffing.proofs.Names.{subst, inl, inr, cases_lt, false≢true, eqb-true, nat_tests, common_steps, append-nil, bit_at-suc}
@@ -7,13 +8,8 @@ use Rattle.bit_stuffing.proofs.Names.{SevenOnesEndAt, OpenedAt, listed, number, 
 use Rattle.std.proofs.lemmas.Nat.Bits.{bit_at_and, bit_at_cat_high, bit_at-zero}
 use Rattle.bit_stuffing.specs.Found.{pieces_of}
 use Rattle.bit_stuffing.proofs.Latest.{below8, back-within}
-use Rattle.bit_stuffing.proofs.Places.{length-snoc}
 use Rattle.bit_stuffing.proofs.Openings.{opened-stays, opened-was, at_end, seven_at_end}
 use Rattle.bit_stuffing.proofs.Found.{found-quiet, pieces-more}
-
-pub none-of : (b : Bool) → not b ≡ true → b ≡ false
-none-of true e = absurd (false≢true e)
-none-of false e = refl
 
 pub zero-of : (n : ℕ) → not (nat_eq n 0) ≡ false → n ≡ 0
 zero-of n e = each (nat_eq n 0) refl
@@ -234,8 +230,8 @@ quiet-rests past (b ∷ s) q =
     → ⊥ = λ f. q.no_seven (length past + 1) (omega arith)
     (subst (λ l. SevenOnesEndAt l (length past + 1)) joined (seven-lift (past ++ b ∷ []) s (length past + 1) f)) in
     let rest : IsQuiet (past ++ b ∷ []) s = record {
-      no_flag = λ n above f. q.no_flag n (omega (arith, above, length-snoc past b)) (subst (λ l. FlagEndsAt l n) joined f);
-      no_seven = λ n above f. q.no_seven n (omega (arith, above, length-snoc past b)) (subst (λ l. SevenOnesEndAt l n) joined f);
+      no_flag = λ n above f. q.no_flag n (omega (arith, above, length_push past b)) (subst (λ l. FlagEndsAt l n) joined f);
+      no_seven = λ n above f. q.no_seven n (omega (arith, above, length_push past b)) (subst (λ l. SevenOnesEndAt l n) joined f);
     } in
     let r = quiet-rests (past ++ b ∷ []) s rest in
     let none = found-quiet past b (λ a. no_seven (seven_at_end past b a.seventh)) (λ c. no_flag (at_end past b c.closing)) in
@@ -246,7 +242,7 @@ quiet-rests past (b ∷ s) q =
       was = λ p o.
           let w = r.was p o in
           elim (cases_lt (length past) p) [
-            | inl above ↦ let last : p ≡ length past + 1 = omega (arith, w.flag_ends.within, length-snoc past b) in absurd
+            | inl above ↦ let last : p ≡ length past + 1 = omega (arith, w.flag_ends.within, length_push past b) in absurd
                 (before (subst (OpenedAt (past ++ b ∷ [])) last w))
             | inr within ↦ opened-was past b p within w
           ];

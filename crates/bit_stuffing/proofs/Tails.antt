@@ -1,14 +1,14 @@
 -- The pieces of a stream's last bits are the last of its pieces.
+use Rattle.std.proofs.lemmas.List.{length_push, drop-drop, drop_at, drop-take, get_or-append-add, map-append}
 use Rattle.bit_stuffing.proofs.Names.{◌≡◌, ℕ, ◌+◌, ◌-◌, ◌<◌, ◌≤◌, inl, inr, Bool, true, false, if◌then◌else◌, nat_lt, List, [], ◌∷◌, ◌++◌}
 use Rattle.bit_stuffing.proofs.Names.{All, length, take, drop, get_or, ◌⊎◌, Option, Some, None, arith, append_assoc, length-append, refl}
 use Rattle.bit_stuffing.proofs.Names.{sym, ◌∙◌, ap, subst, cases_lt, false≢true, nat_tests, append-nil, get_or_append_left, All-append}
 use Rattle.bit_stuffing.proofs.Names.{All-nil, beq, pointwise, ends_with, option_map, bit_of, flag, FlagEndsAt, SevenOnesEndAt, OpenedAt}
 use Rattle.bit_stuffing.proofs.Names.{Found, seven_ones, found_from, listed, opened_before, content}
 use Rattle.std.proofs.Common.{map}
-use Rattle.std.proofs.lemmas.List.{drop-drop, drop_at, drop-take, get_or-append-add, map-append}
 use Rattle.bit_stuffing.specs.Found.{found_at, pieces_of, closed, aborted}
 use Rattle.bit_stuffing.specs.Tails.{behind, LastPiecesAreFound}
-use Rattle.bit_stuffing.proofs.Places.{length-snoc, flag-stays, flag-was}
+use Rattle.bit_stuffing.proofs.Places.{flag-stays, flag-was}
 use Rattle.bit_stuffing.proofs.Openings.{opened-once}
 use Rattle.bit_stuffing.proofs.EndsWith.{ends-flag, flag-ends}
 use Rattle.bit_stuffing.proofs.Found.{IsOpen, open_before, found-place, found-quiet, pieces-none}
@@ -145,7 +145,7 @@ found-behind first past bit n f =
         let e : q ≡ length first + p = opened-once (first ++ past) q (length first + p) theirs (opened-behind first past p mine) in
         ap (λ bits. found_from bits (Some q)) (append_assoc first past (bit ∷ []))
         ∙ ap (λ o. found_from (first ++ (past ++ bit ∷ [])) (Some o)) e
-        ∙ found_from-behind first (past ++ bit ∷ []) p (omega (arith, f.room, f.within, length-snoc past bit))
+        ∙ found_from-behind first (past ++ bit ∷ []) p (omega (arith, f.room, f.within, length_push past bit))
 
 -- ---- along bits
 
@@ -208,7 +208,7 @@ along-late first past (b ∷ s) none =
     by false e on =
         let still : (n : ℕ) → FlagEndsAt (past ++ b ∷ []) n → ⊥ = λ n f. elim (cases_lt (length past) n) [
           | inl last ↦
-              let place : n ≡ length (past ++ b ∷ []) = omega (arith, f.within, length-snoc past b) in
+              let place : n ≡ length (past ++ b ∷ []) = omega (arith, f.within, length_push past b) in
               false≢true (sym e ∙ flag-ends (past ++ b ∷ []) (subst (FlagEndsAt (past ++ b ∷ [])) place f))
           | inr sooner ↦ none n (flag-was past b n sooner f)
         ] in
