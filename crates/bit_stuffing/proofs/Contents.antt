@@ -19,8 +19,7 @@ content-more past bit p h =
     let t : take (length past - 8 + 1) (past ++ bit ∷ []) ≡ take (length past - 8) past ++ back past 8 ∷ [] =
     take-append-le (length past - 8 + 1) past (bit ∷ []) (omega arith) ∙ take_more past (length past - 8) false (omega arith)
     ∙ ap (λ b. take (length past - 8) past ++ b ∷ []) (sym (eighth past (omega arith))) in
-    rw (n, t) (drop-append-le p (take (length past - 8) past) (back past 8 ∷ [])
-    (omega (arith, take-length past (length past - 8) (omega arith))))
+    grind (arith, drop-append-le, back, take-length)
 
 content-first : (past : List Bool) (bit : Bool) (p : ℕ) → p + 8 ≡ length past + 1 → content (past ++ bit ∷ []) p ≡ []
 content-first past bit p h =
@@ -52,8 +51,7 @@ pub gathers-within : (past : List Bool) (bit oldest : Bool) (g h : Gathering) �
 gathers-within past bit oldest g h far k is more p was behind =
     let same : p ≡ far.opened = opened-once past p far.opened was far.is_opened in
     let room : p + 8 ≤ length past = omega (arith, far.far) in
-    let c : content past p ++ oldest ∷ [] ≡ content (past ++ bit ∷ []) p =
-    ap (λ b. content past p ++ b ∷ []) is ∙ sym (content-more past bit p room) in
+    let c : content past p ++ oldest ∷ [] ≡ content (past ++ bit ∷ []) p = grind (arith, content, content-more) in
     subst (Gathers h) c (more (content past p) (k p was room))
 
 pub gathers-outside : (past : List Bool) (bit : Bool) (h : Gathering) → IsNear past → Gathers h [] → GathersNow h past bit
@@ -89,12 +87,7 @@ pub none-lent : (past : List Bool) (bit : Bool) → (Closes past (past ++ bit �
 none-lent past bit shut other w = shut (ends-closes past bit other w).0
 
 pub no_closing : (past : List Bool) (bit : Bool) → Aborts past (past ++ bit ∷ []) → Closes past (past ++ bit ∷ []) → ⊥
-no_closing past bit a c =
-    let e = length_push past bit in
-    let place : length (past ++ bit ∷ []) - 8 + 7 ≡ length (past ++ bit ∷ []) - 7 + 6 = omega (arith, c.closing.room) in
-    let zero_last = c.closing.spelled 7 (omega arith) in
-    let one_last = a.seventh.ones 6 (omega arith) in
-    false≢true (sym (rw place at zero_last) ∙ one_last)
+no_closing past bit a c = grind (arith)
 
 -- closed by a flag, within which the content stands
 pub closes-fits : (past : List Bool) (bit : Bool) (c : Closes past (past ++ bit ∷ [])) → Fits 5 (content (past ++ bit ∷ []) c.opened)

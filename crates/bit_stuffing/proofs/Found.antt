@@ -35,8 +35,7 @@ open-step past b (Some p) o false false e g = opened-stays past b p o
 open-at : (past bits : List Bool) (b : Bool) (place : ℕ) (before : Option ℕ) → bits ≡ past ++ b ∷ [] → place ≡ length past + 1
     → IsOpen before past
     → IsOpen (if ends_with beq bits flag then Some place else (if ends_with beq bits seven_ones then None else before)) bits
-open-at past bits b place before e n o =
-    rw (e, n) (open-step past b before o (ends_with beq (past ++ b ∷ []) flag) (ends_with beq (past ++ b ∷ []) seven_ones) refl refl)
+open-at past bits b place before e n o = grind (arith, open-step)
 
 pub is_open : (bits : List Bool) (n : ℕ) → n ≤ length bits → IsOpen (opened_before bits n) (take n bits)
 is_open bits zero h = λ p o. absurd (omega (arith, o.flag_ends.room, o.flag_ends.within))

@@ -1,7 +1,7 @@
 -- The flag that is open, at one more bit.
 use Rattle.std.proofs.lemmas.List.{length_push}
-use Rattle.bit_stuffing.proofs.Names.{◌≡◌, ◌≢◌, ℕ, ◌+◌, ◌-◌, ◌<◌, ◌≤◌, inl, inr, Bool, true, false, List, [], ◌∷◌, ◌++◌, length, arith, sym}
-use Rattle.bit_stuffing.proofs.Names.{◌∙◌, min, Some, None, IsTrue, nat_eq, cases_lt, false≢true, eq-eqb, CountsSince, bit_of, FlagEndsAt}
+use Rattle.bit_stuffing.proofs.Names.{◌≡◌, ◌≢◌, ℕ, ◌+◌, ◌-◌, ◌<◌, ◌≤◌, inl, inr, Bool, true, false, List, [], ◌∷◌, ◌++◌, length, arith}
+use Rattle.bit_stuffing.proofs.Names.{min, Some, None, IsTrue, nat_eq, cases_lt, eq-eqb, CountsSince, bit_of, FlagEndsAt}
 use Rattle.bit_stuffing.proofs.Names.{SevenOnesEndAt, OpenedAt, IsFar, IsNear, Aborts, Closes}
 use Rattle.bit_stuffing.proofs.Places.{bit-before, flag-stays, flag-was, seven-was, seven-stays, flag_or_seven}
 
@@ -57,8 +57,7 @@ seven_behind bits b p o s = elim (cases_lt (length bits + 1) (p + 7)) [ inl near
     too_near near =
         let place : length bits + 1 - 7 + (p + 5 - length bits) ≡ p - 1 = omega (arith, s.room, o.flag_ends.room, o.flag_ends.within) in
         let set = s.ones (p + 5 - length bits) (omega (arith, o.flag_ends.within, o.flag_ends.room)) in
-        let here : bit_of (bits ++ b ∷ []) (p - 1) ≡ true = rw place at set in
-        false≢true (sym (bit-before bits b (p - 1) (omega (arith, o.flag_ends.room, o.flag_ends.within)) ∙ before_open bits p o) ∙ here)
+        let here : bit_of (bits ++ b ∷ []) (p - 1) ≡ true = rw place at set in grind (arith, bit-before, before_open)
 
 pub at_end : (bits : List Bool) (b : Bool) → FlagEndsAt (bits ++ b ∷ []) (length (bits ++ b ∷ []))
     → FlagEndsAt (bits ++ b ∷ []) (length bits + 1)
