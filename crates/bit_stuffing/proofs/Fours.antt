@@ -177,9 +177,6 @@ opened-before k past s h e p o far = each (run k s).since (counts-run k past s h
 
 -- the latest bits then
 
-abbrev one_by_one : List Bool → Bool → Bool → Bool → Bool → List Bool
-one_by_one past a b c d = (((past ++ a ∷ []) ++ b ∷ []) ++ c ∷ []) ++ d ∷ []
-
 latest-four : (latest four : ℕ) (past : List Bool) → four < 16 → HoldsLatest latest past
     → HoldsLatest ((256 * four + latest) / 16) (past ++ low_bits 4 four)
 latest-four latest four past small h =

@@ -31,7 +31,8 @@ carries-octets line e =
     let same : stuffed 5 (removed 5 line) ≡ line = same_bits (stuffed 5 (removed 5 line)) line both.1 in
     assumption (
       octets_of-are_octets (length (removed 5 line) / 8) (removed 5 line),
-      subst (λ content. Stuffs content line) (sym content_is) (subst (Stuffs (removed 5 line)) same (stuffs-stuffed 0 5 (removed 5 line) refl)),
+      subst (λ content. Stuffs content line) (sym content_is)
+          (subst (Stuffs (removed 5 line)) same (stuffs-stuffed 0 5 (removed 5 line) refl)),
     )
 
 pub carried-test : (line : List Bool) (octets : List ℕ) → Carries line octets → are_octets line ≡ true
