@@ -1,6 +1,6 @@
 -- A decoder follows a line whose noise is faint.
-use Rattle.std.proofs.Common.{◌≡◌, ℕ, zero, suc, ◌+◌, ◌*◌, ◌<◌, ◌≤◌, Bool, true, false, ◌&&◌, if◌then◌else◌, List, [], ◌∷◌, length}
-use Rattle.std.proofs.Common.{map, refl, ap, arith, Some, None, ℤ, pos, neg_ℤ, ◌+ℤ◌, ◌-ℤ◌, ◌≤ℤ◌, int_lt, int_le, unsigned_abs}
+use Rattle.std.proofs.Common.{◌≡◌, ◌∙◌, ℕ, zero, suc, ◌+◌, ◌*◌, ◌<◌, ◌≤◌, Bool, true, false, ◌&&◌, if◌then◌else◌, List, [], ◌∷◌, length}
+use Rattle.std.proofs.Common.{map, refl, sym, ap, arith, Some, None, ℤ, pos, neg_ℤ, ◌+ℤ◌, ◌-ℤ◌, ◌≤ℤ◌, int_lt, int_le, unsigned_abs}
 use Rattle.std.proofs.lemmas.Bool.{and_parts}
 use Rattle.std.proofs.lemmas.Int.{ints}
 use Rattle.std.proofs.lemmas.Nat.{mul-le}
@@ -39,7 +39,8 @@ abbrev coordinate_fits : ℤ → Bool
 coordinate_fits p = int_le (neg_ℤ (pos 32768)) p && int_le p (pos 32767)
 
 coordinate : (p : ℤ) → coordinate_fits p ≡ true → Fits p
-coordinate p h = grind (arith)
+coordinate p h = let both = and_parts (int_le (neg_ℤ (pos 32768)) p) (int_le p (pos 32767)) h in
+    (omega (arith, ints, both.0), omega (arith, ints, both.1))
 
 abbrev point_fits : ℕ → Bool
 point_fits label = coordinate_fits (point_of label).re && coordinate_fits (point_of label).im
@@ -50,12 +51,20 @@ fits_test = refl
 point-fits : (label : ℕ) → label < 32 → Fits (point_of label).re × Fits (point_of label).im
 point-fits label low =
     let both = and_parts (coordinate_fits (point_of label).re) (coordinate_fits (point_of label).im)
-    (at_each 32 point_fits fits_test label low) in grind (arith, coordinate)
+    (at_each 32 point_fits fits_test label low) in
+    (coordinate (point_of label).re both.0, coordinate (point_of label).im both.1)
 
 moved : (offset : Offset) (point : Sample) → Fits point.re → Fits point.im → distance_of point (displaced offset point) ≤ squares_of offset
 moved offset point re im =
     let a = held offset.re point.re re in
-    let b = held offset.im point.im im in grind (arith, mul-le)
+    let b = held offset.im point.im im in
+    omega (
+      arith,
+      mul-le (unsigned_abs (point.re -ℤ saturated (offset.re +ℤ point.re))) (unsigned_abs (point.re -ℤ saturated (offset.re +ℤ point.re)))
+          (unsigned_abs offset.re) (unsigned_abs offset.re) a a,
+      mul-le (unsigned_abs (point.im -ℤ saturated (offset.im +ℤ point.im))) (unsigned_abs (point.im -ℤ saturated (offset.im +ℤ point.im)))
+          (unsigned_abs offset.im) (unsigned_abs offset.im) b b,
+    )
 
 -- so labels cost no more against their displaced points than the squares of the offsets
 moved-cost : (script : ScriptValue) (sender : Role) (symbol from to : ℕ) (labels : List ℕ) → Leads next_state from labels to
@@ -87,10 +96,23 @@ recorded-near : (script : ScriptValue) (sender : Role) (count : ℕ) (bits : Lis
 recorded-near script sender count bits samples h few r =
     let labels : List ℕ = r.modulated.labels in
     let fours = four-each (tap_of (mode_of sender)) labels bits (carried script sender bits samples r) in
-    let are : samples ≡ displaced_from script sender 0 (map point_of labels) = grind (arith) in
-    let long : length labels ≡ length samples = grind (arith, length-displaced, length-points) in
+    let are : samples ≡ displaced_from script sender 0 (map point_of labels) =
+    r.samples_are ∙ ap (displaced_from script sender 0) r.modulated.points in
+    let long : length labels ≡ length samples =
+    sym (ap length are ∙ length-displaced script sender 0 (map point_of labels) ∙ length-points labels) in
     let price : cost far_from labels samples ≡ cost far_from labels (displaced_from script sender 0 (map point_of labels)) =
-    ap (cost far_from labels) are in grind (arith, moved-cost, squares-more)
+    ap (cost far_from labels) are in
+    record {
+      end = r.modulated.end;
+      sequence = record { code_sequence = record { from = 0; starts_there = refl; leads = r.modulated.encoded.leads }; same_length = long };
+      near = omega (
+        arith,
+        price,
+        moved-cost script sender 0 0 r.modulated.end labels r.modulated.encoded.leads,
+        squares-more script sender 0 (length labels) count (omega (arith, few, fours)),
+        h,
+      );
+    }
 
 pub faint-followed : (script : ScriptValue) (sender : Role) (count : ℕ) → IsFaintBefore script sender count
     → Follows 504 script sender count

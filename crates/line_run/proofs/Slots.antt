@@ -16,7 +16,8 @@ pub sent-in : (role : Role) (n : ℕ) (ts : List Turn) (slot : Spoken) → sent_
 sent-in role n [] slot e = absurd cc
 sent-in role zero (t ∷ ts) slot e = record { turn = t; rest = refl; sent = e; count = omega arith; sendable = λ s. s.0 role slot e }
 sent-in role (suc n) (t ∷ ts) slot e =
-    let s = sent-in role n ts slot e in grind (arith)
+    let s = sent-in role n ts slot e in
+    record { turn = s.turn; rest = s.rest; sent = s.sent; count = omega (arith, s.count); sendable = λ a. s.sendable a.1 }
 
 -- the same by the turns that a slot is on its way
 pub record SentAgo (role : Role) (delay : ℕ) (ts : List Turn) (slot : Spoken) : Type 0 where

@@ -1,7 +1,8 @@
 -- Samples that no line of a script displaces, up to some symbol.
-use Rattle.std.proofs.Common.{◌≡◌, ◌∙◌, ℕ, zero, suc, ◌+◌, ◌*◌, ◌-◌, ◌<◌, ◌≤◌, Bool, true, cond, ◌&&◌, All, List, [], ◌∷◌}
+use Rattle.std.proofs.Common.{◌≡◌, ◌∙◌, ℕ, zero, suc, ◌+◌, ◌*◌, ◌-◌, ◌<◌, ◌≤◌, nat_le, Bool, true, false, cond, ◌&&◌, All, List, [], ◌∷◌}
 use Rattle.std.proofs.Common.{length, map, refl, ap, arith, Some, None}
-use Rattle.std.proofs.lemmas.List.Elements.{All-head, All-tail}
+use Rattle.std.proofs.lemmas.Bool.Decides.{nat_tests}
+use Rattle.std.proofs.lemmas.List.Elements.{All-head, All-nil, All-same, All-tail}
 use Rattle.std.specs.Prelude.{ℤ, pos, ◌*ℤ◌, slice_index_or}
 use Rattle.line_run.proofs.Cited.{DisplacesNoneBefore, LosesAt, Records, Role, Sample, ScriptValue, comes-back, displaced, displaced_from}
 use Rattle.line_run.proofs.Cited.{four-each, line_depth, line_trellis, lost-once, map_points, mode_of, plus, point_of, same_role, tap_of}
@@ -19,7 +20,11 @@ use Rattle.line_run.proofs.Following.{Follows, all-of}
 
 quiet : {X : Type 0} (b : Bool) (from n symbol count : ℕ) (there none : X) → (b ≡ true → count ≤ from) → symbol < count
     → cond (b && covers from n symbol) there none ≡ none
-quiet b from n symbol count there none late within = grind (arith)
+quiet true from n symbol count there none late within =
+    let least : count ≤ from = late refl in
+    let before : nat_le from symbol ≡ false = grind (arith, nat_tests) in
+    rw before refl
+quiet false from n symbol count there none late within = refl
 
 hits-none : (sender : Role) (symbol count : ℕ) (hits : List Hit) → symbol < count
     → All (λ (hit : Hit). same_role hit.role sender ≡ true → count ≤ hit.from) hits → sum_of (map (hit_offset sender symbol) hits) ≡ nothing
@@ -28,7 +33,10 @@ hits-none sender symbol count (hit ∷ hits) within h =
     let late : same_role hit.role sender ≡ true → count ≤ hit.from =
     All-head (λ (one : Hit). same_role one.role sender ≡ true → count ≤ one.from) hit hits h in
     let rest = hits-none sender symbol count hits within
-    (All-tail (λ (one : Hit). same_role one.role sender ≡ true → count ≤ one.from) hit hits h) in grind (arith, nothing, quiet)
+    (All-tail (λ (one : Hit). same_role one.role sender ≡ true → count ≤ one.from) hit hits h) in
+    ap (λ offset. offsets.plus (hit_offset sender symbol hit) offset) rest
+    ∙ ap (λ offset. offsets.plus offset nothing)
+    (quiet (same_role hit.role sender) hit.from hit.count symbol count (record { re = hit.re; im = hit.im }) nothing late within)
 
 noises-none : (sender : Role) (symbol count : ℕ) (noises : List Noise) → symbol < count
     → All (λ (noise : Noise). same_role noise.role sender ≡ true → count ≤ noise.from) noises
@@ -48,11 +56,18 @@ pub later-displace_none : (script : ScriptValue) (sender : Role) (count : ℕ)
     → All (λ (hit : Hit). same_role hit.role sender ≡ true → count ≤ hit.from) script.hits
     → All (λ (noise : Noise). same_role noise.role sender ≡ true → count ≤ noise.from) script.noises
     → DisplacesNoneBefore script sender count
-later-displace_none script sender count hits noises symbol within = grind (arith, hits-none, nothing, noises-none)
+later-displace_none script sender count hits noises symbol within =
+    ap (λ offset. offsets.plus offset (sum_of (map (noise_offset sender symbol) script.noises)))
+    (hits-none sender symbol count script.hits within hits)
+    ∙ ap (offsets.plus nothing) (noises-none sender symbol count script.noises within noises)
 
 pub empty-displaces_none : (script : ScriptValue) (sender : Role) (count : ℕ) → script.hits ≡ [] → script.noises ≡ []
     → DisplacesNoneBefore script sender count
-empty-displaces_none script sender count hits noises = grind (arith, later-displace_none)
+empty-displaces_none script sender count hits noises = later-displace_none script sender count
+    (All-same (λ (hit : Hit). same_role hit.role sender ≡ true → count ≤ hit.from) script.hits [] hits
+    (All-nil (λ (hit : Hit). same_role hit.role sender ≡ true → count ≤ hit.from)))
+    (All-same (λ (noise : Noise). same_role noise.role sender ≡ true → count ≤ noise.from) script.noises [] noises
+    (All-nil (λ (noise : Noise). same_role noise.role sender ≡ true → count ≤ noise.from)))
 
 -- points of the map stay where they are
 
