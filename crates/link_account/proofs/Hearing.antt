@@ -1,10 +1,13 @@
 -- Hearing keeps a play good.
-use Rattle.link_account.proofs.Names.{◌≡◌, ℕ, ◌≤◌, Bool, true, false, List, ◌∷◌, arith, refl, sym, ◌∙◌, ap, subst, Option, Some, None}
-use Rattle.link_account.proofs.Names.{Result, Ok, Err, Frame, Disc, Dm, Sabme, Ua, Xid, Frmr, Test, Sent, Account, window_for, connected}
-use Rattle.link_account.proofs.Names.{hear, on_closed, on_connected, on_detecting, on_disc, on_establishing, on_frame, on_negotiating}
-use Rattle.link_account.proofs.Names.{on_nothing, on_pattern, on_releasing, on_sabme, on_seen, on_xid_command, on_xid_response, owing}
-use Rattle.link_account.proofs.Names.{trying, without_adp, Slot, arrives, Answer, Phase, Closed, Connected, Detecting, Establishing}
-use Rattle.link_account.proofs.Names.{Negotiating, Releasing, Setup, other, LinkFault, Answerer, Originator, offer_in, written, agree}
+use Rattle.std.proofs.Common.{◌≡◌, ℕ, ◌≤◌, ◌||◌, Bool, true, false, cond, List, ◌∷◌, arith, refl, sym, ◌∙◌, ap, subst, Option, Some, None}
+use Rattle.std.proofs.Common.{Result, Ok, Err}
+use Rattle.link_account.proofs.Names.{Account, Answer, Answerer, Closed, Connected, Detecting, Disc, Dm, Establishing, Frame, I, LinkFault}
+use Rattle.link_account.proofs.Names.{Negotiating, Originator, Phase, Rej, Releasing, Rnr, Role, Rr, Sabme, Sent, Setup, Slot, Srej, Ua}
+use Rattle.link_account.proofs.Names.{Xid, agree, arrives, connected, hear, is_originator, offer_in, on_closed, on_connected, on_detecting}
+use Rattle.link_account.proofs.Names.{on_disc, on_establishing, on_frame, on_negotiating, on_nothing, on_pattern, on_releasing, on_sabme}
+use Rattle.link_account.proofs.Names.{on_seen, on_xid_command, on_xid_response, other, owing, peer_reset, trying, window_for, without_adp}
+use Rattle.link_account.proofs.Names.{written}
+use Rattle.lapm_frames.specs.declared.frame.Frame.TheVariants.{Frmr, Test}
 use Rattle.link_account.proofs.Ends.{Goes}
 use Rattle.link_account.proofs.Linked.{IsNumbered, IsLinked, HearsWell, hears-linked, counts_as_numbered}
 use Rattle.link_account.proofs.Good.{rank, DueA, IsFresh, PlaceO, PlaceA, NoSabme, terms_of, Good, linked-o, linked-a, lost-o, lost-a}
@@ -36,7 +39,12 @@ counts-not frame b no_more e = grind (arith)
 
 counts-so : (P : Type 0) (frame : Frame) (b : Bool) → (IsNumbered (slots.Frame frame) → P) → (b ≡ true → P)
     → counts_as_numbered frame b ≡ true → P
-counts-so P frame b f g e = grind (arith)
+counts-so P (I ns nr pf info) b f g e = f tt
+counts-so P (Rr command nr pf) b f g e = f tt
+counts-so P (Rnr command nr pf) b f g e = f tt
+counts-so P (Rej command nr pf) b f g e = f tt
+counts-so P (Srej command nr pf) b f g e = f tt
+counts-so P frame b f g e = g e
 
 module _ (so sa : Setup) (o a : Account) (lo la : List Slot) where
   abbrev BeforeA : Slot → Type 0
@@ -107,15 +115,26 @@ module _ (so sa : Setup) (o a : Account) (lo la : List Slot) where
 
   a-detecting : (turn n told : ℕ) (frame : Frame)
       → BeforeA (framed frame n told) → a.phase ≡ Detecting → IsWellA (on_detecting Answerer frame turn a)
-  a-detecting turn n told frame h e = grind (arith, a-xid, left-o)
+  a-detecting turn n told (Xid true pf info) h e =
+      a-xid (left-o _ h) (omega (arith, ap rank e))
+      (subst (λ p. PlaceA (terms_of so sa) p a) e h.place_a) info h.line_o.0
+  a-detecting turn n told frame h e = grind (arith)
 
   a-negotiating : (turn n told : ℕ) (frame : Frame)
       → BeforeA (framed frame n told) → a.phase ≡ Negotiating → IsWellA (on_negotiating Answerer frame turn a)
-  a-negotiating turn n told (Xid true pf info) h e = grind (arith, a-xid, left-o)
+  a-negotiating turn n told (Xid true pf info) h e =
+      a-xid (left-o _ h) (omega (arith, ap rank e))
+      (subst (λ p. PlaceA (terms_of so sa) p a) e h.place_a).0 info h.line_o.0
   a-negotiating turn n told (Sabme pf) h e =
       let place : PlaceA (terms_of so sa) Negotiating a = subst (λ p. PlaceA (terms_of so sa) p a) e h.place_a in
       a-connects (left-o _ h) (omega (arith, ap rank e)) place.0 place.1 pf turn
-  a-negotiating turn n told (Disc pf) h e = grind (arith, left-o, changed-a)
+  a-negotiating turn n told (Disc pf) h e =
+      let g = left-o _ h in
+      changed-a so sa o a lo la g (owing (answers.Dm pf) a) refl h.line_o.0 (omega arith) (place (g.place_a))
+      (λ e. (g.early e).1) g.numbered g.flow_oa g.flow_ao
+    where
+      place : PlaceA (terms_of so sa) a.phase a → PlaceA (terms_of so sa) a.phase (owing (answers.Dm pf) a)
+      place k = subst (λ p. PlaceA (terms_of so sa) p (owing (answers.Dm pf) a)) (sym e) (subst (λ p. PlaceA (terms_of so sa) p a) e k)
   a-negotiating turn n told frame h e = left-o _ h
 
   a-closed : (n told : ℕ) (frame : Frame) → BeforeA (framed frame n told) → a.phase ≡ Closed → IsWellA (on_closed frame a)
@@ -130,7 +149,11 @@ module _ (so sa : Setup) (o a : Account) (lo la : List Slot) where
 
   -- SABME and DISC at a Connected answerer
   a-sabme : (n told : ℕ) (pf : Bool) → BeforeA (framed (Sabme pf) n told) → a.phase ≡ Connected → IsWellA (on_sabme pf a)
-  a-sabme n told pf h e = grind (arith, role-a)
+  a-sabme n told pf h e = go a.numbered refl a.setup.role (role-a so sa o a (framed (Sabme pf) n told ∷ lo) la h)
+    where
+      go : (b : Bool) → a.numbered ≡ b → (r : Role) → r ≡ Answerer
+          → IsWellA (cond (b || is_originator r) (Err (peer_reset a)) (Ok (owing (answers.Ua pf) a)))
+      go x t r q = grind (arith)
 
   a-disc : (n told : ℕ) (pf : Bool) → BeforeA (framed (Disc pf) n told) → a.phase ≡ Connected → IsWellA (on_disc Answerer pf a)
   a-disc n told pf h e =
@@ -210,7 +233,14 @@ module _ (so sa : Setup) (o a : Account) (lo la : List Slot) where
       go : (r : Result Account LinkFault)
           → HearsWell (terms_of so sa).window_o (terms_of so sa).window_a (terms_of so sa).srej o a.outgoing a.incoming lo la
           (counts_as_numbered frame o.numbered) r → IsWellO r
-      go r w = grind (arith, changed-o, left-a)
+      go (Err fault) w = absurd w
+      go (Ok b) w =
+          let phase : b.phase ≡ Connected = sym w.1.phase ∙ e in
+          let ranks : rank o.phase ≡ rank b.phase = ap rank w.1.phase in
+          changed-o so sa o a lo la (left-a _ h) b (sym w.1.setup) (sym w.1.answer) (omega (arith, ranks))
+          (subst (λ p. PlaceO (terms_of so sa) p b) (sym phase) (w.0.own_window, w.0.their_window, w.0.srej_is))
+          (λ z. omega (arith, h.met z, ranks))
+          w.0.own w.0.theirs
 
   o-xid : Good so sa o a lo la → o.phase ≡ Negotiating → 1 ≤ rank a.phase
       → (turn : ℕ) (info : List ℕ) → info ≡ written sa.offer → Good so sa (on_xid_response (offer_in info) turn o) a lo la
@@ -243,7 +273,9 @@ module _ (so sa : Setup) (o a : Account) (lo la : List Slot) where
 
   o-negotiating : (turn n told : ℕ) (frame : Frame)
       → BeforeO (framed frame n told) → o.phase ≡ Negotiating → IsWellO (on_negotiating Originator frame turn o)
-  o-negotiating turn n told frame h e = grind (arith, o-xid, left-a)
+  o-negotiating turn n told (Xid false pf info) h e = o-xid (left-a _ h) e h.line_a.0.1 turn info h.line_a.0.0
+  o-negotiating turn n told (Dm pf) h e = absurd (omega (arith, h.line_a.0, ap rank e))
+  o-negotiating turn n told frame h e = left-a _ h
 
   o-establishing : (turn n told : ℕ) (frame : Frame)
       → BeforeO (framed frame n told) → o.phase ≡ Establishing → IsWellO (on_establishing frame turn o)
@@ -253,7 +285,14 @@ module _ (so sa : Setup) (o a : Account) (lo la : List Slot) where
 
   o-connected : (turn n told : ℕ) (frame : Frame)
       → BeforeO (framed frame n told) → o.phase ≡ Connected → IsWellO (on_connected frame turn o)
-  o-connected turn n told frame h e = grind (arith, left-a, o-linked)
+  o-connected turn n told (Sabme pf) h e = absurd h.line_a.0
+  o-connected turn n told (Disc pf) h e = absurd h.line_a.0
+  o-connected turn n told (Xid command pf info) h e = left-a _ h
+  o-connected turn n told (Ua pf) h e = left-a _ h
+  o-connected turn n told (Dm pf) h e = absurd (omega (arith, h.line_a.0, ap rank e))
+  o-connected turn n told (Frmr pf info) h e = absurd h.line_a.0
+  o-connected turn n told (Test command pf info) h e = absurd h.line_a.0
+  o-connected turn n told frame h e = o-linked turn n told frame h e h.line_a.0
 
   o-closes : Good so sa o a lo la → o.phase ≡ Releasing → Good so sa (record o { phase = Closed }) a lo la
   o-closes g e =
@@ -274,7 +313,9 @@ module _ (so sa : Setup) (o a : Account) (lo la : List Slot) where
   o-frame turn n told frame h Detecting e =
       subst (λ r. IsWellO (on_detecting r frame turn o)) (sym (role-o so sa o a lo (framed frame n told ∷ la) h))
       (left-a _ h)
-  o-frame turn n told frame h Negotiating e = grind (arith, role-o, o-negotiating)
+  o-frame turn n told frame h Negotiating e =
+      subst (λ r. IsWellO (on_negotiating r frame turn o)) (sym (role-o so sa o a lo (framed frame n told ∷ la) h))
+      (o-negotiating turn n told frame h e)
   o-frame turn n told frame h Establishing e = o-establishing turn n told frame h e
   o-frame turn n told frame h Connected e = o-connected turn n told frame h e
   o-frame turn n told frame h Releasing e = o-releasing n told frame h e

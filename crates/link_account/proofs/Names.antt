@@ -65,3 +65,4 @@ pub use Rattle.xid_params.specs.Terms.{agree}
 pub use Rattle.xid_params.specs.declared.offer.Offer.{Offer}
 pub use Rattle.xid_params.specs.declared.terms.Terms.{Terms}
 pub use borrow.Author.Tests.{eqb-true, ltb-true}
+pub use Rattle.link_account.specs.Hear.{peer_reset}

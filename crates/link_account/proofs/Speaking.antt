@@ -1,15 +1,15 @@
 -- Speaking keeps a play good.
-use Rattle.link_account.proofs.Names.{◌≡◌, ℕ, ◌≤◌, ◌&&◌, Bool, true, List, [], ◌∷◌, ◌++◌, length, arith, refl, sym, ◌∙◌, ap, subst, Option}
-use Rattle.link_account.proofs.Names.{Some, None, Result, Ok, Err, ◌⊎◌, inr, false≢true, OwnBreaks, Frame, Dm, Ua, Xid, Sent, Incoming}
-use Rattle.link_account.proofs.Names.{next_expected, Outgoing, Account, Wait, trying, Slot, Said, frame_for, says, speak, Answer, Phase}
-use Rattle.link_account.proofs.Names.{Closed, Connected, Detecting, Establishing, Negotiating, Releasing, Setup, is_originator, LinkFault}
-use Rattle.link_account.proofs.Names.{BadAck, NotDetected, PeerRefused, PeerReset, Spent, Role, Answerer, Originator, written}
-use Rattle.std.proofs.Common.{inl}
+use Rattle.std.proofs.Common.{◌≡◌, ℕ, ◌≤◌, ◌&&◌, Bool, true, false, List, [], ◌∷◌, ◌++◌, length, arith, refl, sym, ◌∙◌, ap, subst, Option}
+use Rattle.std.proofs.Common.{Some, None, Result, Ok, Err, ◌⊎◌, inl, inr}
+use Rattle.link_account.proofs.Names.{Account, Answer, Answerer, BadAck, Closed, Connected, Detecting, Disc, Dm, Establishing, Frame}
+use Rattle.link_account.proofs.Names.{Incoming, LinkFault, Negotiating, NotDetected, Originator, Outgoing, OwnBreaks, PeerRefused}
+use Rattle.link_account.proofs.Names.{PeerReset, Phase, Releasing, Role, Sabme, Said, Sent, Setup, Slot, Spent, Ua, Wait, Xid, false≢true}
+use Rattle.link_account.proofs.Names.{frame_for, is_originator, next_expected, says, speak, trying, written}
 use Rattle.link_account.proofs.Flow.{IsAskable, all_snoc}
 use Rattle.link_account.proofs.Ends.{segment_of, asked_of, Goes, line-quiet, back-told}
 use Rattle.link_account.proofs.Linked.{Linked, Same, IsNumbered, IsLinked, SaysWell, steps-well}
 use Rattle.link_account.proofs.SpeakWays.{Answers, Tries, ConnectedWays, Ways, by-ways, linked-alike, tries-alike, retimed, Breaks}
-use Rattle.link_account.proofs.SpeakWays.{why-broken}
+use Rattle.link_account.proofs.SpeakWays.{Undetected, Spends, why-broken}
 use Rattle.link_account.proofs.Good.{rank, FromO, FromA, DueA, NotSabme, SabmeFirst, PlaceO, PlaceA, NoneNumbered, LineO, LineA, terms_of}
 use Rattle.link_account.proofs.Good.{Good, linked-o, linked-a, changed-o, changed-a}
 use Rattle.lapm_frames.specs.declared.sent.Sent.TheVariants as slots
@@ -31,7 +31,8 @@ by-result : (P : Said → Type 0) (turn : ℕ) (release : Bool) (a : Account) �
 by-result P turn release a h = go (speak turn release a) refl
   where
     harmless : (fault : LinkFault) → Breaks turn release a fault → IsHarmless fault
-    harmless fault given = grind (arith)
+    harmless fault (Undetected p r l e) = subst IsHarmless (sym e) tt
+    harmless fault (Spends x e) = subst IsHarmless (sym e) tt
 
     go : (r : Result Said LinkFault) → speak turn release a ≡ r → OnSaid P r
     go (Ok said) e = by-ways P turn release a h said e
@@ -52,7 +53,12 @@ pub record Timed (wo wi : ℕ) (srej : Bool) (a : Account) (po : Outgoing) (pi :
 timed : (wo wi : ℕ) (srej : Bool) (a : Account) (po : Outgoing) (pi : Incoming) (line back : List Slot)
     → Linked wo wi srej a po pi line back
     → (count : ℕ) (awaited : Bool) (w : Wait) (own : OwnBreaks) → Timed wo wi srej a po pi line back (retimed a count awaited w own)
-timed wo wi srej a po pi line back h count awaited w own = grind (arith)
+timed wo wi srej a po pi line back h count awaited w own = record {
+  linked = record { own = h.own; theirs = h.theirs; own_window = h.own_window; their_window = h.their_window; srej_is = h.srej_is };
+  same = record { setup = refl; phase = refl; answer = refl };
+  numbered = refl;
+  incoming = refl;
+}
 
 linked-speaks : (wo wi : ℕ) (srej : Bool) (a : Account) (po : Outgoing) (pi : Incoming) (line back : List Slot) (turn : ℕ)
     (P : Said → Type 0) → Linked wo wi srej a po pi line back
@@ -149,10 +155,18 @@ o-tries so sa o a lo la g turn frame none unasked from sabme unnumbered = tries-
     (quiet-o so sa o a lo la g slots.Flags refl refl tt (inl tt) (λ low n. n))
 
 linked-from-o : (so : Setup) (k : ℕ) (sent : Sent) (n told : ℕ) → IsLinked sent n told → FromO so k sent n told
-linked-from-o so k sent n told h = grind (arith)
+linked-from-o so k (slots.Frame (Xid true pf info)) n told h = absurd h
+linked-from-o so k (slots.Frame (Sabme pf)) n told h = absurd h
+linked-from-o so k (slots.Frame (Disc pf)) n told h = absurd h
+linked-from-o so k (slots.Frame frame) n told h = h
+linked-from-o so k slots.Flags n told h = h
+linked-from-o so k slots.Mark n told h = h
+linked-from-o so k slots.Odp n told h = tt
+linked-from-o so k slots.Adp n told h = h
 
 linked-no-sabme : (sent : Sent) (n told : ℕ) → IsLinked sent n told → NotSabme sent
-linked-no-sabme sent n told h = grind (arith)
+linked-no-sabme (slots.Frame (Sabme pf)) n told h = h
+linked-no-sabme sent n told h = tt
 
 o-linked-speaks : (so sa : Setup) (o a : Account) (lo la : List Slot) → Good so sa o a lo la → o.phase ≡ Connected → (turn : ℕ)
     → ConnectedWays (SaidO so sa (next_expected o.incoming) a lo la) turn o
@@ -292,7 +306,14 @@ a-answers so sa o a lo la g d e = go d (subst (DueA (rank o.phase) (rank a.phase
     go (answers.Dm pf) due = quiet-a so sa o _ lo la none (slots.Frame (Dm pf)) refl refl due
 
 linked-from-a : (sa : Setup) (k m : ℕ) (sent : Sent) (n told : ℕ) → IsLinked sent n told → FromA sa k m sent n told
-linked-from-a sa k m sent n told h = grind (arith)
+linked-from-a sa k m (slots.Frame (Xid false pf info)) n told h = absurd h
+linked-from-a sa k m (slots.Frame (Ua pf)) n told h = absurd h
+linked-from-a sa k m (slots.Frame (Dm pf)) n told h = absurd h
+linked-from-a sa k m (slots.Frame frame) n told h = h
+linked-from-a sa k m slots.Flags n told h = h
+linked-from-a sa k m slots.Mark n told h = tt
+linked-from-a sa k m slots.Odp n told h = h
+linked-from-a sa k m slots.Adp n told h = tt
 
 a-linked-speaks : (so sa : Setup) (o a : Account) (lo la : List Slot) → Good so sa o a lo la → a.phase ≡ Connected → (turn : ℕ)
     → ConnectedWays (SaidA so sa (next_expected a.incoming) o lo la) turn a
@@ -312,7 +333,13 @@ a-linked-speaks so sa o a lo la g e turn =
     srej = (terms_of so sa).srej
 
     now : (b : Account) → Timed wo wi srej a o.outgoing o.incoming la lo b → Good so sa o b lo la
-    now b w = grind (arith, changed-a)
+    now b w =
+        let at : b.phase ≡ Connected = sym w.same.phase ∙ e in
+        changed-a so sa o a lo la g b (sym w.same.setup)
+        (subst (λ d. DueA (rank o.phase) (rank b.phase) d) w.same.answer
+        (subst (λ p. DueA (rank o.phase) (rank p) a.owes.answer) w.same.phase g.answer_a)) (omega (arith, ap rank w.same.phase))
+        (subst (λ p. PlaceA (terms_of so sa) p b) (sym at) (w.linked.own_window, w.linked.their_window, w.linked.srej_is))
+        (λ low. w.numbered ∙ (g.early low).1) (λ t. g.numbered (sym w.numbered ∙ t)) w.linked.theirs w.linked.own
 
     well : (b : Account) (said : Said) → Timed wo wi srej a o.outgoing o.incoming la lo b
         → SaysWell wo wi srej b o.outgoing o.incoming la lo (next_expected b.incoming) said
