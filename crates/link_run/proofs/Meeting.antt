@@ -1,7 +1,8 @@
 -- What hearing and speaking tell of UA, of DISC and of frames with numbers: who sends them, and in which phase.
-use Rattle.link_run.proofs.Names.{◌≡◌, ◌⊎◌, inl, ℕ, ◌≤◌, Bool, true, false, arith, refl, sym, ap, subst, Option, Some, None, Ok}
-use Rattle.link_run.proofs.Names.{ConnectedWays, Plain, by-linked, Originator, Frame, I, Rr, Rnr, Rej, Srej, Disc, Ua, Incoming, after_take}
-use Rattle.link_run.proofs.Names.{Arrived, Sent, Account, is_connected, hear, on_nothing, without_adp, Answer, Phase, Connected}
+use Rattle.std.proofs.Common.{◌≡◌, ◌⊎◌, inl, inr, ℕ, ◌≤◌, Bool, true, false, arith, refl, sym, ◌∙◌, ap, subst, Option, Some, None, Ok}
+use Rattle.link_account.proofs.Names.{Originator, Frame, I, Rr, Rnr, Rej, Srej, Sabme, Disc, Ua, Ui, Incoming, after_take, Arrived, Sent}
+use Rattle.link_account.proofs.Names.{Account, is_connected, hear, on_nothing, without_adp, owing}
+use Rattle.link_run.proofs.Names.{Answer, Connected, ConnectedWays, Phase, Plain, by-linked}
 use Rattle.link_run.proofs.Keeping.{stage}
 use Rattle.lapm_frames.specs.declared.arrived.Arrived.TheVariants as arrivals
 use Rattle.lapm_frames.specs.declared.sent.Sent.TheVariants as slots
@@ -85,10 +86,32 @@ module _ (turn : ℕ) (a : Account) (e : a.phase ≡ Connected) where
   stays : (arrived : Arrived) (b : Account) → b.phase ≡ a.phase → b.owes.answer ≡ a.owes.answer
       → (b.numbered ≡ true → (a.numbered ≡ true) ⊎ (brings is_counted arrived ≡ true)) → b.incoming ≡ received Connected arrived a.incoming
       → Told Connected arrived a b
-  stays arrived b p o numbered inc = grind (arith, stays-told)
+  stays arrived b p o numbered inc =
+      stays-told Connected arrived a b (ap stage (p ∙ e)) (λ y. inl (ap owes_ua (sym o) ∙ y)) numbered inc
 
   linked-told : ConnectedWays (told_in Connected a) turn a
-  linked-told = grind (arith, stays, plain-received, stays-told)
+  linked-told = record {
+    pattern = λ s. stays (arrivals.Pattern s) a refl refl (λ y. inl y) refl;
+    plain = λ frame k. stays (arrivals.Frame frame) a refl refl (λ y. inl y) (sym (plain-received frame a.incoming k));
+    numbers = record {
+      i = λ ns nr pf info n m. stays (arrivals.Frame (I ns nr pf info)) _ refl refl (λ y. inr refl) refl;
+      rr = λ command pf nr n final g m. stays (arrivals.Frame (Rr command nr pf)) _ refl refl (λ y. inr refl) refl;
+      rej = λ command pf nr n final g m. stays (arrivals.Frame (Rej command nr pf)) _ refl refl (λ y. inr refl) refl;
+      rnr = λ command pf nr n final g m. stays (arrivals.Frame (Rnr command nr pf)) _ refl refl (λ y. inr refl) refl;
+      srej = λ command pf nr n g m. stays (arrivals.Frame (Srej command nr pf)) _ refl refl (λ y. inr refl) refl;
+    };
+    sabme = λ pf n r. stays-told Connected (arrivals.Frame (Sabme pf)) a (owing (answers.Ua pf) a) (ap stage e)
+        (λ y. inr (omega (arith, ap stage e))) (λ y. inl y) refl;
+    disc = λ pf r. record {
+      owes = λ z. inr (omega arith);
+      entered = λ z. absurd (omega (arith, z));
+      numbered = λ z. inl z;
+      hung = λ l z. refl;
+      incoming = inl refl;
+    };
+    brk = λ command pf info number length_octet q. stays (arrivals.Frame (Ui command pf info)) _ refl refl (λ y. inl y) refl;
+    brkack = λ command pf info number length_octet q. stays (arrivals.Frame (Ui command pf info)) _ refl refl (λ y. inl y) refl;
+  }
 
   told-linked : (arrived : Arrived) (b : Account) → hear turn arrived a ≡ Ok b → Told Connected arrived a b
   told-linked arrived b h = by-linked (told_in Connected a) turn a linked-told
@@ -99,7 +122,8 @@ module _ (turn : ℕ) (a : Account) (e : a.phase ≡ Connected) where
 module _ (turn : ℕ) (a : Account) (c : is_connected a.phase ≡ false) where
   quiet : (arrived : Arrived) (b : Account) → stage b.phase ≡ stage a.phase → (owes_ua b.owes.answer ≡ true → owes_ua a.owes.answer ≡ true)
       → b.numbered ≡ a.numbered → b.incoming ≡ a.incoming → Told a.phase arrived a b
-  quiet arrived b e owes n i = grind (arith, stays-told, not-received)
+  quiet arrived b e owes n i = stays-told a.phase arrived a b e (λ y. inl (owes y)) (λ z. inl (sym n ∙ z))
+      (i ∙ sym (not-received a.phase arrived a.incoming c))
 
 pub is-told : (turn : ℕ) (arrived : Arrived) (a b : Account) → hear turn arrived a ≡ Ok b → Told a.phase arrived a b
 is-told turn arrived a b h = go a.phase refl

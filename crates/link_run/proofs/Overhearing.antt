@@ -18,8 +18,9 @@ use Rattle.link_run.proofs.Running.{Reaches, lines, run-reaches, hearing-reaches
 use Rattle.link_run.proofs.Ending.{Facts, PlayLaws, facts}
 use Rattle.link_run.proofs.Finishing.{Over, over-run}
 use Rattle.link_run.proofs.Taking.{side_with, all-taken}
-use Rattle.link_run.proofs.Knowing.{rank, OnSent, IfSent, ago-all, came-all, SentO, SentA}
+use Rattle.link_run.proofs.Knowing.{rank, OnSent, IfSent, OnArrived, ago-all, came-all, SentO, SentA}
 use Rattle.link_run.proofs.Following.{KnownOf, known-mid, known-run}
+use Rattle.link_run.proofs.Meeting.{is_segment, is_counted, brings}
 use Rattle.link_run.proofs.Joining.{Met, met-run, came}
 use Rattle.lapm_frames.specs.declared.sent.Sent.TheVariants as slots
 
@@ -42,7 +43,8 @@ opens_by_frames laws link delay ts ends v role = at-role role
     k = known laws link delay ts ends v
 
     at-role : (role : Role) → has_begun (of role ends).phase ≡ has_passed (opens role) role ts
-    at-role role = grind (arith, begun-rank, k)
+    at-role Originator = begun-rank ends.orig.phase ∙ sym k.open_o
+    at-role Answerer = begun-rank ends.answ.phase ∙ sym k.open_a
 
 pub agrees_by_xid : KnowingLaws → AgreesByXid
 agrees_by_xid laws link delay ts ends v role = at-role role
@@ -51,7 +53,8 @@ agrees_by_xid laws link delay ts ends v role = at-role role
     k = known laws link delay ts ends v
 
     at-role : (role : Role) → (of role ends).terms ≡ cond (has_passed is_xid role ts) (agreed_terms link) first_terms
-    at-role role = grind (arith, k)
+    at-role Originator = k.terms_o ∙ ap (λ b. cond b (agreed_terms link) first_terms) (sym k.xid_o)
+    at-role Answerer = k.terms_a ∙ ap (λ b. cond b (agreed_terms link) first_terms) (sym k.xid_a)
 
 -- an end that has agreed has the agreed check
 agreed-at : (link : Link) (a : Account) (b : Bool) → a.terms ≡ cond b (agreed_terms link) first_terms → b ≡ true
@@ -64,7 +67,8 @@ orig-agreed link sent heard ends k l = agreed-at link ends.orig (nat_le 2 (rank 
 
 answ-agreed : (link : Link) (sent heard : List Turn) (ends : Accounts) → KnownOf link sent heard ends → 2 ≤ rank ends.orig.phase
     → check_of ends.answ ≡ agreed_check link
-answ-agreed link sent heard ends k l = grind (arith, agreed-at)
+answ-agreed link sent heard ends k l = let m = k.met l in
+    agreed-at link ends.answ (nat_le 1 (rank ends.answ.phase)) k.terms_a (grind (arith, nat_tests))
 
 -- who sends a frame with numbers is Connected
 numbered-o : (so : Setup) (r : ℕ) (frame : Frame) → has_number frame ≡ true → SentO so r frame → 2 ≤ r
@@ -110,7 +114,15 @@ hears_agreed_check laws link delay ts ends t mid v c h role frame = at-role role
 
     at-role : (role : Role) → (of role t).heard ≡ Passed (slots.Frame frame) → has_number frame ≡ true
         → (of role t).check ≡ agreed_check link
-    at-role role e n = grind (arith, came-all, k, orig-agreed, numbered-a, answ-agreed, numbered-o)
+    at-role Originator e n =
+        let P = SentA link.answ.setup (rank ends.orig.phase) (rank ends.answ.phase) in
+        let s : P frame = subst (λ x. OnArrived P (arrival x)) e (came-all P delay Answerer ts t.orig.heard k.sent_a (c Originator)) in
+        (h Originator).check_is
+        ∙ orig-agreed link ts ts ends k (numbered-a link.answ.setup (rank ends.orig.phase) (rank ends.answ.phase) frame n s)
+    at-role Answerer e n =
+        let P = SentO link.orig.setup (rank ends.orig.phase) in
+        let s : P frame = subst (λ x. OnArrived P (arrival x)) e (came-all P delay Originator ts t.answ.heard k.sent_o (c Answerer)) in
+        (h Answerer).check_is ∙ answ-agreed link ts ts ends k (numbered-o link.orig.setup (rank ends.orig.phase) frame n s)
 
 -- all slots with numbers that a role sent in these turns have that check
 abbrev HasCheck : Check → Option Spoken → Type 0
@@ -160,7 +172,8 @@ judges-all laws link delay ts heard before ends v k ago role slot frame e f = go
         (all-checked laws link delay v.may_play v.delays (other role) ts before v.carried v.run) slot frame e f n ∙ sym (at-role role n e)
 
 pub judges_by_its_check : KnowingLaws → JudgesByItsCheck
-judges_by_its_check laws link delay ts ends v ago role slot frame e f = grind (arith, judges-all, known)
+judges_by_its_check laws link delay ts ends v ago role slot frame e f =
+    judges-all laws link delay ts ts ends ends v (known laws link delay ts ends v) ago role slot frame e f
 
 pub judges_once_heard : KnowingLaws → JudgesOnceHeard
 judges_once_heard laws link delay ts ends t mid v c h ago role slot frame e f =
@@ -353,4 +366,8 @@ segments_pass_later laws link delay ts ends t v c role ns nr pf info e =
     m = met-run laws.reads laws.keeps link delay v.may_play ts ends v.carried v.run
 
     at-role : (role : Role) → (of role t).heard ≡ Passed (slots.Frame (I ns nr pf info)) → has_begun (of role ends).phase ≡ true
-    at-role role q = grind (arith, stage-begun, m, came)
+    at-role Originator q =
+        stage-begun ends.orig.phase
+        (m.segments (came is_segment delay Answerer ts t.orig.heard (c Originator) (ap (λ h. brings is_segment (arrival h)) q)))
+    at-role Answerer q = stage-begun ends.answ.phase
+        (m.up (m.froms (came is_counted delay Originator ts t.answ.heard (c Answerer) (ap (λ h. brings is_counted (arrival h)) q))))
