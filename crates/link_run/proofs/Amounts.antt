@@ -1,7 +1,7 @@
 -- How many segments an end has sent, and which of them go again, is counted by the numbers modulo 128 as by the meant ones.
-use Rattle.std.proofs.Common.{◌≡◌, ℕ, zero, suc, ◌+◌, ◌%◌, ◌≤◌, ◌||◌, max, Bool, cond, nat_eq, nat_lt, List, [], ◌∷◌}
-use Rattle.std.proofs.Common.{◌++◌, length, arith, refl, sym, subst, Option, Some, None, Ok}
-use Rattle.link_account.proofs.Names.{Role, of, ReadsAllowed, Frame, Outgoing, with_piece, KeepsTaken, Sent, Account}
+use Rattle.std.proofs.Common.{◌≡◌, ◌≢◌, ℕ, zero, suc, ◌+◌, ◌%◌, ◌≤◌, ◌||◌, max, Bool, true, false, cond, nat_eq, nat_lt, List, [], ◌∷◌}
+use Rattle.std.proofs.Common.{◌++◌, length, arith, refl, sym, ◌∙◌, ap, subst, Option, Some, None, Ok}
+use Rattle.link_account.proofs.Names.{false≢true, nat_tests, Role, of, ReadsAllowed, Frame, Outgoing, with_piece, KeepsTaken, Sent, Account}
 use Rattle.link_account.proofs.Names.{wants, MayPlay, Said}
 use Rattle.link_run.proofs.Names.{Accounts, Carries, GoingTurn, IsInRange, IsPlayed, Link, RunsOver, SendsInOrder, SendsInRange, Spoken}
 use Rattle.link_run.proofs.Names.{Turn, User, arrival, offered_at, offered_times, said_at, served, start}
@@ -67,11 +67,66 @@ goes-on : (numbers : List ℕ) (old new number ns : ℕ) → ((n : ℕ) → is_n
     → (new ≡ cond (nat_eq ns (old % 128)) (old + 1) old)
     × (cond (is_number number numbers) (repeated numbers + 1) (repeated numbers) ≡ repeated numbers + cond (nat_eq ns (old % 128)) 0 1)
     × ((n : ℕ) → (nat_eq number n || is_number n numbers) ≡ nat_lt n new)
-goes-on numbers old new number ns below is low high max-is = grind (arith)
+goes-on numbers old new number ns below is low high max-is = go (nat_eq ns (old % 128)) refl
+  where
+    go : (b : Bool) → nat_eq ns (old % 128) ≡ b
+        → (new ≡ cond b (old + 1) old)
+        × (cond (is_number number numbers) (repeated numbers + 1) (repeated numbers) ≡ repeated numbers + cond b 0 1)
+        × ((n : ℕ) → (nat_eq number n || is_number n numbers) ≡ nat_lt n new)
+    go true e =
+        let same : ns ≡ old % 128 = grind (arith, nat_tests) in
+        let at : number ≡ old = omega (arith, same, is, low, high) in
+        let out : nat_lt number old ≡ false = grind (arith, nat_tests) in
+        let up : new ≡ old + 1 = omega (arith, at, max-is) in (
+          up,
+          ap (λ b. cond b (repeated numbers + 1) (repeated numbers)) (below number ∙ out) ∙ plus (repeated numbers),
+          λ n. ap (λ b. nat_eq number n || b) (below n) ∙ next n at up,
+        )
+      where
+        plus : (n : ℕ) → n ≡ n + 0
+        plus n = omega arith
+
+        next : (n : ℕ) → number ≡ old → new ≡ old + 1 → (nat_eq number n || nat_lt n old) ≡ nat_lt n new
+        next n at up = grind (arith, nat_tests)
+    go false e =
+        let apart : number ≢ old =
+        λ z. false≢true (sym e ∙ ap (λ m. nat_eq ns (m % 128)) (sym z) ∙ ap (λ m. nat_eq m (number % 128)) is ∙ same (number % 128)) in
+        let less : nat_lt number old ≡ true = grind (arith, nat_tests) in
+        let stays : new ≡ old = omega (arith, apart, low, max-is) in (
+          stays,
+          ap (λ b. cond b (repeated numbers + 1) (repeated numbers)) (below number ∙ less),
+          λ n. ap (λ b. nat_eq number n || b) (below n) ∙ among n less stays,
+        )
+      where
+        same : (m : ℕ) → nat_eq m m ≡ true
+        same m = grind (arith, nat_tests)
+
+        among : (n : ℕ) → nat_lt number old ≡ true → new ≡ old → (nat_eq number n || nat_lt n old) ≡ nat_lt n new
+        among n less stays = grind (arith, nat_tests)
 
 slot-goes : (numbers : List ℕ) (old new : ℕ) (slot : Spoken) → ((n : ℕ) → is_number n numbers ≡ nat_lt n old)
     → SentAs (sequence_in slot.sent) slot.number old new → Goes numbers old (Some slot) new
-slot-goes numbers old new slot below s = grind (arith, numbers-are, goes-on)
+slot-goes numbers old new slot below s = go (sequence_in slot.sent) refl s
+  where
+    go : (o : Option ℕ) → sequence_in slot.sent ≡ o → SentAs o slot.number old new → Goes numbers old (Some slot) new
+    go None e k =
+        let none : number_in slot.number slot.sent ≡ [] = numbers-are slot.number slot.sent ∙ ap (listed slot.number) e in
+        record {
+          high = k ∙ ap (λ q. next_count q old) (sym e);
+          again = ap (λ l. repeated (l ++ numbers)) none ∙ plus (repeated numbers) ∙ ap (λ q. repeated numbers + again_in q old) (sym e);
+          below = λ n. ap (λ l. is_number n (l ++ numbers)) none ∙ below n ∙ ap (nat_lt n) (sym k);
+        }
+      where
+        plus : (n : ℕ) → n ≡ n + 0
+        plus n = omega arith
+    go (Some ns) e k =
+        let one : number_in slot.number slot.sent ≡ slot.number ∷ [] = numbers-are slot.number slot.sent ∙ ap (listed slot.number) e in
+        let g = goes-on numbers old new slot.number ns below k.0 k.1 k.2 k.3 in
+        record {
+          high = g.0 ∙ ap (λ q. next_count q old) (sym e);
+          again = ap (λ l. repeated (l ++ numbers)) one ∙ g.1 ∙ ap (λ q. repeated numbers + again_in q old) (sym e);
+          below = λ n. ap (λ l. is_number n (l ++ numbers)) one ∙ g.2 n;
+        }
 
 -- a turn of a run
 turn-goes : ReadsAllowed → KeepsTaken → SendsInRange
@@ -95,7 +150,10 @@ turn-goes reads keeps sends link delay ts ends t after v n g r below =
     (slot-goes (numbers_sent r ts) (of r ends).outgoing.high s.said.account.outgoing.high _ below k))
 
 pub sent_below_high : ReadsAllowed → KeepsTaken → SendsInRange → SentBelowHigh
-sent_below_high reads keeps sends link delay [] ends v r n = grind (arith, start)
+sent_below_high reads keeps sends link delay [] ends v r n = none r ∙ ap (λ (e : Accounts). nat_lt n (of r e).outgoing.high) (sym v.run)
+  where
+    none : (r : Role) → false ≡ nat_lt n (of r (start link)).outgoing.high
+    none x = grind (arith)
 sent_below_high reads keeps sends link delay (t ∷ ts) ends v r n =
     let before : RunsOver link delay ts v.run.0 =
     record { may_play = v.may_play; delays = v.delays; carried = v.carried.1; run = v.run.1 } in

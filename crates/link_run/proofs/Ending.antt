@@ -1,9 +1,9 @@
 -- What holds once the originator was told to release, and in the end.
-use Rattle.std.proofs.Common.{arith, ◌≡◌, ℕ, ◌≤◌, Bool, List, [], ◌∷◌, length, sym, subst, Option}
+use Rattle.std.proofs.Common.{arith, ◌≡◌, ℕ, ◌≤◌, Bool, List, [], ◌∷◌, length, refl, sym, ◌∙◌, ap, subst, Option}
 use Rattle.link_account.proofs.Names.{Role, Originator, Answerer, of, IsPrefixOf, IsAllowed, ReadsAllowed, KeepsTaken, Account, fresh, Play}
 use Rattle.link_account.proofs.Names.{MayPlay}
 use Rattle.link_run.proofs.Names.{Accounts, AcknowledgesTaken, AnswersGiven, GivesBreaksInOrder, Hears, HearsPrefixes, HoldPrefixes}
-use Rattle.link_run.proofs.Names.{IsOffered, Link, RunOf, TakesInOrder, TakesPrefixes, Turn, delivered, is_released, served}
+use Rattle.link_run.proofs.Names.{IsOffered, Link, RunOf, TakesInOrder, TakesPrefixes, Turn, arrival, delivered, is_released, served}
 use Rattle.link_run.proofs.Names.{served_at}
 use Rattle.link_run.proofs.Keeping.{GoesOn, hears}
 use Rattle.link_run.proofs.Speaking.{Speaks}
@@ -24,7 +24,8 @@ AtBoth P ends = (r : Role) → P r (of r ends)
 
 pub kept-heard : (reads : ReadsAllowed) (keeps : KeepsTaken) (P : Role → Account → Type 0) (link : Link) → IsKept P link
     → (turn : ℕ) (before : Accounts) (t : Turn) (mid : Accounts) → AtBoth P before → Hears turn before t mid → AtBoth P mid
-kept-heard reads keeps P link k turn before t mid h e r = grind (arith, hears)
+kept-heard reads keeps P link k turn before t mid h e r =
+    k.hears r (of r before) (of r mid) (h r) (hears reads keeps turn (arrival (of r t).heard) (of r before) (of r mid) (e r).hears)
 
 pub kept-run : (reads : ReadsAllowed) (keeps : KeepsTaken) (P : Role → Account → Type 0) (link : Link) → IsKept P link
     → (ts : List Turn) (ends : Accounts) → RunOf link ts ends → AtBoth P ends
@@ -57,14 +58,24 @@ delivered-setup : (a : Account) → (delivered a).setup ≡ a.setup
 delivered-setup a = grind (arith)
 
 pub setups-kept : (link : Link) → IsKept (HasSetup link) link
-setups-kept link = grind (arith, heard-setup, served-alone, delivered-setup, spoken-setup)
+setups-kept link = record {
+  begins = λ r. refl;
+  hears = λ r a b h g. heard-setup a b g ∙ h;
+  serves = λ r turn released a h. ap (λ (b : Account). b.setup) (served-alone (of r link).user turn released a) ∙ delivered-setup a ∙ h;
+  speaks = λ r release a b h g. spoken-setup release a b g ∙ h;
+}
 
 -- an end's segments are cut from its file
 abbrev pub HasCut : Link → Role → Account → Type 0
 HasCut link r a = IsOffered (of r link).user.file a
 
 pub cuts-kept : (link : Link) → ((r : Role) → IsAllowed (of r link).setup.offer) → IsKept (HasCut link) link
-cuts-kept link allowed = grind (arith, fresh-cuts, heard-cuts, served-cuts, spoken-cuts)
+cuts-kept link allowed = record {
+  begins = λ r. fresh-cuts (of r link).user.file (of r link).setup (allowed r);
+  hears = λ r a b h g. heard-cuts (of r link).user.file a b h g;
+  serves = λ r turn released a h. served-cuts (of r link).user turn released a h;
+  speaks = λ r release a b h g. spoken-cuts (of r link).user.file release a b h g;
+}
 
 -- what the laws of plays say of two accounts
 pub record Facts (o a : Account) : Type 0 where

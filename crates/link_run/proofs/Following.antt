@@ -1,12 +1,12 @@
 -- All through a run the frames that passed tell how far both ends are.
-use Rattle.std.proofs.Common.{◌≡◌, ◌≢◌, ◌⊎◌, ℕ, ◌≤◌, ◌||◌, Bool, true, false, cond, nat_le, List, [], ◌∷◌, length, arith, sym, ◌∙◌}
+use Rattle.std.proofs.Common.{◌≡◌, ◌≢◌, ◌⊎◌, ℕ, ◌≤◌, ◌||◌, Bool, true, false, cond, nat_le, List, [], ◌∷◌, length, arith, refl, sym, ◌∙◌}
 use Rattle.std.proofs.Common.{ap, subst, Option, Some, None, Ok}
 use Rattle.link_account.proofs.Names.{Role, Originator, Answerer, of, Frame, ReadsAllowed, ReadsWritten, KeepsTaken, Sent, Account, hear}
 use Rattle.link_account.proofs.Names.{Said, MayPlay}
-use Rattle.link_run.proofs.Names.{Accounts, Answer, Carries, Hears, IsCarried, Link, Phase, RunOf, Setup, Spoken, Turn, User}
+use Rattle.link_run.proofs.Names.{Accounts, Answer, Carries, Hears, IsCarried, Link, Phase, Releasing, RunOf, Setup, Spoken, Turn, User}
 use Rattle.link_run.proofs.Names.{arrival, delivered, first_terms, has_passed, is_xid, opens, served, served_at, spoken}
 use Rattle.link_run.proofs.Keeping.{stage}
-use Rattle.link_run.proofs.Speaking.{Speaks}
+use Rattle.link_run.proofs.Speaking.{Ledger, Speaks, Keeps_on, Releases}
 use Rattle.link_run.proofs.Serving.{served-alone}
 use Rattle.link_run.proofs.Running.{told, speaks-at}
 use Rattle.link_run.proofs.Ending.{AtBoth, HasSetup, setups-kept, kept-run}
@@ -79,7 +79,24 @@ pub record Spoke (c b : Course) : Type 0 where
 
 spoke : (release : Bool) (a : Account) (said : Said) → Speaks release a said.account → Declares a.phase a said
     → Spoke (course a) (course said.account)
-spoke release a said given d = grind (arith)
+spoke release a said (Keeps_on e) d =
+    let phase = ap (λ (l : Ledger). l.phase) e in
+    record {
+      later = omega (arith, ap rank phase);
+      two = ap (λ q. nat_le 2 (rank q)) phase;
+      three = ap (λ q. nat_le 3 (rank q)) phase;
+      terms = ap (λ (l : Ledger). l.terms) e;
+      answer = d.left;
+    }
+spoke release a said (Releases on role linked e k) d =
+    let phase : said.account.phase ≡ Releasing = ap (λ (l : Ledger). l.phase) e in
+    record {
+      later = omega (arith, ap rank phase, ap rank linked);
+      two = ap (λ q. nat_le 2 (rank q)) phase ∙ sym (ap (λ q. nat_le 2 (rank q)) linked);
+      three = ap (λ q. nat_le 3 (rank q)) phase ∙ sym (ap (λ q. nat_le 3 (rank q)) linked);
+      terms = ap (λ (l : Ledger). l.terms) e;
+      answer = d.left;
+    }
 
 due_o-spoke : (x y : Option Answer) → (y ≡ x) ⊎ (y ≡ None) → DueO x → DueO y
 due_o-spoke x y w h = grind (arith)
@@ -182,7 +199,22 @@ known-mid reads keeps written link delay ts before t mid p h m c k =
 pub known-run : (reads : ReadsAllowed) (keeps : KeepsTaken) (written : ReadsWritten) (link : Link) (delay : Role → ℕ)
     → MayPlay link.orig.setup link.answ.setup → (ts : List Turn) (ends : Accounts) → IsCarried delay ts → RunOf link ts ends
     → KnownOf link ts ts ends
-known-run reads keeps written link delay p [] ends c h = grind (arith)
+known-run reads keeps written link delay p [] ends c h = subst (KnownOf link [] []) (sym h) (record {
+  sent_o = tt;
+  sent_a = tt;
+  due_o = tt;
+  due_a = tt;
+  terms_o = refl;
+  terms_a = refl;
+  met = λ z. absurd (omega (arith, z));
+  never_two = λ z. omega (arith, z);
+  never_four = λ z. omega (arith, z);
+  linked = λ z. absurd (omega (arith, z));
+  xid_o = refl;
+  xid_a = refl;
+  open_o = refl;
+  open_a = refl;
+})
 known-run reads keeps written link delay p (t ∷ ts) ends c h =
     let before = h.0 in
     let g = h.2 in

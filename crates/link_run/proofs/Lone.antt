@@ -38,7 +38,8 @@ one_lone_run party (t ∷ ts) (u ∷ us) a b h k e =
 -- what the end has handed over, and that it took nothing before it was Connected
 lone-kept : (reads : ReadsAllowed) (keeps : KeepsTaken) (party : Party) (ts : List LoneTurn) (a : Account) → LoneRun party ts a
     → Handed a × Blank a
-lone-kept reads keeps party [] a h = grind (arith)
+lone-kept reads keeps party [] a h =
+    subst (λ x. Handed x × Blank x) (sym h) (record { given = refl; told = refl }, record { taken = λ z. refl })
 lone-kept reads keeps party (t ∷ ts) a h =
     let g = h.2 in
     let turn = length ts in
@@ -57,7 +58,9 @@ lone-kept reads keeps party (t ∷ ts) a h =
     )
 
 pub lone_hearings_deliver : ReadsAllowed → KeepsTaken → LoneHearingsDeliver
-lone_hearings_deliver reads keeps party ts before t mid h e = grind (arith, lone-kept, delivers-came, hears)
+lone_hearings_deliver reads keeps party ts before t mid h e =
+    let k = lone-kept reads keeps party ts before h in
+    delivers-came before mid k.0 k.1 (hears reads keeps (length ts) t.arrived before mid e)
 
 pub lone_speaking_takes_nothing : LoneSpeakingTakesNothing
 lone_speaking_takes_nothing party ts before t after g =

@@ -125,7 +125,8 @@ offers_what_is_read file a n piece h e short =
 -- what is read of another file that is the same up to the end of a segment
 told : (file others : List ℕ) (size n : ℕ) (piece : List ℕ) (o : Outgoing) → o.size ≡ size → length o.pieces ≡ n → o.ended ≡ false
     → SameSoFar (with_piece piece o) file others → (piece_at size others n ≡ piece_at size file n) × SameSoFar o file others
-told file others size n [] o is count going h = grind (arith)
+told file others size n [] o is count going h =
+    let e = h.whole refl in (ap (λ f. piece_at size f n) e, record { front = ap (take (o.size * length o.pieces)) e; whole = λ z. e })
 told file others size n (x ∷ xs) o is count going h =
     let k = size * n in
     let next : o.size * length (o.pieces ++ (x ∷ xs) ∷ []) ≡ k + size = sym
@@ -184,7 +185,13 @@ then-offers : (a b c : Account) → Offers a b → Offers b c → Offers a c
 then-offers a b c h k = record { size = h.size ∙ k.size; fewer = omega (arith, h.fewer, k.fewer); ended = λ z. k.ended (h.ended z) }
 
 offers-piece : (piece : List ℕ) (a : Account) → a.outgoing.ended ≡ false → Offers a (after_offer piece a)
-offers-piece piece a e = grind (arith, length-append)
+offers-piece [] a e = record { size = refl; fewer = omega arith; ended = λ z. refl }
+offers-piece (x ∷ xs) a e = record {
+  size = refl;
+  fewer = omega
+      (arith, length-append a.outgoing.pieces ((x ∷ xs) ∷ []));
+  ended = λ z. absurd (false≢true (sym e ∙ z));
+}
 
 offers-at : (file : List ℕ) (a : Account) (w : Option ℕ) → wants a ≡ w → Offers a (offered_at file a w)
 offers-at file a w e = grind (arith, none-less, offers-piece, wants-open)
@@ -303,7 +310,10 @@ runs_by_what_was_read reads keeps link files others (t ∷ ts) ends allowed h sa
         (same-served (of r old).user (of r files) (of r others) turn (is_released mid.orig.phase) (of r mid) (at-served r))
 
     served-so : (r : Role) → served_at new turn mid r ≡ served_at old turn mid r
-    served-so r = grind (arith, served-same, turn, mid, cut, at-served)
+    served-so Originator = served-same link.orig.user files.orig others.orig turn (is_released mid.orig.phase) mid.orig (cut Originator)
+        (at-served Originator)
+    served-so Answerer = served-same link.answ.user files.answ others.answ turn (is_released mid.orig.phase) mid.answ (cut Answerer)
+        (at-served Answerer)
 
     says-so : (r : Role) → said_at new turn mid r ≡ said_at old turn mid r
     says-so Originator =
