@@ -13,22 +13,10 @@ pub take-length : (bits : List Bool) (n : ℕ) → n ≤ length bits → length 
 take-length bits n h = grind (arith, common_steps)
 
 flag-lift : (bits : List Bool) (n q : ℕ) → n ≤ length bits → FlagEndsAt (take n bits) q → FlagEndsAt bits q
-flag-lift bits n q within h =
-    let l = take-length bits n within in
-    record {
-      room = h.room;
-      within = omega (arith, h.within, l);
-      spelled = λ i less. sym (bit-take bits n (q - 8 + i) (omega (arith, h.room, h.within, l))) ∙ h.spelled i less;
-    }
+flag-lift bits n q within h = grind (arith, take-length, bit-take)
 
 seven-lift : (bits : List Bool) (n q : ℕ) → n ≤ length bits → SevenOnesEndAt (take n bits) q → SevenOnesEndAt bits q
-seven-lift bits n q within h =
-    let l = take-length bits n within in
-    record {
-      room = h.room;
-      within = omega (arith, h.within, l);
-      ones = λ i less. sym (bit-take bits n (q - 7 + i) (omega (arith, h.room, h.within, l))) ∙ h.ones i less;
-    }
+seven-lift bits n q within h = grind (arith, take-length, bit-take)
 
 -- the bits behind place p, k of them
 abbrev pub between : List Bool → ℕ → ℕ → List Bool
@@ -44,17 +32,13 @@ take-snoc : (bits : List Bool) (n : ℕ) → n < length bits → take (n + 1) bi
 take-snoc bits n h = take_more bits n false h
 
 between-snoc : (bits : List Bool) (p k : ℕ) → p + k < length bits → between bits p (suc k) ≡ between bits p k ++ bit_of bits (p + k) ∷ []
-between-snoc bits p k h =
-    let e : p + suc k ≡ p + k + 1 = omega arith in
-    rw (e, take-snoc bits (p + k) h)
-    (drop-append-le p (take (p + k) bits) (bit_of bits (p + k) ∷ []) (omega (arith, take-length bits (p + k) (omega arith))))
+between-snoc bits p k h = grind (arith, take-snoc, drop-append-le, take-length)
 
 -- six ones in a row don't stand behind an open flag, where a bit follows
 six_behind : (bits : List Bool) (p n : ℕ) → OpenedAt bits p → p ≤ n → n < length bits → CountsOnes 6 (take n bits) → ⊥
 six_behind bits p n o after within six = elim (cases_lt n (p + 6)) [
   | inl near ↦
-      let here : bit_of (take n bits) (p - 1) ≡ true =
-      six.set (p - 1) (omega (arith, o.flag_ends.room, l)) (omega (arith, o.flag_ends.room, l)) in
+      let here : bit_of (take n bits) (p - 1) ≡ true = grind (arith, l) in
       false≢true (sym (before_open bits p o) ∙ sym (bit-take bits n (p - 1) (omega (arith, o.flag_ends.room))) ∙ here)
   | inr far ↦ next (bit_of bits n) refl far
 ]
@@ -65,24 +49,17 @@ six_behind bits p n o after within six = elim (cases_lt n (p + 6)) [
     next : (b : Bool) → bit_of bits n ≡ b → p + 6 ≤ n → ⊥
     next true e far =
         let s : take (n + 1) bits ≡ take n bits ++ true ∷ [] = take-snoc bits n within ∙ ap (λ b. take n bits ++ b ∷ []) e in
-        let seven : SevenOnesEndAt (take (n + 1) bits) (n + 1) =
-        subst (λ t. SevenOnesEndAt t (n + 1)) (sym s)
-        (subst (SevenOnesEndAt (take n bits ++ true ∷ [])) (ap (λ m. m + 1) l) (seven-ones (take n bits) six)) in
+        let seven : SevenOnesEndAt (take (n + 1) bits) (n + 1) = grind (arith, l, seven-ones) in
         o.alive (n + 1) (omega arith) (seven-lift bits (n + 1) (n + 1) (omega arith) seven)
     next false e far =
         let s : take (n + 1) bits ≡ take n bits ++ false ∷ [] = take-snoc bits n within ∙ ap (λ b. take n bits ++ b ∷ []) e in
-        let f : FlagEndsAt (take (n + 1) bits) (n + 1) =
-        subst (λ t. FlagEndsAt t (n + 1)) (sym s)
-        (subst (FlagEndsAt (take n bits ++ false ∷ [])) (ap (λ m. m + 1) l) (flag-six (take n bits) six)) in
+        let f : FlagEndsAt (take (n + 1) bits) (n + 1) = grind (arith, l, flag-six) in
         o.latest (n + 1) (omega arith) (flag-lift bits (n + 1) (n + 1) (omega arith) f)
 
 -- the room and the ones go together
 room_of : (r : ℕ) (b : Bool) → r ≤ 5 → (r ≡ 0 → b ≡ false)
     → (next_room r b ≤ 5) × ((b ≡ true → 5 - next_room r b ≡ min (5 - r) 6 + 1) × (b ≡ false → next_room r b ≡ 5))
-room_of zero true few h = absurd (false≢true (sym (h refl)))
-room_of zero false few h = (omega arith, (λ e. absurd (false≢true e), λ e. refl))
-room_of (suc r) true few h = (omega arith, (λ e. omega arith, λ e. absurd (false≢true (sym e))))
-room_of (suc r) false few h = (omega arith, (λ e. absurd (false≢true e), λ e. refl))
+room_of r b few h = grind (arith)
 
 pub runs : (bits : List Bool) (p : ℕ) → OpenedAt bits p → (k : ℕ) → p + k < length bits → Runs bits p k
 runs bits p o zero within =
@@ -91,14 +68,7 @@ runs bits p o zero within =
     let r : room_after 5 (between bits p 0) ≡ 5 = ap (room_after 5) e in
     let n : 5 - room_after 5 (between bits p 0) ≡ 0 = omega (arith, r) in
     let place : length (take (p + 0) bits) - 1 - 0 ≡ p - 1 = omega (arith, l) in
-    let none : CountsOnes 0 (take (p + 0) bits) = record {
-      few = omega arith;
-      set = λ i low high. absurd (omega arith);
-      zero = λ few. (
-        omega (arith, l, o.flag_ends.room),
-        rw place (bit-take bits (p + 0) (p - 1) (omega (arith, o.flag_ends.room)) ∙ before_open bits p o),
-      );
-    } in
+    let none : CountsOnes 0 (take (p + 0) bits) = grind (arith, l, bit-take, before_open) in
     record {
       fits = subst (Fits 5) (sym e) tt;
       few = omega (arith, r);
@@ -110,13 +80,11 @@ runs bits p o (suc k) within = goes_on (runs bits p o k (omega arith)) (bit_of b
     goes_on h b is = record {
       fits = subst (Fits 5) (sym more) (fits-snoc 5 (between bits p k) b h.fits zero_last);
       few = subst (λ r. r ≤ 5) (sym room) facts.0;
-      ones = subst (λ r. CountsOnes (5 - r) (take (p + suc k) bits)) (sym room)
-          (subst (CountsOnes (5 - next_room (room_after 5 (between bits p k)) b)) (sym longer) (each b zero_last facts.1));
+      ones = grind (arith, room, longer, each, zero_last, facts);
     }
       where
         longer : take (p + suc k) bits ≡ take (p + k) bits ++ b ∷ []
-        longer = let e : p + suc k ≡ p + k + 1 = omega arith in
-            rw e (take-snoc bits (p + k) (omega arith) ∙ ap (λ c. take (p + k) bits ++ c ∷ []) is)
+        longer = let e : p + suc k ≡ p + k + 1 = omega arith in grind (arith, take-snoc)
 
         more : between bits p (suc k) ≡ between bits p k ++ b ∷ []
         more = between-snoc bits p k (omega arith) ∙ ap (λ c. between bits p k ++ c ∷ []) is

@@ -19,8 +19,7 @@ bits-more (suc k) n b h =
     rw (e, sum, odd, halves) (ap (λ l. nat_eq (n % 2) 1 ∷ l) (bits-more k (n / 2) b half))
   where
     each : (b : Bool) → n + number b * 2 ^ suc k ≡ n + 2 * (number b * 2 ^ k)
-    each true = omega (arith, twice k)
-    each false = omega arith
+    each b = grind (arith, twice)
 
 pub more-lt : (k n : ℕ) (b : Bool) → n < 2 ^ k → n + number b * 2 ^ k < 2 ^ (k + 1)
 more-lt k n true h = let e : k + 1 ≡ suc k = omega arith in rw e (omega (arith, twice k))
@@ -31,5 +30,4 @@ pow-lt k h = let p : 0 < 2 = omega arith in let q : k ≤ 7 = omega arith in ome
 
 -- the bit at its place
 pub added : (k : ℕ) (b : Bool) (n : ℕ) → k < 8 → n ≡ number b → n * 2 ^ k % 256 ≡ number b * 2 ^ k
-added k true n h e = rw e (omega (arith, pow-lt k h))
-added k false n h e = rw e (omega arith)
+added k b n h e = grind (arith, pow-lt)

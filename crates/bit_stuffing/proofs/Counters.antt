@@ -1,10 +1,10 @@
 -- A machine of two counters, for bits of which only the runs of ones are known.
+use Rattle.std.proofs.lemmas.List.{length_push}
 use Rattle.bit_stuffing.proofs.Names.{◌≡◌, ◌≢◌, ℕ, ◌+◌, ◌<◌, min, Bool, true, false, if◌then◌else◌, nat_eq, List, [], ◌∷◌, ◌++◌, length}
 use Rattle.bit_stuffing.proofs.Names.{Option, Some, None, arith, append_assoc, refl, sym, ◌∙◌, ap, subst, false≢true, eqb-true, append-nil}
 use Rattle.bit_stuffing.proofs.Names.{CountsSince, OpenedAt, SevenOnesEndAt, Aborts, Closes, Found, listed}
 use Rattle.std.proofs.lemmas.Bool.{eqb-false}
 use Rattle.bit_stuffing.specs.Found.{found_at, pieces_of}
-use Rattle.bit_stuffing.proofs.Places.{length-snoc}
 use Rattle.bit_stuffing.proofs.Ones.{CountsOnes, one-more, zero-more, no_flag-one, flag-six, six-flag, seven-ones, ones-seven}
 use Rattle.bit_stuffing.proofs.Ones.{no_seven-zero, opened-few}
 use Rattle.bit_stuffing.proofs.Openings.{opened-once, opened-stays, at_end, seven_at_end, flag-opens, seven-shuts, counts-more, shut-stays}
@@ -85,15 +85,13 @@ counts-step k past false h = record { ones = zero-more past; since = each k.sinc
         → CountsSince (since_zero k.ones since) (past ++ false ∷ [])
     each None s true e = let six : k.ones ≡ 6 = eqb-true k.ones 6 e in rw e (flag-opens past false (flag-six past (rw six at h.ones)))
     each None s false e = rw e (shut-stays past false (λ f. eqb-false k.ones 6 e (six-flag past k.ones h.ones f)) s)
-    each (Some count) s true e = let six : k.ones ≡ 6 = eqb-true k.ones 6 e in
-        rw e (flag-opens past false (flag-six past (rw six at h.ones)))
+    each (Some count) s true e = grind (arith, eqb-true, flag-opens, flag-six)
     each (Some count) s false e =
         rw e (counts-more past false (λ f. eqb-false k.ones 6 e (six-flag past k.ones h.ones f)) (no_seven-zero past) count s)
 
 pub counts-run : (k : Counters) (past s : List Bool) → Counts k past → Counts (run k s) (past ++ s)
 counts-run k past [] h = subst (Counts k) (sym (append-nil past)) h
-counts-run k past (b ∷ s) h =
-    subst (Counts (run (step k b) s)) (append_assoc past (b ∷ []) s) (counts-run (step k b) (past ++ b ∷ []) s (counts-step k past b h))
+counts-run k past (b ∷ s) h = grind (arith, counts-run (step k b) (past ++ b ∷ []) s (counts-step k past b h), append_assoc, counts-step)
 
 -- where the counters say nothing, nothing is found
 no_abort : (k : Counters) (past : List Bool) (b : Bool) → Counts k past → speaks k b ≡ false → Aborts past (past ++ b ∷ []) → ⊥
@@ -114,7 +112,7 @@ no_close k past false h e c = each k.since refl h.since (nat_eq k.ones 6) refl
     each (Some count) g s false f = eqb-false k.ones 6 f (six-flag past k.ones h.ones (at_end past false c.closing))
     each (Some count) g s true f =
         let near : nat_eq count 8 ≡ false = rw (f, g) at e in
-        eqb-false count 8 near (omega (arith, s.2, c.some, length-snoc past false, opened-once past c.opened s.0 c.is_opened s.1))
+        eqb-false count 8 near (omega (arith, s.2, c.some, length_push past false, opened-once past c.opened s.0 c.is_opened s.1))
 
 -- what is found along bits behind others
 abbrev pub along : List Bool → List Bool → List Found
@@ -123,17 +121,11 @@ along past (b ∷ s) = listed (found_at (past ++ b ∷ [])) ++ along (past ++ b 
 
 pub pieces-along : (past s : List Bool) → pieces_of (past ++ s) ≡ pieces_of past ++ along past s
 pieces-along past [] = ap pieces_of (append-nil past) ∙ sym (append-nil (pieces_of past))
-pieces-along past (b ∷ s) =
-    ap pieces_of (sym (append_assoc past (b ∷ []) s)) ∙ pieces-along (past ++ b ∷ []) s
-    ∙ ap (λ t. t ++ along (past ++ b ∷ []) s) (pieces-more past b)
-    ∙ append_assoc (pieces_of past) (listed (found_at (past ++ b ∷ []))) (along (past ++ b ∷ []) s)
+pieces-along past (b ∷ s) = grind (arith, pieces-along (past ++ b ∷ []) s, append_assoc, pieces-more, listed)
 
 pub along-append : (past s t : List Bool) → along past (s ++ t) ≡ along past s ++ along (past ++ s) t
 along-append past [] t = ap (λ l. along l t) (sym (append-nil past))
-along-append past (b ∷ s) t =
-    ap (λ l. listed (found_at (past ++ b ∷ [])) ++ l)
-    (along-append (past ++ b ∷ []) s t ∙ ap (λ l. along (past ++ b ∷ []) s ++ along l t) (append_assoc past (b ∷ []) s))
-    ∙ sym (append_assoc (listed (found_at (past ++ b ∷ []))) (along (past ++ b ∷ []) s) (along (past ++ b ∷ s) t))
+along-append past (b ∷ s) t = grind (arith, along-append (past ++ b ∷ []) s t, listed, append_assoc)
 
 pub along-still : (k : Counters) (past s : List Bool) → Counts k past → Still k s → along past s ≡ []
 along-still k past [] h g = refl
@@ -151,11 +143,7 @@ below-append k [] t h g = g
 below-append k (b ∷ s) t h g = (h.0, below-append (step k b) s t h.1 g)
 
 pub few_not : (n : ℕ) → n < 6 → nat_eq n 6 ≡ false
-few_not n h = each (nat_eq n 6) refl
-  where
-    each : (b : Bool) → nat_eq n 6 ≡ b → nat_eq n 6 ≡ false
-    each false e = e
-    each true e = let six : n ≡ 6 = eqb-true n 6 e in absurd (omega arith)
+few_not n h = grind (arith, eqb-true)
 
 pub below-still : (k : Counters) (s : List Bool) → Below6 k s → Still k s
 below-still k [] h = tt
@@ -172,8 +160,7 @@ open-step k past false count p h few e o =
     opened-stays past false p o (λ f. let q = six-flag past k.ones h.ones f in absurd (omega arith)) (no_seven-zero past)
 
 since-step : (k : Counters) (b : Bool) (count : ℕ) → k.ones < 6 → k.since ≡ Some count → (step k b).since ≡ Some (min count 7 + 1)
-since-step k true count few e = let n = few_not k.ones few in rw (e, n) refl
-since-step k false count few e = let n = few_not k.ones few in rw (e, n) refl
+since-step k b count few e = grind (arith, few_not)
 
 pub open-run : (k : Counters) (past s : List Bool) (count p : ℕ) → Counts k past → Below6 k s → k.since ≡ Some count → OpenedAt past p
     → OpenedAt (past ++ s) p
@@ -189,16 +176,9 @@ still_test k (b ∷ s) = if speaks k b then false else still_test (step k b) s
 
 pub still-of : (k : Counters) (s : List Bool) → still_test k s ≡ true → Still k s
 still-of k [] e = tt
-still-of k (b ∷ s) e = each (speaks k b) refl (still-of (step k b) s)
-  where
-    each : (c : Bool) → speaks k b ≡ c → (still_test (step k b) s ≡ true → Still (step k b) s) → Still k (b ∷ s)
-    each true f on = let none : false ≡ true = rw f at e in absurd (false≢true none)
-    each false f on = (f, on (rw f at e))
+still-of k (b ∷ s) e = grind (arith, still-of (step k b) s)
 
 -- one part after another
 pub run-both : (k m e : Counters) (s t : List Bool) → (run k s ≡ m) × Still k s → (run m t ≡ e) × Still m t
     → (run k (s ++ t) ≡ e) × Still k (s ++ t)
-run-both k m e s t a b = (
-  run-append k s t ∙ ap (λ x. run x t) a.0 ∙ b.0,
-  still-append k s t a.1 (subst (λ x. Still x t) (sym a.0) b.1),
-)
+run-both k m e s t a b = grind (arith, run-append, still-append)

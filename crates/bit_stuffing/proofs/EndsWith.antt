@@ -52,12 +52,10 @@ pub flag-ends : (bits : List Bool) → FlagEndsAt bits (length bits) → ends_wi
 flag-ends bits f = ends-with flag bits (record { room = f.room; spelled = f.spelled })
 
 one_of : (i : ℕ) → i < 8 → i < 7 → bit_of seven_ones i ≡ true
-one_of = below8 (λ i. i < 7 → bit_of seven_ones i ≡ true) (λ l. refl) (λ l. refl) (λ l. refl) (λ l. refl) (λ l. refl) (λ l. refl)
-    (λ l. refl) (λ l. absurd (omega arith))
+one_of = grind (arith, below8)
 
 pub ends-seven : (bits : List Bool) → ends_with beq bits seven_ones ≡ true → SevenOnesEndAt bits (length bits)
-ends-seven bits e = let h = ends seven_ones bits e in
-    record { room = h.room; within = omega arith; ones = λ i l. h.spelled i l ∙ one_of i (omega arith) l }
+ends-seven bits e = let h = ends seven_ones bits e in grind (arith, one_of)
 
 pub seven-ends : (bits : List Bool) → SevenOnesEndAt bits (length bits) → ends_with beq bits seven_ones ≡ true
 seven-ends bits s = ends-with seven_ones bits (record { room = s.room; spelled = λ i l. s.ones i l ∙ sym (one_of i (omega arith) l) })

@@ -1,7 +1,7 @@
 -- Flags in a row, the last of which may be cut, and the bits of slots.
-use Rattle.bit_stuffing.proofs.Names.{◌≡◌, ℕ, zero, suc, ◌+◌, ◌-◌, ◌*◌, ◌/◌, ◌%◌, ◌<◌, ◌≤◌, Bool, List, Option, [], ◌∷◌, ◌++◌, length, take}
+use Rattle.bit_stuffing.proofs.Names.{◌≡◌, ℕ, zero, suc, ◌+◌, ◌-◌, ◌*◌, ◌%◌, ◌<◌, ◌≤◌, Bool, List, Option, [], ◌∷◌, ◌++◌, length}
 use Rattle.bit_stuffing.proofs.Names.{arith, append_assoc, length-append, refl, sym, ◌∙◌, ap, append-nil, line_bits, flag, written, Slot}
-use Rattle.bit_stuffing.proofs.Names.{flags, fill, opening, slot_bits, next_phase, bits_from, phase_from, Plain, Flags, Pen, low_bits}
+use Rattle.bit_stuffing.proofs.Names.{flags, fill, opening, slot_bits, next_phase, bits_from, phase_from, Flags, Pen, low_bits}
 use Rattle.bit_stuffing.proofs.Between.{take-length}
 use Rattle.bit_stuffing.proofs.Written.{length-written}
 
@@ -10,9 +10,7 @@ length-flags zero = refl
 length-flags (suc n) = omega (arith, length-append {A = Bool} flag (flags n), length-flags n)
 
 pub length-fill : (n : ℕ) → length (fill n) ≡ n
-length-fill n =
-    let r : n % 8 ≤ length flag = omega arith in
-    omega (arith, length-append {A = Bool} (flags (n / 8)) (take (n % 8) flag), length-flags (n / 8), take-length flag (n % 8) r)
+length-fill n = grind (arith, length-append, flags, length-flags, take-length)
 
 pub flags-snoc : (n : ℕ) → flags n ++ flag ≡ flags (suc n)
 flags-snoc zero = refl
@@ -25,8 +23,7 @@ phase-append size phase [] slot = refl
 phase-append size phase (one ∷ slots) slot = phase-append size (next_phase size phase one) slots slot
 
 pub next-low : (size phase : ℕ) (slot : Slot) → next_phase size phase slot < 8
-next-low size phase (Plain bits) = omega arith
-next-low size phase (Flags frame) = omega arith
+next-low size phase slot = grind (arith)
 
 pub phase-low : (size phase : ℕ) (slots : List Slot) → phase < 8 → phase_from size phase slots < 8
 phase-low size phase [] h = h
@@ -57,6 +54,4 @@ slot-written symbols phase frame front pen quads fits front_is e =
 pub writer-behind : (symbols phase next : ℕ) (frame : Option (List ℕ)) (front : List Bool) (slots : List Slot) → front ≡ opening phase frame
     → next ≡ (4 * symbols - length front) % 8 → phase ≡ phase_from (4 * symbols) 0 slots
     → next ≡ phase_from (4 * symbols) 0 (slots ++ Flags frame ∷ [])
-writer-behind symbols phase next frame front slots front_is next_is phase_is =
-    next_is ∙ ap (λ (bits : List Bool). (4 * symbols - length bits) % 8) front_is
-    ∙ ap (λ p. next_phase (4 * symbols) p (Flags frame)) phase_is ∙ sym (phase-append (4 * symbols) 0 slots (Flags frame))
+writer-behind symbols phase next frame front slots front_is next_is phase_is = grind (arith, phase-append)

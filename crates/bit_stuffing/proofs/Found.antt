@@ -1,4 +1,5 @@
 -- What is found at a bit, as a relation and as a function.
+use Rattle.std.proofs.lemmas.List.{length_push}
 use Rattle.bit_stuffing.proofs.Names.{◌≡◌, ℕ, zero, suc, ◌+◌, ◌-◌, ◌<◌, ◌≤◌, inl, inr, Bool, true, false, if◌then◌else◌, nat_lt, List, []}
 use Rattle.bit_stuffing.proofs.Names.{◌∷◌, ◌++◌, All, length, take, get_or, Option, Some, None, arith, refl, sym, ◌∙◌, ap, subst}
 use Rattle.bit_stuffing.proofs.Names.{false≢true, ltb-true, ltb-false, take_more, take-append-le, take_all, All-cons, All-nil, beq}
@@ -9,7 +10,6 @@ use Rattle.std.specs.Option.{option_map_or}
 use Rattle.bit_stuffing.specs.Pieces.{IsLent}
 use Rattle.bit_stuffing.specs.Found.{found_at, answer_of, lent_of}
 use Rattle.bit_stuffing.specs.Found.{found_before, pieces_of}
-use Rattle.bit_stuffing.proofs.Places.{length-snoc}
 use Rattle.bit_stuffing.proofs.Openings.{opened-once, opened-stays, opened-by_flag, at_end, from_end, seven_at_end, seven_from_end}
 use Rattle.bit_stuffing.proofs.Openings.{shut-stays, shut-quiet, seven-shuts, flag-near, quiet}
 use Rattle.bit_stuffing.proofs.Between.{take-length}
@@ -35,8 +35,7 @@ open-step past b (Some p) o false false e g = opened-stays past b p o
 open-at : (past bits : List Bool) (b : Bool) (place : ℕ) (before : Option ℕ) → bits ≡ past ++ b ∷ [] → place ≡ length past + 1
     → IsOpen before past
     → IsOpen (if ends_with beq bits flag then Some place else (if ends_with beq bits seven_ones then None else before)) bits
-open-at past bits b place before e n o =
-    rw (e, n) (open-step past b before o (ends_with beq (past ++ b ∷ []) flag) (ends_with beq (past ++ b ∷ []) seven_ones) refl refl)
+open-at past bits b place before e n o = grind (arith, open-step)
 
 pub is_open : (bits : List Bool) (n : ℕ) → n ≤ length bits → IsOpen (opened_before bits n) (take n bits)
 is_open bits zero h = λ p o. absurd (omega (arith, o.flag_ends.room, o.flag_ends.within))
@@ -51,11 +50,11 @@ is_open bits (suc n) h =
 -- where a flag is open before the last bit
 pub open_before : (past : List Bool) (bit : Bool) → IsOpen (opened_before (past ++ bit ∷ []) (length (past ++ bit ∷ []) - 1)) past
 open_before past bit =
-    let n : length (past ++ bit ∷ []) - 1 ≡ length past = omega (arith, length-snoc past bit) in
+    let n : length (past ++ bit ∷ []) - 1 ≡ length past = omega (arith, length_push past bit) in
     let front : take (length past) (past ++ bit ∷ []) ≡ past =
     take-append-le (length past) past (bit ∷ []) (omega arith) ∙ take_all (length past) past (omega arith) in
     rw n (subst (IsOpen (opened_before (past ++ bit ∷ []) (length past))) front
-    (is_open (past ++ bit ∷ []) (length past) (omega (arith, length-snoc past bit))))
+    (is_open (past ++ bit ∷ []) (length past) (omega (arith, length_push past bit))))
 
 -- what is found at the last of the bits past ++ bit
 abbrev ones_found : List Bool → Found
@@ -80,7 +79,7 @@ found-from past bit (Some p) o = flags (ends_with beq (past ++ bit ∷ []) flag)
     far f false e =
         let none = flag-near past bit (at_end past bit f)
         (λ q k. let same : q ≡ p = opened-once past q p k o in
-        omega (arith, ltb-false (p + 8) (length (past ++ bit ∷ [])) e, length-snoc past bit)) in
+        omega (arith, ltb-false (p + 8) (length (past ++ bit ∷ [])) e, length_push past bit)) in
         Quiet none.0 none.1
 
     sevens : (FlagEndsAt (past ++ bit ∷ []) (length (past ++ bit ∷ [])) → ⊥) → (t : Bool) → ends_with beq (past ++ bit ∷ []) seven_ones ≡ t
@@ -119,10 +118,10 @@ place-is : (past : List Bool) (bit : Bool) (found : Option Found) → IsFound pa
     → All (λ one. one.place ≡ length past + 1) (listed found)
 place-is past bit found (Quiet n m) = All-nil (λ one. one.place ≡ length past + 1)
 place-is past bit found (Ones x) =
-    All-cons (λ one. one.place ≡ length past + 1) (ones_found (past ++ bit ∷ [])) [] (length-snoc past bit)
+    All-cons (λ one. one.place ≡ length past + 1) (ones_found (past ++ bit ∷ [])) [] (length_push past bit)
     (All-nil (λ one. one.place ≡ length past + 1))
 place-is past bit found (Closed x) =
-    All-cons (λ one. one.place ≡ length past + 1) (closed_found (past ++ bit ∷ []) x.opened) [] (length-snoc past bit)
+    All-cons (λ one. one.place ≡ length past + 1) (closed_found (past ++ bit ∷ []) x.opened) [] (length_push past bit)
     (All-nil (λ one. one.place ≡ length past + 1))
 
 pub found-place : (past : List Bool) (bit : Bool) → All (λ one. one.place ≡ length past + 1) (listed (found_at (past ++ bit ∷ [])))
@@ -216,7 +215,7 @@ unfolding found_at
 lent-start = inr (
   refl,
   λ other w. let n : 0 ≡ length (w.past ++ w.last ∷ []) = ap length w.splits in
-      absurd (omega (arith, n, length-snoc w.past w.last)),
+      absurd (omega (arith, n, length_push w.past w.last)),
 )
 
 -- a stream that has a bit has a last one
@@ -261,7 +260,7 @@ pieces-none = refl
 pub pieces-more : (bits : List Bool) (bit : Bool) → pieces_of (bits ++ bit ∷ []) ≡ pieces_of bits ++ listed (found_at (bits ++ bit ∷ []))
 unfolding pieces_of
 pieces-more bits bit =
-    let n : length (bits ++ bit ∷ []) ≡ suc (length bits) = omega (arith, length-snoc bits bit) in
+    let n : length (bits ++ bit ∷ []) ≡ suc (length bits) = omega (arith, length_push bits bit) in
     let all : take (suc (length bits)) (bits ++ bit ∷ []) ≡ bits ++ bit ∷ [] =
     take_all (suc (length bits)) (bits ++ bit ∷ []) (omega (arith, n)) in
     ap (found_before (bits ++ bit ∷ [])) n ∙ ap (λ t. found_before (bits ++ bit ∷ []) (length bits) ++ listed (found_at t)) all

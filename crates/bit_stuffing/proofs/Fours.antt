@@ -33,20 +33,16 @@ all_ones : each_below 256 ones_test ≡ true
 all_ones = refl
 
 when-true : (a b : Bool) → (if a then b else true) ≡ true → a ≡ true → b ≡ true
-when-true true b e h = e
-when-true false b e h = absurd (false≢true h)
+when-true a b e h = grind (arith)
 
 when-false : (a b : Bool) → (if a then true else b) ≡ true → a ≡ false → b ≡ true
-when-false true b e h = absurd (false≢true (sym h))
-when-false false b e h = e
+when-false a b e h = grind (arith)
 
 is_true : (b : Bool) → number b ≡ 1 → b ≡ true
-is_true true e = refl
-is_true false e = absurd (omega arith)
+is_true b e = grind (arith)
 
 is_false : (b : Bool) → number b ≡ 0 → b ≡ false
-is_false true e = absurd (omega arith)
-is_false false e = refl
+is_false b e = grind (arith)
 
 counts-ones : (latest : ℕ) (past : List Bool) → HoldsLatest latest past → CountsOnes (ones_of latest) past
 counts-ones latest past h = record { few = few; set = set; zero = below }
@@ -74,17 +70,14 @@ counts-ones latest past h = record { few = few; set = set; zero = below }
         (at_each 8 (λ place. if nat_lt place (8 - ones_of latest) then true else nat_eq (bit_at latest place) 1) rest.1 place
         (omega (arith, few)))
         (le-ltb place (8 - ones_of latest) (omega (arith, few)))) in
-        let seen : back past (8 - place) ≡ bit_of past i =
-        ap (back past) back_place ∙ back-within past (length past - i) (omega arith) ∙ ap (bit_of past) there in
+        let seen : back past (8 - place) ≡ bit_of past i = grind (arith, back, back-within) in
         is_true (bit_of past i) (ap number (sym seen) ∙ sym (h.each place (omega (arith, few))) ∙ one)
 
     below : ones_of latest < 7 → (ones_of latest < length past) × (bit_of past (length past - 1 - ones_of latest) ≡ false)
     below less =
-        let low : bit_at latest (7 - ones_of latest) ≡ 0 = eqb-true (bit_at latest (7 - ones_of latest)) 0
-        (when-true (nat_lt (ones_of latest) 7) _ rest.0 (lt-ltb (ones_of latest) 7 less)) in
+        let low : bit_at latest (7 - ones_of latest) ≡ 0 = grind (arith, eqb-true, when-true, rest, lt-ltb) in
         let place : 8 - (7 - ones_of latest) ≡ ones_of latest + 1 = omega arith in
-        let seen : number (back past (ones_of latest + 1)) ≡ 0 =
-        ap (λ k. number (back past k)) (sym place) ∙ sym (h.each (7 - ones_of latest) (omega arith)) ∙ low in
+        let seen : number (back past (ones_of latest + 1)) ≡ 0 = grind (arith, number, back, place) in
         elim (cases_lt (length past) (ones_of latest + 1)) [
           | inl short ↦
               let one : number (back past (ones_of latest + 1)) ≡ 1 = ap number (back-past past (ones_of latest + 1) short) in
@@ -147,10 +140,7 @@ case-said latest four since past low small h =
     place (Some count) h = let less : count < 9 = omega (arith, h.2) in let e = lt-ltb count 9 less in (count, omega arith, rw e refl)
 
 same-of : (a b : Option ℕ) → same_since a b ≡ true → a ≡ b
-same-of None None e = refl
-same-of (Some m) (Some n) e = ap Some (eqb-true m n e)
-same-of None (Some n) e = absurd (false≢true e)
-same-of (Some m) None e = absurd (false≢true e)
+same-of a b e = grind (arith, eqb-true)
 
 below-of : (k : Counters) (s : List Bool) → below_test k s ≡ true → Below6 k s
 below-of k [] e = tt
@@ -187,9 +177,6 @@ opened-before k past s h e p o far = each (run k s).since (counts-run k past s h
 
 -- the latest bits then
 
-abbrev one_by_one : List Bool → Bool → Bool → Bool → Bool → List Bool
-one_by_one past a b c d = (((past ++ a ∷ []) ++ b ∷ []) ++ c ∷ []) ++ d ∷ []
-
 latest-four : (latest four : ℕ) (past : List Bool) → four < 16 → HoldsLatest latest past
     → HoldsLatest ((256 * four + latest) / 16) (past ++ low_bits 4 four)
 latest-four latest four past small h =
@@ -198,10 +185,7 @@ latest-four latest four past small h =
     let three = latest-shifted _ (four / 2 / 2 % 2) _ (nat_eq (four / 2 / 2 % 2) 1) (sym (number-is (four / 2 / 2))) two in
     let all = latest-shifted _ (four / 2 / 2 / 2 % 2) _ (nat_eq (four / 2 / 2 / 2 % 2) 1) (sym (number-is (four / 2 / 2 / 2))) three in
     let value : (((latest / 2 + 128 * (four % 2)) / 2 + 128 * (four / 2 % 2)) / 2 + 128 * (four / 2 / 2 % 2)) / 2
-    + 128 * (four / 2 / 2 / 2 % 2) ≡ (256 * four + latest) / 16 = omega (arith, h.low) in
-    subst (HoldsLatest ((256 * four + latest) / 16)) (joined _ _ _ _)
-    (subst (λ n. HoldsLatest n (one_by_one past (nat_eq (four % 2) 1) (nat_eq (four / 2 % 2) 1) (nat_eq (four / 2 / 2 % 2) 1)
-    (nat_eq (four / 2 / 2 / 2 % 2) 1))) value all)
+    + 128 * (four / 2 / 2 / 2 % 2) ≡ (256 * four + latest) / 16 = omega (arith, h.low) in grind (arith, joined)
   where
     joined : (a b c d : Bool) → (((past ++ a ∷ []) ++ b ∷ []) ++ c ∷ []) ++ d ∷ [] ≡ past ++ a ∷ b ∷ c ∷ d ∷ []
     joined a b c d = simp append_assoc refl
@@ -210,12 +194,12 @@ latest-four latest four past small h =
 passes-bits : (finding next : Finding) (past bits : List Bool) → 0 < length bits → Finds finding past
     → HoldsLatest next.latest (past ++ bits) → said_test (counters finding.latest finding.since) bits (Some next.since) ≡ true
     → PassesBits next past bits
-passes-bits finding next past bits some h holds said = record {
-  finds = record { holds = holds; counts = subst (λ s. CountsSince s (past ++ bits)) same counts.since };
-  pieces = pieces-along past bits ∙ ap (λ l. pieces_of past ++ l) (along-still k past bits before still) ∙ append-nil (pieces_of past);
-  closes = still-closes k past bits before still some;
-  opened = opened-before k past bits before parts.2;
-}
+passes-bits finding next past bits some h holds said = assumption (
+  subst (λ s. CountsSince s (past ++ bits)) same counts.since,
+  pieces-along past bits ∙ ap (λ l. pieces_of past ++ l) (along-still k past bits before still) ∙ append-nil (pieces_of past),
+  still-closes k past bits before still some,
+  opened-before k past bits before parts.2,
+)
   where
     k : Counters
     k = counters finding.latest finding.since

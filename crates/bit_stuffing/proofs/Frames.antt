@@ -1,6 +1,6 @@
 -- A frame in a flag slot.
-use Rattle.bit_stuffing.proofs.Names.{◌≡◌, ℕ, ◌+◌, ◌-◌, ◌≤◌, min, Bool, true, false, List, [], ◌∷◌, ◌++◌, length, take, drop, Some, arith}
-use Rattle.bit_stuffing.proofs.Names.{append_assoc, length-append, refl, sym, ◌∙◌, ap, subst, take-append-le, drop-append-le, take_all}
+use Rattle.bit_stuffing.proofs.Names.{◌≡◌, ℕ, ◌+◌, ◌-◌, ◌≤◌, min, Bool, false, List, [], ◌∷◌, ◌++◌, length, take, drop, Some, arith}
+use Rattle.bit_stuffing.proofs.Names.{append_assoc, length-append, refl, ◌∙◌, ap, subst, take-append-le, drop-append-le, take_all}
 use Rattle.bit_stuffing.proofs.Names.{drop_all, flag, OpenedAt, Closes, content, flags, fill, rest_of_flag, opening, slot_bits, Flags}
 use Rattle.bit_stuffing.proofs.Names.{stuffed, length-bits_of, bits_of}
 use Rattle.bit_stuffing.specs.declared.piece.TheConstants.{SHORTEST}
@@ -17,41 +17,30 @@ pub record Framed (past body : List Bool) (sent : List ℕ) : Type 0 where
       → content ((past ++ body) ++ false ∷ []) c.opened ≡ stuffed 5 (bits_of sent)
 
 opened-here : (past : List Bool) → Counts (open_at 0) past → OpenedAt past (length past)
-opened-here past f =
-    let s = f.since in
-    let e : s.0 ≡ length past = omega (arith, s.1.flag_ends.within, s.2) in
-    rw e at s.1
+opened-here past f = grind (arith)
 
 -- a flag ends behind six ones, eight bits or more behind the flag that is open
 closes-here : (past : List Bool) → Counts (record { ones = 6; since = Some 8 }) past → Closes past (past ++ false ∷ [])
-closes-here past h =
-    flag-closes past false (flag-six past h.ones) (is_far past 8 refl h.since)
+closes-here past h = grind (arith, flag-closes, flag-six, is_far)
 
 long_enough : (m : List Bool) → 1 ≤ length m → 1 ≤ length (stuffed 5 m)
-long_enough [] h = absurd (omega arith)
-long_enough (true ∷ m) h = omega arith
-long_enough (false ∷ m) h = omega arith
+long_enough m h = grind (arith)
 
 run-body : (m : List Bool) → 1 ≤ length m
     → Below6 (open_at 0) (stuffed 5 m ++ seven) × (run (open_at 0) (stuffed 5 m ++ seven) ≡ record { ones = 6; since = Some 8 })
 run-body m long =
     let g = run-stuffed 5 m 0 0 refl (omega arith) in
-    let r = run-seven g.1.0 (min 8 (0 + length (stuffed 5 m))) (omega (arith, g.1.1)) (omega (arith, long_enough m long)) (omega arith) in (
-      below-append (open_at 0) (stuffed 5 m) seven g.0 (subst (λ k. Below6 k seven) (sym g.1.2) r.0),
-      run-append (open_at 0) (stuffed 5 m) seven ∙ ap (λ k. run k seven) g.1.2 ∙ r.1,
-    )
+    let r = run-seven g.1.0 (min 8 (0 + length (stuffed 5 m))) (omega (arith, g.1.1)) (omega (arith, long_enough m long)) (omega arith) in
+    grind (arith, below-append, seven, r, run-append, run)
 
 cut : (past s : List Bool) → content ((past ++ (s ++ seven)) ++ false ∷ []) (length past) ≡ s
 cut past s =
-    let e : (past ++ (s ++ seven)) ++ false ∷ [] ≡ (past ++ s) ++ flag =
-    append_assoc past (s ++ seven) (false ∷ []) ∙ ap (λ l. past ++ l) (append_assoc s seven (false ∷ []))
-    ∙ sym (append_assoc past s flag) in
+    let e : (past ++ (s ++ seven)) ++ false ∷ [] ≡ (past ++ s) ++ flag = grind (arith, append_assoc, seven) in
     let n : length ((past ++ s) ++ flag) - 8 ≡ length (past ++ s) = eight_less (past ++ s) in
     let front : take (length (past ++ s)) ((past ++ s) ++ flag) ≡ past ++ s =
     take-append-le (length (past ++ s)) (past ++ s) flag (omega arith) ∙ take_all (length (past ++ s)) (past ++ s) (omega arith) in
     let none : drop (length past) past ≡ [] = drop_all (length past) past (omega arith) in
-    ap (λ l. content l (length past)) e ∙ ap (λ m. drop (length past) (take m ((past ++ s) ++ flag))) n ∙ ap (drop (length past)) front
-    ∙ drop-append-le (length past) past s (omega arith) ∙ ap (λ l. l ++ s) none
+    grind (arith, content, drop-append-le)
   where
     eight_less : (l : List Bool) → length (l ++ flag) - 8 ≡ length l
     eight_less l = omega (arith, length-append {A = Bool} l flag)
@@ -87,28 +76,13 @@ before_last phase sent = (rest_of_flag phase ++ flags 4) ++ (stuffed 5 (bits_of 
 
 pub slot-split : (size phase : ℕ) (sent : List ℕ)
     → slot_bits size phase (Flags (Some sent)) ≡ before_last phase sent ++ false ∷ fill (size - length (opening phase (Some sent)))
-slot-split size phase sent =
-    split (rest_of_flag phase ++ flags 4) (stuffed 5 (bits_of sent)) (fill (size - length (opening phase (Some sent))))
-  where
-    split : (head s f : List Bool) → (head ++ (s ++ flag)) ++ f ≡ (head ++ (s ++ seven)) ++ false ∷ f
-    split head s f = append_assoc head (s ++ flag) f ∙ ap (λ l. head ++ l) (append_assoc s flag f ∙ sym (append_assoc s seven (false ∷ f)))
-        ∙ sym (append_assoc head (s ++ seven) (false ∷ f))
+slot-split size phase sent = grind (arith, flags, fill, seven, append_assoc)
 
 pub last_place : (phase : ℕ) (sent : List ℕ) → length (opening phase (Some sent)) ≡ length (before_last phase sent) + 1
-last_place phase sent = count (rest_of_flag phase ++ flags 4) (stuffed 5 (bits_of sent))
-  where
-    count : (head s : List Bool) → length (head ++ (s ++ flag)) ≡ length (head ++ (s ++ seven)) + 1
-    count head s = omega (
-      arith,
-      length-append {A = Bool} head (s ++ flag),
-      length-append {A = Bool} head (s ++ seven),
-      length-append {A = Bool} s flag,
-      length-append {A = Bool} s seven,
-    )
+last_place phase sent = grind (arith, flags, seven, length-append)
 
 pub bits-some : (sent : List ℕ) → SHORTEST ≤ length sent → 1 ≤ length (bits_of sent)
-bits-some [] h = absurd (omega arith)
-bits-some (x ∷ sent) h = omega (arith, length-bits_of (x ∷ sent))
+bits-some sent h = grind (arith, length-bits_of)
 
 -- the states in a slot with a frame
 pub record InFrame (phase : ℕ) (k : Counters) (sent : List ℕ) : Type 0 where

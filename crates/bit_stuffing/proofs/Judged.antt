@@ -1,8 +1,9 @@
 -- What a content is, as a relation and as a function.
-use Rattle.bit_stuffing.proofs.Names.{◌≡◌, ◌≢◌, ◌⊎◌, inl, inr, ℕ, ◌*◌, ◌/◌, ◌%◌, ◌≤◌, Bool, true, false, ◌&&◌, not, if◌then◌else◌, List}
-use Rattle.bit_stuffing.proofs.Names.{length, nat_eq, nat_lt, arith, refl, sym, ◌∙◌, ap, subst, false≢true, ltb-true, ltb-false, eqb-true}
+use Rattle.std.proofs.lemmas.Bool.{and_parts}
+use Rattle.bit_stuffing.proofs.Names.{◌≡◌, ◌≢◌, ◌⊎◌, ℕ, ◌*◌, ◌/◌, ◌%◌, ◌≤◌, Bool, true, false, not, if◌then◌else◌, List}
+use Rattle.bit_stuffing.proofs.Names.{length, nat_eq, nat_lt, arith, refl, sym, ◌∙◌, ap, subst, ltb-true, ltb-false, eqb-true}
 use Rattle.bit_stuffing.proofs.Names.{eq-eqb, beq, pointwise, judged, octets_in, Carries, IsWhole, Judged, Stuffs, stuffed, removed}
-use Rattle.bit_stuffing.proofs.Names.{room_after, Fits, Piece, Whole, Ragged, Aborted, TooLong, TooShort, same_octets, WHOLE}
+use Rattle.bit_stuffing.proofs.Names.{room_after, Fits, Piece, Whole, Ragged, TooLong, TooShort, same_octets, WHOLE}
 use Rattle.frame_check.specs.Bits.{octets_of}
 use Rattle.frame_check.proofs.BitLists.{bits_of-octets_of, octets_of-are_octets, length-octets_of}
 use Rattle.bit_stuffing.specs.declared.piece.TheConstants.{SHORTEST}
@@ -13,47 +14,26 @@ use Rattle.bit_stuffing.proofs.EndsWith.{same_bits, bits-same}
 
 -- a content is one thing
 pub judged-once : (line : List Bool) (a b : Piece) → Judged line a → Judged line b → a ≡ b
-judged-once line TooLong TooLong j k = refl
-judged-once line TooLong Ragged j k = absurd (omega (arith, j, k.0))
-judged-once line TooLong TooShort j k = absurd (omega (arith, j, k.2, carried-length line k.0 k.1))
-judged-once line TooLong Whole j k = absurd (omega (arith, j, k.1.high, carried-length line k.0 k.1.carries))
-judged-once line Ragged TooLong j k = absurd (omega (arith, k, j.0))
-judged-once line Ragged Ragged j k = refl
-judged-once line Ragged TooShort j k = absurd (j.1 k.0 k.1)
-judged-once line Ragged Whole j k = absurd (j.1 k.0 k.1.carries)
-judged-once line TooShort TooLong j k = absurd (omega (arith, k, j.2, carried-length line j.0 j.1))
-judged-once line TooShort Ragged j k = absurd (k.1 j.0 j.1)
-judged-once line TooShort TooShort j k = refl
-judged-once line TooShort Whole j k = absurd (omega (arith, j.2, k.1.low, carried-length line j.0 j.1, carried-length line k.0 k.1.carries))
-judged-once line Whole TooLong j k = absurd (omega (arith, k, j.1.high, carried-length line j.0 j.1.carries))
-judged-once line Whole Ragged j k = absurd (k.1 j.0 j.1.carries)
-judged-once line Whole TooShort j k = absurd (omega (arith, k.2, j.1.low, carried-length line k.0 k.1, carried-length line j.0 j.1.carries))
-judged-once line Whole Whole j k = refl
-judged-once line Aborted b j k = absurd j
-judged-once line a Aborted j k = absurd k
+judged-once line a b j k = grind (arith, carried-length)
 
 -- a line carries one list of octets
 pub carries_once : (line : List Bool) (octets others : List ℕ) → Carries line octets → Carries line others → octets ≡ others
 carries_once line octets others h k = same_octets octets others h.small k.small (is_removed h.stuffs ∙ sym (is_removed k.stuffs))
 
 -- the test whether it carries any
-and_true : (a b : Bool) → (a && b) ≡ true → (a ≡ true) × (b ≡ true)
-and_true true true e = (refl, refl)
-and_true true false e = absurd (false≢true e)
-and_true false b e = absurd (false≢true e)
 
 pub carries-octets : (line : List Bool) → are_octets line ≡ true → Carries line (octets_of (length (removed 5 line) / 8) (removed 5 line))
 carries-octets line e =
-    let both = and_true (nat_eq (length (removed 5 line) % 8) 0) (pointwise beq (stuffed 5 (removed 5 line)) line) e in
+    let both = and_parts (nat_eq (length (removed 5 line) % 8) 0) (pointwise beq (stuffed 5 (removed 5 line)) line) e in
     let whole : length (removed 5 line) % 8 ≡ 0 = eqb-true (length (removed 5 line) % 8) 0 both.0 in
     let wide : length (removed 5 line) ≡ 8 * (length (removed 5 line) / 8) = omega arith in
     let content_is = bits_of-octets_of (length (removed 5 line) / 8) (removed 5 line) wide in
     let same : stuffed 5 (removed 5 line) ≡ line = same_bits (stuffed 5 (removed 5 line)) line both.1 in
-    record {
-      small = octets_of-are_octets (length (removed 5 line) / 8) (removed 5 line);
-      stuffs = subst (λ content. Stuffs content line) (sym content_is)
-          (subst (Stuffs (removed 5 line)) same (stuffs-stuffed 0 5 (removed 5 line) refl));
-    }
+    assumption (
+      octets_of-are_octets (length (removed 5 line) / 8) (removed 5 line),
+      subst (λ content. Stuffs content line) (sym content_is)
+          (subst (Stuffs (removed 5 line)) same (stuffs-stuffed 0 5 (removed 5 line) refl)),
+    )
 
 pub carried-test : (line : List Bool) (octets : List ℕ) → Carries line octets → are_octets line ≡ true
 carried-test line octets h =
@@ -83,14 +63,12 @@ judged-is line = long (nat_lt (8 * WHOLE) (length (removed 5 line))) refl
 
     octets : length (removed 5 line) ≤ 8 * WHOLE → (o : Bool) → are_octets line ≡ o
         → Judged line (if not o then Ragged else (if nat_lt (length (removed 5 line)) (8 * SHORTEST) then TooShort else Whole))
-    octets fits true e = short e fits (nat_lt (length (removed 5 line)) (8 * SHORTEST)) refl
-    octets fits false e = (fits, λ others h. false≢true (sym e ∙ carried-test line others h))
+    octets fits o e = grind (arith, short, carried-test)
 
     long : (l : Bool) → nat_lt (8 * WHOLE) (length (removed 5 line)) ≡ l
         → Judged line (if l then TooLong else
         (if not (are_octets line) then Ragged else (if nat_lt (length (removed 5 line)) (8 * SHORTEST) then TooShort else Whole)))
-    long true e = ltb-true (8 * WHOLE) (length (removed 5 line)) e
-    long false e = octets (ltb-false (8 * WHOLE) (length (removed 5 line)) e) (are_octets line) refl
+    long l e = grind (arith, ltb-true, octets, ltb-false)
 
 -- the octets of a whole piece
 pub octets-whole : (line : List Bool) (octets : List ℕ) → IsWhole line octets → octets_in Whole line ≡ octets
@@ -101,8 +79,7 @@ octets-whole line octets h =
 
 pub not-carried : (line : List Bool) (octets : List ℕ) → (length (removed 5 line) % 8 ≢ 0) ⊎ (room_after 5 line ≡ 0) → Carries line octets
     → ⊥
-not-carried line octets (inl part) h = part (omega (arith, carried-length line octets h))
-not-carried line octets (inr five) h = stuffs-room h.stuffs five
+not-carried line octets given h = grind (arith, carried-length, stuffs-room)
 
 pub fits-carries : (line : List Bool) → Fits 5 line → length (removed 5 line) % 8 ≡ 0 → room_after 5 line ≢ 0
     → (octets : List ℕ) × Carries line octets
@@ -111,7 +88,6 @@ fits-carries line f whole room =
       octets_of (length (removed 5 line) / 8) (removed 5 line),
       record {
         small = octets_of-are_octets (length (removed 5 line) / 8) (removed 5 line);
-        stuffs = subst (λ content. Stuffs content line) (sym (bits_of-octets_of (length (removed 5 line) / 8) (removed 5 line) wide))
-            (fits-stuffs line f room);
+        stuffs = grind (arith, bits_of-octets_of, fits-stuffs);
       },
     )

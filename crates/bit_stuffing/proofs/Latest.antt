@@ -1,5 +1,5 @@
 -- The latest eight bits as a number.
-use Rattle.bit_stuffing.proofs.Names.{◌≡◌, ℕ, zero, suc, ◌+◌, ◌-◌, ◌*◌, ◌/◌, ◌%◌, ◌^◌, ◌<◌, ◌≤◌, Bool, true, false, nat_eq, List, [], ◌∷◌}
+use Rattle.bit_stuffing.proofs.Names.{◌≡◌, ℕ, suc, ◌+◌, ◌-◌, ◌*◌, ◌/◌, ◌%◌, ◌^◌, ◌<◌, ◌≤◌, Bool, true, nat_eq, List, [], ◌∷◌}
 use Rattle.bit_stuffing.proofs.Names.{◌++◌, length, lit<, arith, refl, sym, ◌∙◌, ap, inl, inr, cases_lt, nat_tests, common_steps}
 use Rattle.bit_stuffing.proofs.Names.{bit_at_cat_low, bit_at-suc, bit_at, back, HoldsLatest, bit_of, flag, FlagEndsAt, SevenOnesEndAt}
 use Rattle.bit_stuffing.proofs.Names.{number}
@@ -19,26 +19,14 @@ pub back-past : (bits : List Bool) (places : ℕ) → length bits < places → b
 back-past bits places h = grind (arith, nat_tests)
 
 number-lt : (b : Bool) → number b < 2
-number-lt true = omega arith
-number-lt false = omega arith
+number-lt b = grind (arith)
 
 same_number : (a b : Bool) → number a ≡ number b → a ≡ b
-same_number true true e = refl
-same_number false false e = refl
-same_number true false e = absurd (omega arith)
-same_number false true e = absurd (omega arith)
+same_number a b e = grind (arith)
 
 -- a fact at each of eight places
 pub below8 : (P : ℕ → Type 0) → P 0 → P 1 → P 2 → P 3 → P 4 → P 5 → P 6 → P 7 → (i : ℕ) → i < 8 → P i
-below8 P p0 p1 p2 p3 p4 p5 p6 p7 zero l = p0
-below8 P p0 p1 p2 p3 p4 p5 p6 p7 (suc zero) l = p1
-below8 P p0 p1 p2 p3 p4 p5 p6 p7 (suc (suc zero)) l = p2
-below8 P p0 p1 p2 p3 p4 p5 p6 p7 (suc (suc (suc zero))) l = p3
-below8 P p0 p1 p2 p3 p4 p5 p6 p7 (suc (suc (suc (suc zero)))) l = p4
-below8 P p0 p1 p2 p3 p4 p5 p6 p7 (suc (suc (suc (suc (suc zero))))) l = p5
-below8 P p0 p1 p2 p3 p4 p5 p6 p7 (suc (suc (suc (suc (suc (suc zero)))))) l = p6
-below8 P p0 p1 p2 p3 p4 p5 p6 p7 (suc (suc (suc (suc (suc (suc (suc zero))))))) l = p7
-below8 P p0 p1 p2 p3 p4 p5 p6 p7 (suc (suc (suc (suc (suc (suc (suc (suc i)))))))) l = absurd (omega arith)
+below8 P p0 p1 p2 p3 p4 p5 p6 p7 i l = grind (arith)
 
 -- the low bits of a number are those of its remainder
 bit_at-rem : (n k i : ℕ) → i < k → bit_at (n % 2 ^ k) i ≡ bit_at n i
@@ -76,30 +64,19 @@ pub latest-flag : (bits : List Bool) → HoldsLatest 126 bits → FlagEndsAt bit
 latest-flag bits h = record { room = room; within = omega arith; spelled = spelled }
   where
     room : 8 ≤ length bits
-    room = elim (cases_lt (length bits) 8) [ inl few ↦ absurd (too_few few) | inr many ↦ many ]
-      where
-        too_few : length bits < 8 → ⊥
-        too_few few =
-            let zero_last : number (back bits 8) ≡ 0 = sym (h.each 0 (lit< tt)) in
-            let one_last : number (back bits 8) ≡ 1 = ap number (back-past bits 8 few) in
-            absurd (omega arith)
+    room = grind (arith, number, back, back-past)
 
     spelled : (i : ℕ) → i < 8 → bit_of bits (length bits - 8 + i) ≡ bit_of flag i
     spelled i l =
         let place : length bits - (8 - i) ≡ length bits - 8 + i = omega (arith, room) in
-        let seen : back bits (8 - i) ≡ bit_of bits (length bits - 8 + i) = back-within bits (8 - i) (omega (arith, room))
-        ∙ ap (bit_of bits) place in
+        let seen : back bits (8 - i) ≡ bit_of bits (length bits - 8 + i) = grind (arith, back-within, room) in
         same_number (bit_of bits (length bits - 8 + i)) (bit_of flag i) (ap number (sym seen) ∙ sym (h.each i l) ∙ flag_places i l)
 
 pub flag-latest : (latest : ℕ) (bits : List Bool) → HoldsLatest latest bits → FlagEndsAt bits (length bits) → latest ≡ 126
 flag-latest latest bits h f = same_from_bits_below 8 latest 126 h.low (lit< tt) each
   where
     each : (place : ℕ) → place < 8 → bit_at latest place ≡ bit_at 126 place
-    each place l =
-        let at_place : length bits - (8 - place) ≡ length bits - 8 + place = omega (arith, f.room) in
-        let seen : back bits (8 - place) ≡ bit_of bits (length bits - 8 + place) = back-within bits (8 - place) (omega (arith, f.room))
-        ∙ ap (bit_of bits) at_place in
-        h.each place l ∙ ap number (seen ∙ f.spelled place l) ∙ sym (flag_places place l)
+    each place l = grind (arith, back, back-within, number, flag_places)
 
 -- seven ones are a number
 seven_places : (i : ℕ) → i < 8 → i < 7 → bit_at 127 i ≡ 1
@@ -108,17 +85,7 @@ seven_places = below8 (λ i. i < 7
 
 pub latest-seven : (latest : ℕ) (bits : List Bool) → HoldsLatest latest bits → 7 ≤ length bits → latest / 2 ≡ 127
     → SevenOnesEndAt bits (length bits)
-latest-seven latest bits h room e = record { room = room; within = omega arith; ones = ones }
-  where
-    ones : (i : ℕ) → i < 7 → bit_of bits (length bits - 7 + i) ≡ true
-    ones i l =
-        let up : 8 - suc i ≡ 7 - i = omega arith in
-        let place : length bits - (7 - i) ≡ length bits - 7 + i = omega (arith, room) in
-        let one : bit_at latest (suc i) ≡ 1 = bit_at-suc latest i ∙ ap (λ x. bit_at x i) e ∙ seven_places i (omega arith) l in
-        let held : bit_at latest (suc i) ≡ number (back bits (7 - i)) = rw up at (h.each (suc i) (omega arith)) in
-        let seen : back bits (7 - i) ≡ bit_of bits (length bits - 7 + i) = back-within bits (7 - i) (omega (arith, room))
-        ∙ ap (bit_of bits) place in
-        same_number (bit_of bits (length bits - 7 + i)) true (ap number (sym seen) ∙ sym held ∙ one)
+latest-seven latest bits h room e = grind (arith, bit_at-suc, seven_places, number, back, back-within, same_number)
 
 pub seven-latest : (latest : ℕ) (bits : List Bool) → HoldsLatest latest bits → SevenOnesEndAt bits (length bits) → latest / 2 ≡ 127
 seven-latest latest bits h s = same_from_bits_below 7 (latest / 2) 127 (omega (arith, h.low)) (lit< tt) each
@@ -128,14 +95,12 @@ seven-latest latest bits h s = same_from_bits_below 7 (latest / 2) 127 (omega (a
         let up : 8 - suc place ≡ 7 - place = omega arith in
         let at_place : length bits - (7 - place) ≡ length bits - 7 + place = omega (arith, s.room) in
         let held : bit_at latest (suc place) ≡ number (back bits (7 - place)) = rw up at (h.each (suc place) (omega arith)) in
-        let seen : back bits (7 - place) ≡ bit_of bits (length bits - 7 + place) = back-within bits (7 - place) (omega (arith, s.room))
-        ∙ ap (bit_of bits) at_place in
+        let seen : back bits (7 - place) ≡ bit_of bits (length bits - 7 + place) = grind (arith, back-within) in
         sym (bit_at-suc latest place) ∙ held ∙ ap number (seen ∙ s.ones place l) ∙ sym (seven_places place (omega arith) l)
 
 -- the oldest of them
 is_one : (b : Bool) → nat_eq (number b) 1 ≡ b
-is_one true = refl
-is_one false = refl
+is_one b = grind (arith)
 
 pub latest-oldest : (latest : ℕ) (bits : List Bool) → HoldsLatest latest bits → nat_eq (latest % 2) 1 ≡ back bits 8
 latest-oldest latest bits h = ap (λ n. nat_eq n 1) (sym (bit_at_lowest latest) ∙ h.each 0 (lit< tt)) ∙ is_one (back bits 8)

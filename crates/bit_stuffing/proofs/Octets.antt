@@ -1,6 +1,6 @@
 -- Octets of a content in which no zero was inserted.
 use Rattle.bit_stuffing.proofs.Names.{◌≡◌, ℕ, zero, suc, ◌+◌, ◌-◌, ◌*◌, ◌/◌, ◌%◌, ◌^◌, ◌<◌, ◌≤◌, Bool, true, false, ◌&&◌, if◌then◌else◌}
-use Rattle.bit_stuffing.proofs.Names.{nat_eq, List, [], ◌∷◌, ◌++◌, arith, append_assoc, refl, sym, ◌∙◌, ap, subst, inl, inr, cases_lt}
+use Rattle.bit_stuffing.proofs.Names.{nat_eq, List, [], ◌∷◌, ◌++◌, arith, append_assoc, refl, sym, ◌∙◌, ap, inl, inr, cases_lt}
 use Rattle.bit_stuffing.proofs.Names.{false≢true, eqb-true, and_parts, All-append, All-cons, All-nil, Gathering, KeepsBits, Gathers}
 use Rattle.bit_stuffing.proofs.Names.{has_room, is_plain, stuffed, room_behind, removed, room_after, bits_of-snoc, low_bits, octet_bits}
 use Rattle.bit_stuffing.proofs.Names.{bits_of}
@@ -95,16 +95,14 @@ plain-kept room octet low small plain =
 
 -- the bits of a part and of a number above it
 pub joined-bits : (held part k n : ℕ) → part < 2 ^ held → low_bits held part ++ low_bits k n ≡ low_bits (held + k) (part + n * 2 ^ held)
-joined-bits zero part k n small = let e : n ≡ part + n * 2 ^ 0 = omega arith in let all : 0 + k ≡ k = omega arith in
-    ap (low_bits k) e ∙ ap (λ m. low_bits m (part + n * 2 ^ 0)) (sym all)
+joined-bits zero part k n small = grind (arith)
 joined-bits (suc held) part k n small =
     let double : 2 ^ suc held ≡ 2 * 2 ^ held = twice held in
     let product : n * 2 ^ suc held ≡ 2 * (n * 2 ^ held) = ap (λ m. n * m) double ∙ turned n (2 ^ held) in
     let low : (part + n * 2 ^ suc held) % 2 ≡ part % 2 = omega (arith, product) in
     let high : (part + n * 2 ^ suc held) / 2 ≡ part / 2 + n * 2 ^ held = omega (arith, product) in
     let rest = joined-bits held (part / 2) k n (omega (arith, double)) in
-    let more : suc held + k ≡ suc (held + k) = omega arith in
-    rw (more, low, high) (ap (λ l. nat_eq (part % 2) 1 ∷ l) rest)
+    let more : suc held + k ≡ suc (held + k) = omega arith in grind (arith)
   where
     twice : (k : ℕ) → 2 ^ suc k ≡ 2 * 2 ^ k
     twice k = omega arith
@@ -124,8 +122,7 @@ first-octet k n =
     let e6 : n % 256 / 2 / 2 / 2 / 2 / 2 / 2 % 2 ≡ n / 2 / 2 / 2 / 2 / 2 / 2 % 2 = omega arith in
     let e7 : n % 256 / 2 / 2 / 2 / 2 / 2 / 2 / 2 % 2 ≡ n / 2 / 2 / 2 / 2 / 2 / 2 / 2 % 2 = omega arith in
     let e8 : n / 256 ≡ n / 2 / 2 / 2 / 2 / 2 / 2 / 2 / 2 = omega arith in
-    let more : 8 + k ≡ suc (suc (suc (suc (suc (suc (suc (suc k))))))) = omega arith in
-    rw (more, e0, e1, e2, e3, e4, e5, e6, e7, e8) refl
+    let more : 8 + k ≡ suc (suc (suc (suc (suc (suc (suc (suc k))))))) = omega arith in grind (arith)
 
 -- a whole octet more
 keeps-eight : (octets : List ℕ) (part held octet all : ℕ) (kept : List Bool) → part < 2 ^ held → all ≡ part + octet * 2 ^ held
@@ -147,26 +144,13 @@ pub gathers-octet : (g : Gathering) (octet all : ℕ) (line : List Bool) → g.r
     → is_plain g.room octet ≡ true → all ≡ g.part + octet * 2 ^ g.held → g.over ≡ false → Gathers g line
     → Gathers (record g { room = room_behind_octet octet; octets = g.octets ++ all % 256 ∷ []; part = all / 256 })
     (line ++ octet_bits octet)
-gathers-octet g octet all line low small part plain e open_yet h =
-    let plain_here : is_plain (room_after 5 line) octet ≡ true = subst (λ n. is_plain n octet ≡ true) h.room_is plain in
-    let p = plain-kept (room_after 5 line) octet (omega (arith, h.room_is)) small plain_here in
-    let kept : removed 5 (line ++ octet_bits octet) ≡ removed 5 line ++ octet_bits octet = removed-append 5 line (octet_bits octet)
-    ∙ ap (λ l. removed 5 line ++ l) p.0 in
-    let was = subst (λ over. KeepsBits over g.octets g.part g.held (removed 5 line)) open_yet h.keeps in
-    record {
-      room_is = sym (room-append 5 line (octet_bits octet) ∙ p.1);
-      keeps = subst (λ over. KeepsBits over (g.octets ++ all % 256 ∷ []) (all / 256) g.held (removed 5 (line ++ octet_bits octet)))
-          (sym open_yet)
-          (subst (KeepsBits false (g.octets ++ all % 256 ∷ []) (all / 256) g.held) (sym kept)
-          (keeps-eight g.octets g.part g.held octet all (removed 5 line) part e was));
-    }
+gathers-octet g octet all line low small part plain e open_yet h = grind (arith, plain-kept, removed-append, room-append, keeps-eight)
 
 -- one more of so many bits
 spelled-more : (xs : List Bool) (place rest count bits : ℕ) → place < count → xs ++ low_bits (count - place) rest ≡ low_bits count bits
     → (xs ++ nat_eq (rest % 2) 1 ∷ []) ++ low_bits (count - (place + 1)) (rest / 2) ≡ low_bits count bits
 spelled-more xs place rest count bits l e =
-    let one : count - place ≡ suc (count - (place + 1)) = omega arith in
-    append_assoc xs (nat_eq (rest % 2) 1 ∷ []) (low_bits (count - (place + 1)) (rest / 2)) ∙ ap (λ n. xs ++ low_bits n rest) (sym one) ∙ e
+    let one : count - place ≡ suc (count - (place + 1)) = omega arith in grind (arith, append_assoc)
 
 -- what a line and the bits so far are, once all were pushed
 pub record HasPushed (g : Gathering) (line : List Bool) (place rest count bits : ℕ) : Type 0 where
@@ -177,11 +161,7 @@ pub record HasPushed (g : Gathering) (line : List Bool) (place rest count bits :
 pub pushed-more : (g h : Gathering) (line : List Bool) (place rest count bits : ℕ) → place < count
     → ((line : List Bool) → Gathers g line → Gathers h (line ++ nat_eq (rest % 2) 1 ∷ [])) → HasPushed g line place rest count bits
     → HasPushed h line (place + 1) (rest / 2) count bits
-pushed-more g h line place rest count bits l push p = record {
-  front = p.front ++ nat_eq (rest % 2) 1 ∷ [];
-  gathers = subst (Gathers h) (append_assoc line p.front (nat_eq (rest % 2) 1 ∷ [])) (push (line ++ p.front) p.gathers);
-  spelled = spelled-more p.front place rest count bits l p.spelled;
-}
+pushed-more g h line place rest count bits l push p = grind (arith, append_assoc, spelled-more)
 
 -- the same for four bits
 
@@ -233,18 +213,7 @@ gathers-four : (g : Gathering) (four : ℕ) (next : Gathering) (line : List Bool
     → (KeepsBits false g.octets g.part g.held (removed 5 line)
     → KeepsBits false next.octets next.part next.held (removed 5 line ++ low_bits 4 four))
     → Gathers next (line ++ low_bits 4 four)
-gathers-four g four next line low small plain open_yet same room h more =
-    let plain_here : has_room (room_after 5 line) four ≡ true = subst (λ n. has_room n four ≡ true) h.room_is plain in
-    let p = four-kept (room_after 5 line) four (omega (arith, h.room_is)) small plain_here in
-    let kept : removed 5 (line ++ low_bits 4 four) ≡ removed 5 line ++ low_bits 4 four = removed-append 5 line (low_bits 4 four)
-    ∙ ap (λ l. removed 5 line ++ l) p.0 in
-    let was = subst (λ over. KeepsBits over g.octets g.part g.held (removed 5 line)) open_yet h.keeps in
-    record {
-      room_is = room ∙ sym (room-append 5 line (low_bits 4 four) ∙ p.1);
-      keeps = subst (λ over. KeepsBits over next.octets next.part next.held (removed 5 (line ++ low_bits 4 four)))
-          (sym (same ∙ open_yet))
-          (subst (KeepsBits false next.octets next.part next.held) (sym kept) (more was));
-    }
+gathers-four g four next line low small plain open_yet same room h more = grind (arith, four-kept, removed-append, room-append)
 
 pub gathers-low : (g : Gathering) (four all : ℕ) (line : List Bool) → g.room ≤ 5 → four < 16 → g.part < 2 ^ g.held
     → has_room g.room four ≡ true → all ≡ g.part + four * 2 ^ g.held → all < 256 → g.over ≡ false → Gathers g line

@@ -8,19 +8,7 @@ use Rattle.bit_stuffing.proofs.Fill.{length-fill}
 
 -- no six ones stand where a stuffing begins, nor where it ends before
 not-six : (content more rest : List Bool) → stuffed 5 content ++ flag ++ more ≡ true ∷ true ∷ true ∷ true ∷ true ∷ true ∷ rest → ⊥
-not-six [] more rest e = absurd cc
-not-six (false ∷ c) more rest e = absurd cc
-not-six (true ∷ []) more rest e = absurd cc
-not-six (true ∷ false ∷ c) more rest e = absurd cc
-not-six (true ∷ true ∷ []) more rest e = absurd cc
-not-six (true ∷ true ∷ false ∷ c) more rest e = absurd cc
-not-six (true ∷ true ∷ true ∷ []) more rest e = absurd cc
-not-six (true ∷ true ∷ true ∷ false ∷ c) more rest e = absurd cc
-not-six (true ∷ true ∷ true ∷ true ∷ []) more rest e = absurd cc
-not-six (true ∷ true ∷ true ∷ true ∷ false ∷ c) more rest e = absurd cc
-not-six (true ∷ true ∷ true ∷ true ∷ true ∷ []) more rest e = absurd cc
-not-six (true ∷ true ∷ true ∷ true ∷ true ∷ false ∷ c) more rest e = absurd cc
-not-six (true ∷ true ∷ true ∷ true ∷ true ∷ true ∷ c) more rest e = absurd cc
+not-six content more rest e = grind (arith)
 
 -- a stuffing with a flag behind it is that of one content
 same-content : (room : ℕ) (a b x y : List Bool) → stuffed room a ++ flag ++ x ≡ stuffed room b ++ flag ++ y → a ≡ b
@@ -49,12 +37,7 @@ fill-flag n h = let more : n / 8 ≡ suc (n / 8 - 1) = omega (arith, h) in ap (�
 
 -- and no frame begins so
 not-fill : (n : ℕ) (content more : List Bool) → 8 ≤ n → 1 ≤ length content → fill n ≡ stuffed 5 content ++ flag ++ more → ⊥
-not-fill n content more wide some e = clash content some (sym (fill-flag n wide) ∙ e)
-  where
-    clash : (c : List Bool) → 1 ≤ length c → flag ++ (flags (n / 8 - 1) ++ take (n % 8) flag) ≡ stuffed 5 c ++ flag ++ more → ⊥
-    clash [] s h = omega (arith, s)
-    clash (true ∷ c) s h = absurd cc
-    clash (false ∷ c) s h = absurd (not-six c more (false ∷ (flags (n / 8 - 1) ++ take (n % 8) flag)) (sym (ap (drop 1) h)))
+not-fill n content more wide some e = grind (arith, fill-flag, flags, not-six)
 
 -- what stands behind the flags that open a slot
 behind-opening : (phase : ℕ) (frame : Option (List ℕ)) (tail : List Bool)
@@ -97,9 +80,4 @@ same-framed n m (Some a) (Some b) size phase is others e =
 
 pub one-frame : (size phase : ℕ) (a b : Option (List ℕ)) → IsSlot size phase (Flags a) → IsSlot size phase (Flags b)
     → slot_bits size phase (Flags a) ≡ slot_bits size phase (Flags b) → a ≡ b
-one-frame size phase a b is others e =
-    let n : ℕ = size - length (opening phase a) in
-    let m : ℕ = size - length (opening phase b) in
-    same-framed n m a b size phase is others
-    (same-behind (rest_of_flag phase ++ flags 4) (framed a ++ fill n) (framed b ++ fill m)
-    (sym (behind-opening phase a (fill n)) ∙ e ∙ behind-opening phase b (fill m)))
+one-frame size phase a b is others e = grind (arith, same-framed, same-behind, flags, framed, fill, behind-opening)

@@ -1,7 +1,8 @@
 -- The ones in a row at the end of a stream.
+use Rattle.std.proofs.lemmas.List.{length_push}
 use Rattle.bit_stuffing.proofs.Names.{◌≡◌, ℕ, ◌+◌, ◌-◌, ◌<◌, ◌≤◌, inl, inr, Bool, true, false, List, [], ◌∷◌, ◌++◌, length, arith, refl}
 use Rattle.bit_stuffing.proofs.Names.{sym, ◌∙◌, min, cases_lt, false≢true, bit_of, flag, FlagEndsAt, SevenOnesEndAt, OpenedAt}
-use Rattle.bit_stuffing.proofs.Places.{length-snoc, bit-before, bit-last}
+use Rattle.bit_stuffing.proofs.Places.{bit-before, bit-last}
 use Rattle.bit_stuffing.proofs.Openings.{before_open}
 use Rattle.bit_stuffing.proofs.Latest.{below8}
 
@@ -15,13 +16,13 @@ pub one-more : (bits : List Bool) (k : ℕ) → CountsOnes k bits → CountsOnes
 one-more bits k h = record {
   few = omega arith;
   set = λ i within reaches. elim (cases_lt i (length bits)) [
-    | inl l ↦ bit-before bits true i l ∙ h.set i l (omega (arith, length-snoc bits true))
-    | inr l ↦ bit-last bits true i (omega (arith, length-snoc bits true))
+    | inl l ↦ bit-before bits true i l ∙ h.set i l (omega (arith, length_push bits true))
+    | inr l ↦ bit-last bits true i (omega (arith, length_push bits true))
   ];
   zero = λ few.
       let z = h.zero (omega arith) in
-      let n : length (bits ++ true ∷ []) - 1 - (min k 6 + 1) ≡ length bits - 1 - k = omega (arith, z.0, length-snoc bits true) in
-      (omega (arith, z.0, length-snoc bits true), rw n (bit-before bits true (length bits - 1 - k) (omega (arith, z.0)) ∙ z.1));
+      let n : length (bits ++ true ∷ []) - 1 - (min k 6 + 1) ≡ length bits - 1 - k = omega (arith, z.0, length_push bits true) in
+      (omega (arith, z.0, length_push bits true), rw n (bit-before bits true (length bits - 1 - k) (omega (arith, z.0)) ∙ z.1));
 }
 
 pub zero-more : (bits : List Bool) → CountsOnes 0 (bits ++ false ∷ [])
@@ -29,24 +30,20 @@ zero-more bits = record {
   few = omega arith;
   set = λ i within reaches. absurd (omega arith);
   zero = λ few. (
-    omega (arith, length-snoc bits false),
-    bit-last bits false (length (bits ++ false ∷ []) - 1 - 0) (omega (arith, length-snoc bits false)),
+    omega (arith, length_push bits false),
+    bit-last bits false (length (bits ++ false ∷ []) - 1 - 0) (omega (arith, length_push bits false)),
   );
 }
 
 -- no flag ends with a one
 pub no_flag-one : (bits : List Bool) → FlagEndsAt (bits ++ true ∷ []) (length bits + 1) → ⊥
-no_flag-one bits h =
-    let e : length bits + 1 - 8 + 7 ≡ length bits = omega (arith, h.room) in
-    false≢true (sym (h.spelled 7 (omega arith)) ∙ bit-last bits true (length bits + 1 - 8 + 7) e)
+no_flag-one bits h = grind (arith, bit-last)
 
 is_zero : (i : ℕ) → i ≤ 0 → i ≡ 0
 is_zero i h = omega arith
 
 flag-middle : (i : ℕ) → 0 < i → i < 7 → bit_of flag i ≡ true
-flag-middle i low high =
-    below8 (λ i. 0 < i → i < 7 → bit_of flag i ≡ true) (λ l h. absurd (omega arith)) (λ l h. refl) (λ l h. refl) (λ l h. refl) (λ l h. refl)
-    (λ l h. refl) (λ l h. refl) (λ l h. absurd (omega arith)) i (omega arith) low high
+flag-middle i low high = grind (arith, below8)
 
 flag-end : (i : ℕ) → 7 ≤ i → i < 8 → bit_of flag i ≡ false
 flag-end i low high = let e : i ≡ 7 = omega arith in rw e refl
@@ -55,55 +52,22 @@ flag-end i low high = let e : i ≡ 7 = omega arith in rw e refl
 pub flag-six : (bits : List Bool) → CountsOnes 6 bits → FlagEndsAt (bits ++ false ∷ []) (length bits + 1)
 flag-six bits h = let z = h.zero (omega arith) in let start : length bits + 1 - 8 + 0 ≡ length bits - 1 - 6 = omega (arith, z.0) in record {
   room = omega (arith, (h.zero (omega arith)).0);
-  within = omega (arith, length-snoc bits false);
-  spelled = λ i l. elim (cases_lt i 7) [
-    | inl front ↦ elim (cases_lt 0 i) [
-      | inl later ↦ bit-before bits false (length bits + 1 - 8 + i) (omega (arith, z.0))
-          ∙ h.set (length bits + 1 - 8 + i) (omega (arith, z.0)) (omega (arith, z.0)) ∙ sym (flag-middle i later (omega arith))
-      | inr first ↦ rw (is_zero i first, start) (bit-before bits false (length bits - 1 - 6) (omega (arith, z.0)) ∙ z.1)
-    ]
-    | inr last ↦ bit-last bits false (length bits + 1 - 8 + i) (omega (arith, z.0)) ∙ sym (flag-end i last (omega arith))
-  ];
+  within = omega (arith, length_push bits false);
+  spelled = grind (arith, bit-before, flag-middle, is_zero, bit-last, flag-end);
 }
 
 pub six-flag : (bits : List Bool) (k : ℕ) → CountsOnes k bits → FlagEndsAt (bits ++ false ∷ []) (length bits + 1) → k ≡ 6
-six-flag bits k h f = elim (cases_lt k 6) [
-  | inl few ↦ absurd (too_few few)
-  | inr many ↦ elim (cases_lt 6 k) [ inl more ↦ absurd (too_many more) | inr six ↦ omega arith ]
-]
-  where
-    too_few : k < 6 → ⊥
-    too_few few =
-        let z = h.zero (omega arith) in
-        let place : length bits + 1 - 8 + (6 - k) ≡ length bits - 1 - k = omega (arith, z.0, f.room) in
-        let seen = f.spelled (6 - k) (omega arith) ∙ flag-middle (6 - k) (omega arith) (omega arith) in
-        false≢true (sym (rw place (bit-before bits false (length bits - 1 - k) (omega (arith, z.0)) ∙ z.1)) ∙ seen)
-
-    too_many : 6 < k → ⊥
-    too_many more =
-        let place : length bits + 1 - 8 + 0 ≡ length bits - 7 = omega (arith, f.room) in
-        let set : bit_of bits (length bits - 7) ≡ true = h.set (length bits - 7) (omega (arith, f.room)) (omega (arith, f.room, h.few)) in
-        false≢true (sym (f.spelled 0 (omega arith)) ∙ rw place (bit-before bits false (length bits - 7) (omega (arith, f.room)) ∙ set))
+six-flag bits k h f = grind (arith, flag-middle, bit-before)
 
 pub seven-ones : (bits : List Bool) → CountsOnes 6 bits → SevenOnesEndAt (bits ++ true ∷ []) (length bits + 1)
 seven-ones bits h = let z = h.zero (omega arith) in record {
   room = omega (arith, (h.zero (omega arith)).0);
-  within = omega (arith, length-snoc bits true);
-  ones = λ i l. elim (cases_lt i 6) [
-    | inl front ↦ bit-before bits true (length bits + 1 - 7 + i) (omega (arith, z.0))
-        ∙ h.set (length bits + 1 - 7 + i) (omega (arith, z.0)) (omega (arith, z.0))
-    | inr last ↦ bit-last bits true (length bits + 1 - 7 + i) (omega (arith, z.0))
-  ];
+  within = omega (arith, length_push bits true);
+  ones = grind (arith, bit-before, bit-last);
 }
 
 pub ones-seven : (bits : List Bool) (k : ℕ) → CountsOnes k bits → SevenOnesEndAt (bits ++ true ∷ []) (length bits + 1) → 6 ≤ k
-ones-seven bits k h s = elim (cases_lt k 6) [ inl few ↦ absurd (too_few few) | inr many ↦ many ]
-  where
-    too_few : k < 6 → ⊥
-    too_few few =
-        let z = h.zero (omega arith) in
-        let place : length bits + 1 - 7 + (5 - k) ≡ length bits - 1 - k = omega (arith, z.0, s.room) in
-        false≢true (sym (rw place (bit-before bits true (length bits - 1 - k) (omega (arith, z.0)) ∙ z.1)) ∙ s.ones (5 - k) (omega arith))
+ones-seven bits k h s = grind (arith, bit-before)
 
 -- seven ones don't end with a zero
 pub no_seven-zero : (bits : List Bool) → SevenOnesEndAt (bits ++ false ∷ []) (length bits + 1) → ⊥

@@ -1,8 +1,9 @@
 -- The flag that is open, at one more bit.
-use Rattle.bit_stuffing.proofs.Names.{◌≡◌, ◌≢◌, ℕ, ◌+◌, ◌-◌, ◌<◌, ◌≤◌, inl, inr, Bool, true, false, List, [], ◌∷◌, ◌++◌, length, arith, sym}
-use Rattle.bit_stuffing.proofs.Names.{◌∙◌, min, Some, None, IsTrue, nat_eq, cases_lt, false≢true, eq-eqb, CountsSince, bit_of, FlagEndsAt}
+use Rattle.std.proofs.lemmas.List.{length_push}
+use Rattle.bit_stuffing.proofs.Names.{◌≡◌, ◌≢◌, ℕ, ◌+◌, ◌-◌, ◌<◌, ◌≤◌, inl, inr, Bool, true, false, List, [], ◌∷◌, ◌++◌, length, arith}
+use Rattle.bit_stuffing.proofs.Names.{min, Some, None, IsTrue, nat_eq, cases_lt, eq-eqb, CountsSince, bit_of, FlagEndsAt}
 use Rattle.bit_stuffing.proofs.Names.{SevenOnesEndAt, OpenedAt, IsFar, IsNear, Aborts, Closes}
-use Rattle.bit_stuffing.proofs.Places.{length-snoc, bit-before, flag-stays, flag-was, seven-was, seven-stays, flag_or_seven}
+use Rattle.bit_stuffing.proofs.Places.{bit-before, flag-stays, flag-was, seven-was, seven-stays, flag_or_seven}
 
 -- only one flag is the latest
 pub opened-once : (bits : List Bool) (p q : ℕ) → OpenedAt bits p → OpenedAt bits q → p ≡ q
@@ -19,11 +20,11 @@ pub opened-stays : (bits : List Bool) (b : Bool) (p : ℕ) → OpenedAt bits p �
 opened-stays bits b p h no_flag no_seven = record {
   flag_ends = flag-stays bits b p h.flag_ends;
   latest = λ q above f. elim (cases_lt (length bits) q) [
-    | inl l ↦ let e : q ≡ length bits + 1 = omega (arith, f.within, length-snoc bits b) in no_flag (rw e at f)
+    | inl l ↦ let e : q ≡ length bits + 1 = omega (arith, f.within, length_push bits b) in no_flag (rw e at f)
     | inr l ↦ h.latest q above (flag-was bits b q l f)
   ];
   alive = λ q above s. elim (cases_lt (length bits) q) [
-    | inl l ↦ let e : q ≡ length bits + 1 = omega (arith, s.within, length-snoc bits b) in no_seven (rw e at s)
+    | inl l ↦ let e : q ≡ length bits + 1 = omega (arith, s.within, length_push bits b) in no_seven (rw e at s)
     | inr l ↦ h.alive q above (seven-was bits b q l s)
   ];
 }
@@ -40,8 +41,8 @@ pub opened-by_flag : (bits : List Bool) (b : Bool) → FlagEndsAt (bits ++ b ∷
     → OpenedAt (bits ++ b ∷ []) (length bits + 1)
 opened-by_flag bits b f = record {
   flag_ends = f;
-  latest = λ q above g. absurd (omega (arith, g.within, length-snoc bits b));
-  alive = λ q above s. absurd (omega (arith, s.within, length-snoc bits b));
+  latest = λ q above g. absurd (omega (arith, g.within, length_push bits b));
+  alive = λ q above s. absurd (omega (arith, s.within, length_push bits b));
 }
 
 pub before_open : (bits : List Bool) (p : ℕ) → OpenedAt bits p → bit_of bits (p - 1) ≡ false
@@ -56,64 +57,63 @@ seven_behind bits b p o s = elim (cases_lt (length bits + 1) (p + 7)) [ inl near
     too_near near =
         let place : length bits + 1 - 7 + (p + 5 - length bits) ≡ p - 1 = omega (arith, s.room, o.flag_ends.room, o.flag_ends.within) in
         let set = s.ones (p + 5 - length bits) (omega (arith, o.flag_ends.within, o.flag_ends.room)) in
-        let here : bit_of (bits ++ b ∷ []) (p - 1) ≡ true = rw place at set in
-        false≢true (sym (bit-before bits b (p - 1) (omega (arith, o.flag_ends.room, o.flag_ends.within)) ∙ before_open bits p o) ∙ here)
+        let here : bit_of (bits ++ b ∷ []) (p - 1) ≡ true = rw place at set in grind (arith, bit-before, before_open)
 
 pub at_end : (bits : List Bool) (b : Bool) → FlagEndsAt (bits ++ b ∷ []) (length (bits ++ b ∷ []))
     → FlagEndsAt (bits ++ b ∷ []) (length bits + 1)
-at_end bits b f = let e = length-snoc bits b in rw e at f
+at_end bits b f = let e = length_push bits b in rw e at f
 
 pub seven_at_end : (bits : List Bool) (b : Bool) → SevenOnesEndAt (bits ++ b ∷ []) (length (bits ++ b ∷ []))
     → SevenOnesEndAt (bits ++ b ∷ []) (length bits + 1)
-seven_at_end bits b f = let e = length-snoc bits b in rw e at f
+seven_at_end bits b f = let e = length_push bits b in rw e at f
 
 pub from_end : (bits : List Bool) (b : Bool) → FlagEndsAt (bits ++ b ∷ []) (length bits + 1)
     → FlagEndsAt (bits ++ b ∷ []) (length (bits ++ b ∷ []))
-from_end bits b f = rw (length-snoc bits b) f
+from_end bits b f = rw (length_push bits b) f
 
 pub seven_from_end : (bits : List Bool) (b : Bool) → SevenOnesEndAt (bits ++ b ∷ []) (length bits + 1)
     → SevenOnesEndAt (bits ++ b ∷ []) (length (bits ++ b ∷ []))
-seven_from_end bits b f = rw (length-snoc bits b) f
+seven_from_end bits b f = rw (length_push bits b) f
 
 -- behind an open flag there are seven bits at least
 pub room-open : (bits : List Bool) (b : Bool) (count : ℕ) → CountsSince (Some count) bits → 7 ≤ length (bits ++ b ∷ [])
-room-open bits b count s = omega (arith, s.1.flag_ends.room, s.1.flag_ends.within, length-snoc bits b)
+room-open bits b count s = omega (arith, s.1.flag_ends.room, s.1.flag_ends.within, length_push bits b)
 
 -- nothing was open, and no flag ends: nothing is open
 pub shut-stays : (bits : List Bool) (b : Bool) → (FlagEndsAt (bits ++ b ∷ []) (length bits + 1) → ⊥) → CountsSince None bits
     → CountsSince None (bits ++ b ∷ [])
 shut-stays bits b no_flag shut p o = elim (cases_lt (length bits) p) [
-  | inl l ↦ let e : p ≡ length bits + 1 = omega (arith, o.flag_ends.within, length-snoc bits b) in no_flag (rw e at o.flag_ends)
+  | inl l ↦ let e : p ≡ length bits + 1 = omega (arith, o.flag_ends.within, length_push bits b) in no_flag (rw e at o.flag_ends)
   | inr l ↦ shut p (opened-was bits b p l o)
 ]
 
 -- a flag ends at the bit
 module _ (bits : List Bool) (b : Bool) (f : FlagEndsAt (bits ++ b ∷ []) (length bits + 1)) where
   pub flag-opens : CountsSince (Some 0) (bits ++ b ∷ [])
-  flag-opens = (length bits + 1, opened-by_flag bits b f, omega (arith, length-snoc bits b))
+  flag-opens = (length bits + 1, opened-by_flag bits b f, omega (arith, length_push bits b))
 
   pub flag-closes : IsFar bits → Closes bits (bits ++ b ∷ [])
   flag-closes far = record {
     opened = far.opened;
     is_opened = far.is_opened;
-    closing = rw (length-snoc bits b) f;
-    some = omega (arith, far.far, length-snoc bits b);
+    closing = rw (length_push bits b) f;
+    some = omega (arith, far.far, length_push bits b);
   }
 
   no_abort : Aborts bits (bits ++ b ∷ []) → ⊥
   no_abort a = flag_or_seven (bits ++ b ∷ []) (length bits + 1) f (seven_at_end bits b a.seventh)
 
   pub flag-near : IsNear bits → (Aborts bits (bits ++ b ∷ []) → ⊥) × (Closes bits (bits ++ b ∷ []) → ⊥)
-  flag-near near = (no_abort, λ c. let some = c.some in absurd (omega (arith, near c.opened c.is_opened, length-snoc bits b)))
+  flag-near near = (no_abort, λ c. let some = c.some in absurd (omega (arith, near c.opened c.is_opened, length_push bits b)))
 
 -- seven ones end at the bit
 module _ (bits : List Bool) (b : Bool) (s : SevenOnesEndAt (bits ++ b ∷ []) (length bits + 1)) where
   pub seven-aborts : (count : ℕ) → CountsSince (Some count) bits → Aborts bits (bits ++ b ∷ [])
-  seven-aborts count k = record { opened = k.0; is_opened = k.1; seventh = rw (length-snoc bits b) s }
+  seven-aborts count k = record { opened = k.0; is_opened = k.1; seventh = rw (length_push bits b) s }
 
   pub seven-shuts : CountsSince None (bits ++ b ∷ [])
   seven-shuts p o = elim (cases_lt (length bits) p) [
-    | inl l ↦ let e : p ≡ length bits + 1 = omega (arith, o.flag_ends.within, length-snoc bits b) in
+    | inl l ↦ let e : p ≡ length bits + 1 = omega (arith, o.flag_ends.within, length_push bits b) in
         flag_or_seven (bits ++ b ∷ []) (length bits + 1) (rw e at o.flag_ends) s
     | inr l ↦ o.alive (length bits + 1) (seven_behind bits b p (opened-was bits b p l o) s) s
   ]
@@ -125,7 +125,7 @@ module _ (bits : List Bool) (b : Bool) (no_flag : FlagEndsAt (bits ++ b ∷ []) 
   quiet = (λ a. no_seven (seven_at_end bits b a.seventh), λ c. no_flag (at_end bits b c.closing))
 
   pub counts-more : (count : ℕ) → CountsSince (Some count) bits → CountsSince (Some (min count 7 + 1)) (bits ++ b ∷ [])
-  counts-more count s = (s.0, opened-stays bits b s.0 s.1 no_flag no_seven, omega (arith, s.2, s.1.flag_ends.within, length-snoc bits b))
+  counts-more count s = (s.0, opened-stays bits b s.0 s.1 no_flag no_seven, omega (arith, s.2, s.1.flag_ends.within, length_push bits b))
 
 -- nothing is open
 pub shut-quiet : (bits : List Bool) (b : Bool) → CountsSince None bits

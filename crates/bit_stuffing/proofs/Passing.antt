@@ -74,8 +74,7 @@ back-four past octet many e =
     let front = take (length past - 8) past in
     let long : length front ≡ length past - 8 = take-length past (length past - 8) (omega arith) in
     let split : past ≡ front ++ octet_bits octet = sym (front-and-rest (length past - 8) past) ∙ ap (λ l. front ++ l) e in
-    let n : length past - 4 ≡ length front + 4 = omega (arith, long) in
-    ap (λ m. take m past) n ∙ ap (take (length front + 4)) split ∙ take-past front (octet_bits octet) 4
+    let n : length past - 4 ≡ length front + 4 = omega (arith, long) in grind (arith, front, take-past)
 
 -- those of a content of which some were gathered
 pub gathered-four : (past : List Bool) (octet p : ℕ) → p + 8 ≤ length past → drop (length past - 8) past ≡ octet_bits octet
@@ -145,11 +144,7 @@ leaves-none finding past h none p o = each finding.since refl h.counts
     each : (since : Option ℕ) → finding.since ≡ since → CountsSince since past → length past < p + 4
     each None e k = absurd (k p o)
     each (Some count) e k =
-        let same : p ≡ k.0 = opened-once past p k.0 o k.1 in
-        elim (cases_lt count 4) [
-          | inl few ↦ omega (arith, few, k.2, same, o.flag_ends.within)
-          | inr some ↦ absurd (none count e some (omega (arith, k.2)))
-        ]
+        let same : p ≡ k.0 = opened-once past p k.0 o k.1 in grind (arith)
 
 -- eight bits or more behind the flag that is open are four or more
 far-since : (finding : Finding) (bits : List Bool) → Finds finding bits → (p : ℕ) → OpenedAt bits p → p + 8 ≤ length bits
@@ -169,8 +164,7 @@ four-stands finding g four past passes gathered = record {
   gathers = λ p o far.
       let long : length (past ++ low_bits 4 four) ≡ length past + 4 = length-append past (low_bits 4 four) in
       let n : length (past ++ low_bits 4 four) - 8 ≡ length past - 4 = omega (arith, long) in
-      let same : content (past ++ low_bits 4 four) p ≡ drop p (take (length past - 4) past) =
-      ap (drop p) (ap (λ m. take m (past ++ low_bits 4 four)) n ∙ take-append-le (length past - 4) past (low_bits 4 four) (omega arith)) in
+      let same : content (past ++ low_bits 4 four) p ≡ drop p (take (length past - 4) past) = grind (arith, take-append-le) in
       subst (Gathers g) (sym same)
       (gathered (far-since finding (past ++ low_bits 4 four) passes.finds p o far) p (passes.opened p o far) (omega (arith, far, long)));
   lends = passes.closes;
@@ -190,5 +184,4 @@ flags-stands finding g past bits passes near = record {
         → IfSome since (λ count. count < 8) → ⊥
     too_far p o far None k less = k p o
     too_far p o far (Some count) k less =
-        let same : p ≡ k.0 = opened-once (past ++ bits) p k.0 o k.1 in
-        omega (arith, k.2, same, far, less)
+        let same : p ≡ k.0 = opened-once (past ++ bits) p k.0 o k.1 in grind (arith)

@@ -1,11 +1,10 @@
 -- Given bits in a slot: no flag stands in them, and they end with seven ones.
+use Rattle.std.proofs.lemmas.List.{length_push, get_or-append_right}
 use Rattle.bit_stuffing.proofs.Names.{◌≡◌, ℕ, ◌+◌, ◌-◌, ◌<◌, ◌≤◌, ◌⊎◌, inl, inr, Bool, true, false, List, [], ◌∷◌, ◌++◌, length, min, None}
 use Rattle.bit_stuffing.proofs.Names.{arith, append_assoc, length-append, refl, sym, ◌∙◌, ap, subst, cases_lt, false≢true, append-nil}
 use Rattle.bit_stuffing.proofs.Names.{get_or_append_left, beq, ends_with, CountsSince, bit_of, flag, FlagEndsAt, SevenOnesEndAt, OpenedAt}
 use Rattle.bit_stuffing.proofs.Names.{seven_ones, IsPlain, Aborted}
-use Rattle.std.proofs.lemmas.List.{get_or-append_right}
 use Rattle.bit_stuffing.specs.Found.{found_at}
-use Rattle.bit_stuffing.proofs.Places.{length-snoc}
 use Rattle.bit_stuffing.proofs.Ones.{CountsOnes, ones-shut}
 use Rattle.bit_stuffing.proofs.Openings.{at_end, from_end, seven_at_end, seven_from_end, opened-once, opened-stays, opened-by_flag}
 use Rattle.bit_stuffing.proofs.Openings.{seven_behind, seven-aborts, seven-shuts, shut-stays, shut-quiet, flag-near, quiet}
@@ -20,44 +19,21 @@ pub bit-left : (past more : List Bool) (i : ℕ) → i < length past → bit_of 
 bit-left past more i h = get_or_append_left past more false i h
 
 pub bit-right : (past more : List Bool) (i : ℕ) → bit_of (past ++ more) (length past + i) ≡ bit_of more i
-bit-right past more i =
-    let back : length past + i - length past ≡ i = omega arith in
-    get_or-append_right past more (length past) (length past + i) false refl (omega arith) ∙ ap (bit_of more) back
+bit-right past more i = grind (arith, get_or-append_right)
 
 -- what ends in the front ends in the whole
 pub flag-front : (past more : List Bool) (n : ℕ) → FlagEndsAt past n → FlagEndsAt (past ++ more) n
-flag-front past more n f = record {
-  room = f.room;
-  within = omega (arith, f.within, length-append {A = Bool} past more);
-  spelled = λ i l. bit-left past more (n - 8 + i) (omega (arith, f.room, f.within)) ∙ f.spelled i l;
-}
+flag-front past more n f = grind (arith, length-append, bit-left)
 
 pub seven-front : (past more : List Bool) (n : ℕ) → SevenOnesEndAt past n → SevenOnesEndAt (past ++ more) n
-seven-front past more n s = record {
-  room = s.room;
-  within = omega (arith, s.within, length-append {A = Bool} past more);
-  ones = λ i l. bit-left past more (n - 7 + i) (omega (arith, s.room, s.within)) ∙ s.ones i l;
-}
+seven-front past more n s = grind (arith, length-append, bit-left)
 
 -- a flag that stands in the rest alone
 pub flag-back : (past more : List Bool) (n : ℕ) → length past + 8 ≤ n → FlagEndsAt (past ++ more) n → FlagEndsAt more (n - length past)
-flag-back past more n far f = record {
-  room = omega arith;
-  within = omega (arith, f.within, length-append {A = Bool} past more);
-  spelled = λ i l.
-      let place : length past + (n - length past - 8 + i) ≡ n - 8 + i = omega arith in
-      sym (bit-right past more (n - length past - 8 + i)) ∙ ap (bit_of (past ++ more)) place ∙ f.spelled i l;
-}
+flag-back past more n far f = grind (arith, length-append, bit-right)
 
 pub seven-back : (past more : List Bool) → SevenOnesEndAt more (length more) → SevenOnesEndAt (past ++ more) (length (past ++ more))
-seven-back past more s = record {
-  room = omega (arith, s.room, length-append {A = Bool} past more);
-  within = omega arith;
-  ones = λ i l.
-      let place : length (past ++ more) - 7 + i ≡ length past + (length more - 7 + i) =
-      omega (arith, s.room, length-append {A = Bool} past more) in
-      ap (bit_of (past ++ more)) place ∙ bit-right past more (length more - 7 + i) ∙ s.ones i l;
-}
+seven-back past more s = grind (arith, length-append, bit-right)
 
 -- behind seven ones
 
@@ -65,8 +41,7 @@ pub counts-seven : (bits : List Bool) → SevenOnesEndAt bits (length bits) → 
 counts-seven bits s = record {
   ones = record {
     few = omega arith;
-    set = λ i l h. let place : length bits - 7 + (i + 7 - length bits) ≡ i = omega (arith, s.room) in
-        ap (bit_of bits) (sym place) ∙ s.ones (i + 7 - length bits) (omega (arith, s.room));
+    set = grind (arith);
     zero = λ few. absurd (omega arith);
   };
   since = λ p o. ones-shut bits p
@@ -75,10 +50,7 @@ counts-seven bits s = record {
 }
 
 pub counts-start : Counts shut []
-counts-start = record {
-  ones = record { few = omega arith; set = λ i l h. absurd (omega arith); zero = λ few. absurd (omega arith) };
-  since = λ p o. absurd (omega (arith, o.flag_ends.room, o.flag_ends.within));
-}
+counts-start = grind (arith)
 
 -- where no flag is open and none ends, nothing is found
 pub along-shut : (all past rest : List Bool) → all ≡ past ++ rest → ((n : ℕ) → length past < n → FlagEndsAt all n → ⊥)
@@ -92,7 +64,7 @@ along-shut all past (b ∷ rest) e never s =
     let none = shut-quiet past b s in
     let here : found_at (past ++ b ∷ []) ≡ None = found-quiet past b none.0 none.1 in
     let after : along (past ++ b ∷ []) rest ≡ [] =
-    along-shut all (past ++ b ∷ []) rest split (λ n l f. never n (omega (arith, l, length-snoc past b)) f)
+    along-shut all (past ++ b ∷ []) rest split (λ n l f. never n (omega (arith, l, length_push past b)) f)
     (shut-stays past b no_flag s) in
     rw (here, after) refl
 
@@ -107,9 +79,7 @@ OnceAborted all past rest =
 
 -- no flag ends right behind seven ones, unless its first zero comes behind them
 late_flag : (bits : List Bool) (m n : ℕ) → SevenOnesEndAt bits m → FlagEndsAt bits n → m < n → n ≤ m + 7 → ⊥
-late_flag bits m n s f later near =
-    let place : m - 7 + (n - 1 - m) ≡ n - 8 + 0 = omega (arith, s.room, f.room) in
-    false≢true (sym (f.spelled 0 (omega arith)) ∙ ap (bit_of bits) (sym place) ∙ s.ones (n - 1 - m) (omega arith))
+late_flag bits m n s f later near = grind (arith)
 
 pub along-open : (all past rest : List Bool) → all ≡ past ++ rest → (first : ℕ)
     → ((n : ℕ) → length past < n → FlagEndsAt all n → n ≤ first + 8) → (p : ℕ) → first ≤ p → OpenedAt past p → OnceAborted all past rest
@@ -122,11 +92,11 @@ along-open all past (b ∷ rest) e first near p low o =
     split = e ∙ sym (append_assoc past (b ∷ []) rest)
 
     near_more : (n : ℕ) → length (past ++ b ∷ []) < n → FlagEndsAt all n → n ≤ first + 8
-    near_more n l f = near n (omega (arith, l, length-snoc past b)) f
+    near_more n l f = near n (omega (arith, l, length_push past b)) f
 
     goes_on : found_at (past ++ b ∷ []) ≡ None → OnceAborted all (past ++ b ∷ []) rest → OnceAborted all past (b ∷ rest)
     goes_on here (inl (after, still)) = inl (rw (here, after) refl, still)
-    goes_on here (inr (place, later, within, after)) = inr (place, omega (arith, later, length-snoc past b), within, rw (here, after) refl)
+    goes_on here (inr (place, later, within, after)) = inr (place, omega (arith, later, length_push past b), within, rw (here, after) refl)
 
     each : (f s : Bool) → ends_with beq (past ++ b ∷ []) flag ≡ f → ends_with beq (past ++ b ∷ []) seven_ones ≡ s
         → ((q : ℕ) → first ≤ q → OpenedAt (past ++ b ∷ []) q → OnceAborted all (past ++ b ∷ []) rest) → OnceAborted all past (b ∷ rest)
@@ -142,20 +112,13 @@ along-open all past (b ∷ rest) e first near p low o =
         let here = found-ones past b (seven-aborts past b s (min 8 (length past - p)) (p, o, refl)) in
         let s_all = subst (λ l. SevenOnesEndAt l (length past + 1)) (sym split) (seven-front (past ++ b ∷ []) rest (length past + 1) s) in
         let never : (n : ℕ) → length (past ++ b ∷ []) < n → FlagEndsAt all n → ⊥ = λ n l f.
-        let close = near n (omega (arith, l, length-snoc past b)) f in
-        late_flag all (length past + 1) n s_all f (omega (arith, l, length-snoc past b)) (omega arith) in
+        let close = near n (omega (arith, l, length_push past b)) f in
+        late_flag all (length past + 1) n s_all f (omega (arith, l, length_push past b)) (omega arith) in
         let after = along-shut all (past ++ b ∷ []) rest split never (seven-shuts past b s) in
-        inr (
-          length (past ++ b ∷ []),
-          omega (arith, length-snoc past b),
-          omega (arith, ap length split, length-append {A = Bool} (past ++ b ∷ []) rest),
-          rw (here, after) refl,
-        )
+        grind (arith, split, length-append)
     each false false x y more =
-        let no_flag : FlagEndsAt (past ++ b ∷ []) (length past + 1) → ⊥ =
-        λ f. false≢true (sym x ∙ flag-ends (past ++ b ∷ []) (from_end past b f)) in
-        let no_seven : SevenOnesEndAt (past ++ b ∷ []) (length past + 1) → ⊥ =
-        λ s. false≢true (sym y ∙ seven-ends (past ++ b ∷ []) (seven_from_end past b s)) in
+        let no_flag : FlagEndsAt (past ++ b ∷ []) (length past + 1) → ⊥ = grind (arith, flag-ends, from_end) in
+        let no_seven : SevenOnesEndAt (past ++ b ∷ []) (length past + 1) → ⊥ = grind (arith, seven-ends, seven_from_end) in
         let none = quiet past b no_flag no_seven in
         goes_on (found-quiet past b none.0 none.1) (more p low (opened-stays past b p o no_flag no_seven))
 

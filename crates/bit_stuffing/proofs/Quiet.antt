@@ -1,26 +1,18 @@
 -- Octets with whose bits nothing ends.
+use Rattle.std.proofs.lemmas.List.{length_push}
 use Rattle.bit_stuffing.proofs.Names.{◌≡◌, ◌⊎◌, ℕ, zero, suc, ◌+◌, ◌-◌, ◌*◌, ◌/◌, ◌%◌, ◌^◌, ◌<◌, ◌≤◌, min, Bool, true, false, not, nat_eq}
 use Rattle.bit_stuffing.proofs.Names.{List, [], ◌∷◌, ◌++◌, length, drop, Some, None, bit_and, lit<, arith, append_assoc, refl, sym, ◌∙◌, ap}
-use Rattle.bit_stuffing.proofs.Names.{subst, inl, inr, cases_lt, false≢true, eqb-true, nat_tests, common_steps, append-nil, bit_at-suc}
+use Rattle.bit_stuffing.proofs.Names.{subst, inl, inr, cases_lt, eqb-true, common_steps, append-nil, bit_at-suc}
 use Rattle.bit_stuffing.proofs.Names.{bit_at_cat_low, bit_at, back, HoldsLatest, CountsSince, Finding, Finds, IsQuiet, bit_of, FlagEndsAt}
 use Rattle.bit_stuffing.proofs.Names.{SevenOnesEndAt, OpenedAt, listed, number, octet_bits}
 use Rattle.std.proofs.lemmas.Nat.Bits.{bit_at_and, bit_at_cat_high, bit_at-zero}
 use Rattle.bit_stuffing.specs.Found.{pieces_of}
 use Rattle.bit_stuffing.proofs.Latest.{below8, back-within}
-use Rattle.bit_stuffing.proofs.Places.{length-snoc}
 use Rattle.bit_stuffing.proofs.Openings.{opened-stays, opened-was, at_end, seven_at_end}
 use Rattle.bit_stuffing.proofs.Found.{found-quiet, pieces-more}
 
-pub none-of : (b : Bool) → not b ≡ true → b ≡ false
-none-of true e = absurd (false≢true e)
-none-of false e = refl
-
 pub zero-of : (n : ℕ) → not (nat_eq n 0) ≡ false → n ≡ 0
-zero-of n e = each (nat_eq n 0) refl
-  where
-    each : (b : Bool) → nat_eq n 0 ≡ b → n ≡ 0
-    each true q = eqb-true n 0 q
-    each false q = let yes : not (nat_eq n 0) ≡ true = rw q refl in absurd (false≢true (sym e ∙ yes))
+zero-of n e = grind (arith, eqb-true)
 
 -- the bits behind others
 bit-behind : (past s : List Bool) (i : ℕ) → bit_of (past ++ s) (length past + i) ≡ bit_of s i
@@ -38,28 +30,14 @@ long-both [] s = omega arith
 long-both (x ∷ past) s = omega (arith, long-both past s)
 
 back-at : (past s : List Bool) (k : ℕ) → k ≤ length s → back (past ++ s) k ≡ bit_of s (length s - k)
-back-at past s k l =
-    let place : length (past ++ s) - k ≡ length past + (length s - k) = omega (arith, long-both past s) in
-    back-within (past ++ s) k (omega (arith, long-both past s)) ∙ ap (bit_of (past ++ s)) place ∙ bit-behind past s (length s - k)
+back-at past s k l = grind (arith, long-both, back-within, bit-behind)
 
 back-before : (past s : List Bool) (k : ℕ) → 1 ≤ k → back (past ++ s) (k + length s) ≡ back past k
-back-before past s k some = elim (cases_lt (length past) k) [
-  | inl few ↦ past_all (past ++ s) (k + length s) (omega (arith, long-both past s)) ∙ sym (past_all past k few)
-  | inr many ↦
-      let place : length (past ++ s) - (k + length s) ≡ length past - k = omega (arith, long-both past s) in
-      back-within (past ++ s) (k + length s) (omega (arith, long-both past s)) ∙ ap (bit_of (past ++ s)) place
-      ∙ bit-front past s (length past - k) (omega arith) ∙ sym (back-within past k many)
-]
-  where
-    past_all : (bits : List Bool) (places : ℕ) → length bits < places → back bits places ≡ true
-    past_all bits places h = grind (arith, nat_tests)
+back-before past s k some = grind (arith, long-both, back-within, bit-front, back)
 
 -- the bits of an octet
 pub number-is : (n : ℕ) → number (nat_eq (n % 2) 1) ≡ n % 2
-number-is n = elim (cases_lt (n % 2) 1) [
-  | inl less ↦ let z : n % 2 ≡ 0 = omega arith in rw z refl
-  | inr more ↦ let o : n % 2 ≡ 1 = omega arith in rw o refl
-]
+number-is n = grind (arith)
 
 pub octet-bit : (octet place : ℕ) → place < 8 → number (bit_of (octet_bits octet) place) ≡ bit_at octet place
 octet-bit octet = below8 (λ place. number (bit_of (octet_bits octet) place) ≡ bit_at octet place)
@@ -73,14 +51,7 @@ octet-bit octet = below8 (λ place. number (bit_of (octet_bits octet) place) ≡
     (number-is (octet / 2 / 2 / 2 / 2 / 2 / 2 / 2) ∙ omega arith)
 
 pub latest-octet : (octet : ℕ) (past : List Bool) → octet < 256 → HoldsLatest octet (past ++ octet_bits octet)
-latest-octet octet past small = record { low = small; each = each }
-  where
-    each : (place : ℕ) → place < 8 → bit_at octet place ≡ number (back (past ++ octet_bits octet) (8 - place))
-    each place l =
-        let there : 8 - (8 - place) ≡ place = omega arith in
-        let bit : back (past ++ octet_bits octet) (8 - place) ≡ bit_of (octet_bits octet) place = back-at past (octet_bits octet)
-        (8 - place) (omega arith) ∙ ap (bit_of (octet_bits octet)) there in
-        sym (octet-bit octet place l) ∙ ap number (sym bit)
+latest-octet octet past small = grind (arith, number, back, back-at, octet-bit)
 
 -- the latest eight bits as a list
 pub latest-bits : (latest : ℕ) (past : List Bool) → HoldsLatest latest past → 8 ≤ length past
@@ -95,10 +66,7 @@ latest-bits latest past h many = same_bits (drop (length past - 8) past) (octet_
     dropped n xs i = grind (arith, common_steps)
 
     same_number : (a b : Bool) → number a ≡ number b → a ≡ b
-    same_number true true e = refl
-    same_number false false e = refl
-    same_number true false e = absurd (omega arith)
-    same_number false true e = absurd (omega arith)
+    same_number a b e = grind (arith)
 
     same_bits : (xs ys : List Bool) → length xs ≡ length ys → ((i : ℕ) → i < length ys → bit_of xs i ≡ bit_of ys i) → xs ≡ ys
     same_bits [] [] e f = refl
@@ -110,8 +78,7 @@ latest-bits latest past h many = same_bits (drop (length past - 8) past) (octet_
     each : (i : ℕ) → i < 8 → bit_of (drop (length past - 8) past) i ≡ bit_of (octet_bits latest) i
     each i l =
         let place : length past - (8 - i) ≡ length past - 8 + i = omega arith in
-        let seen : back past (8 - i) ≡ bit_of past (length past - 8 + i) = back-within past (8 - i) (omega arith)
-        ∙ ap (bit_of past) place in
+        let seen : back past (8 - i) ≡ bit_of past (length past - 8 + i) = grind (arith, back-within) in
         same_number (bit_of (drop (length past - 8) past) i) (bit_of (octet_bits latest) i)
         (ap number (dropped (length past - 8) past i ∙ sym seen) ∙ sym (h.each i l) ∙ sym (octet-bit latest i l))
 
@@ -132,8 +99,7 @@ six-ones bits none i ones =
     (two (suc (suc i)) (at 2 (omega arith) (lit< tt)) (at 3 (omega arith) (lit< tt))))
     (ap (λ x. bit_at x i) sixteenth ∙ quarter (twos / 4) i ∙ quarter twos (suc (suc i))
     ∙ two (suc (suc (suc (suc i)))) (at 4 (omega arith) (lit< tt)) (at 5 (omega arith) (lit< tt))) in
-    let zero_bit : 0 ≡ 1 = sym (bit_at-zero i) ∙ ap (λ n. bit_at n i) (sym none) ∙ y in
-    omega (arith, zero_bit)
+    let zero_bit : 0 ≡ 1 = sym (bit_at-zero i) ∙ ap (λ n. bit_at n i) (sym none) ∙ y in grind (arith)
   where
     twos : ℕ
     twos = bit_and bits (bits / 2)
@@ -165,8 +131,7 @@ window-bit latest octet past h i l =
           ∙ ap number (sym (ap (back (past ++ octet_bits octet)) place ∙ back-before past (octet_bits octet) (8 - i) (omega arith)))
       | inr newer ↦
           let there : 8 - (16 - i) ≡ i - 8 = omega arith in
-          let bit : back (past ++ octet_bits octet) (16 - i) ≡ bit_of (octet_bits octet) (i - 8) = back-at past (octet_bits octet)
-          (16 - i) (omega arith) ∙ ap (bit_of (octet_bits octet)) there in
+          let bit : back (past ++ octet_bits octet) (16 - i) ≡ bit_of (octet_bits octet) (i - 8) = grind (arith, back-at) in
           ap (λ x. bit_at x i) cat ∙ bit_at_cat_high octet 8 latest i h.low newer ∙ sym (octet-bit octet (i - 8) (omega arith))
           ∙ ap number (sym bit)
     ]
@@ -184,13 +149,7 @@ quiet-octet latest octet past h none = record {
     all = past ++ octet_bits octet
 
     inner : (j : ℕ) → j < 6 → bit_of (false ∷ true ∷ true ∷ true ∷ true ∷ true ∷ true ∷ false ∷ []) (suc j) ≡ true
-    inner zero l = refl
-    inner (suc zero) l = refl
-    inner (suc (suc zero)) l = refl
-    inner (suc (suc (suc zero))) l = refl
-    inner (suc (suc (suc (suc zero)))) l = refl
-    inner (suc (suc (suc (suc (suc zero))))) l = refl
-    inner (suc (suc (suc (suc (suc (suc j)))))) l = absurd (omega arith)
+    inner j l = grind (arith)
 
     six : (n : ℕ) → length past < n → n ≤ length all → 7 ≤ n → ((j : ℕ) → j < 6 → bit_of all (n - 7 + j) ≡ true) → ⊥
     six n above within room ones = none (n + 9 - length all) (λ j l.
@@ -202,20 +161,10 @@ quiet-octet latest octet past h none = record {
 
 -- what is open and found stays as it was
 flag-lift : (bits s : List Bool) (n : ℕ) → FlagEndsAt bits n → FlagEndsAt (bits ++ s) n
-flag-lift bits s n f = record {
-  room = f.room;
-  within = omega (arith, f.within, long-both bits s);
-  spelled = λ i l. bit-front bits s
-      (n - 8 + i) (omega (arith, f.room, f.within)) ∙ f.spelled i l;
-}
+flag-lift bits s n f = grind (arith, long-both, bit-front)
 
 seven-lift : (bits s : List Bool) (n : ℕ) → SevenOnesEndAt bits n → SevenOnesEndAt (bits ++ s) n
-seven-lift bits s n f = record {
-  room = f.room;
-  within = omega (arith, f.within, long-both bits s);
-  ones = λ i l. bit-front bits s
-      (n - 7 + i) (omega (arith, f.room, f.within)) ∙ f.ones i l;
-}
+seven-lift bits s n f = grind (arith, long-both, bit-front)
 
 pub record Rests (past all : List Bool) : Type 0 where
   pub pieces : pieces_of all ≡ pieces_of past
@@ -223,8 +172,7 @@ pub record Rests (past all : List Bool) : Type 0 where
   pub was : (p : ℕ) → OpenedAt all p → OpenedAt past p
 
 pub quiet-rests : (past s : List Bool) → IsQuiet past s → Rests past (past ++ s)
-quiet-rests past [] q = let same : past ≡ past ++ [] = sym (append-nil past) in subst (Rests past) same
-    (record { pieces = refl; stays = λ p o. o; was = λ p o. o })
+quiet-rests past [] q = grind (arith, append-nil)
 quiet-rests past (b ∷ s) q =
     let joined = append_assoc past (b ∷ []) s in
     let no_flag : FlagEndsAt (past ++ b ∷ []) (length past + 1)
@@ -234,8 +182,8 @@ quiet-rests past (b ∷ s) q =
     → ⊥ = λ f. q.no_seven (length past + 1) (omega arith)
     (subst (λ l. SevenOnesEndAt l (length past + 1)) joined (seven-lift (past ++ b ∷ []) s (length past + 1) f)) in
     let rest : IsQuiet (past ++ b ∷ []) s = record {
-      no_flag = λ n above f. q.no_flag n (omega (arith, above, length-snoc past b)) (subst (λ l. FlagEndsAt l n) joined f);
-      no_seven = λ n above f. q.no_seven n (omega (arith, above, length-snoc past b)) (subst (λ l. SevenOnesEndAt l n) joined f);
+      no_flag = λ n above f. q.no_flag n (omega (arith, above, length_push past b)) (subst (λ l. FlagEndsAt l n) joined f);
+      no_seven = λ n above f. q.no_seven n (omega (arith, above, length_push past b)) (subst (λ l. SevenOnesEndAt l n) joined f);
     } in
     let r = quiet-rests (past ++ b ∷ []) s rest in
     let none = found-quiet past b (λ a. no_seven (seven_at_end past b a.seventh)) (λ c. no_flag (at_end past b c.closing)) in
@@ -246,7 +194,7 @@ quiet-rests past (b ∷ s) q =
       was = λ p o.
           let w = r.was p o in
           elim (cases_lt (length past) p) [
-            | inl above ↦ let last : p ≡ length past + 1 = omega (arith, w.flag_ends.within, length-snoc past b) in absurd
+            | inl above ↦ let last : p ≡ length past + 1 = omega (arith, w.flag_ends.within, length_push past b) in absurd
                 (before (subst (OpenedAt (past ++ b ∷ [])) last w))
             | inr within ↦ opened-was past b p within w
           ];

@@ -1,12 +1,12 @@
 -- What is found in slots is what was sent in them.
-use Rattle.bit_stuffing.proofs.Names.{◌≡◌, ◌⊎◌, inl, inr, ℕ, ◌+◌, ◌-◌, ◌%◌, ◌<◌, ◌≤◌, Bool, true, false, List, [], ◌∷◌, ◌++◌, All, length}
+use Rattle.bit_stuffing.proofs.Names.{◌≡◌, ◌⊎◌, ℕ, ◌+◌, ◌-◌, ◌%◌, ◌<◌, ◌≤◌, Bool, true, false, List, [], ◌∷◌, ◌++◌, All, length}
 use Rattle.bit_stuffing.proofs.Names.{Some, None, arith, append_assoc, length-append, refl, sym, ◌∙◌, ap, subst, append-nil, All-append}
 use Rattle.bit_stuffing.proofs.Names.{All-cons, All-nil, Found, listed, IsWhole, content, Slot, flags, fill, rest_of_flag, opening}
 use Rattle.bit_stuffing.proofs.Names.{slot_bits, next_phase, bits_from, phase_from, sent_bits, IsFrame, IsSlot, Plain, Flags, stuffed}
 use Rattle.bit_stuffing.proofs.Names.{Whole, Aborted, bits_of}
 use Rattle.bit_stuffing.specs.Found.{found_at, pieces_of}
 use Rattle.bit_stuffing.specs.Slots.{phase_after, flags_behind, frames_of, AreSlots}
-use Rattle.bit_stuffing.specs.Sent.{Added, whole_at, aborted_at, FoundIn, SlotAdds, octets_if_whole, wholes}
+use Rattle.bit_stuffing.specs.Sent.{Added, whole_at, FoundIn, SlotAdds, octets_if_whole, wholes}
 use Rattle.bit_stuffing.proofs.Stuffed.{stuffs-stuffed}
 use Rattle.bit_stuffing.proofs.Found.{found-place, found-whole, pieces-none}
 use Rattle.bit_stuffing.proofs.Fill.{bits-append}
@@ -17,11 +17,7 @@ use Rattle.bit_stuffing.proofs.Frames.{Framed, frame-found, before_last, slot-sp
 use Rattle.bit_stuffing.proofs.Plain.{counts-start, plain-shut, plain-none, plain-once}
 
 sent-whole : (sent : List ℕ) → IsFrame sent → IsWhole (stuffed 5 (bits_of sent)) sent
-sent-whole sent f = record {
-  carries = record { small = f.small; stuffs = stuffs-stuffed 0 5 (bits_of sent) refl };
-  low = f.low;
-  high = f.high;
-}
+sent-whole sent f = assumption (stuffs-stuffed 0 5 (bits_of sent) refl)
 
 -- the frame of a slot is found at its closing flag
 module _ (past : List Bool) (behind : Bool) (k : Counters) (phase : ℕ) (sent : List ℕ) (h : Counts k past)
@@ -41,16 +37,9 @@ module _ (past : List Bool) (behind : Bool) (k : Counters) (phase : ℕ) (sent :
       let joined : (past ++ (rest_of_flag phase ++ flags 4)) ++ (stuffed 5 (bits_of sent) ++ seven) ≡ past ++ before_last phase sent =
       append_assoc past (rest_of_flag phase ++ flags 4) (stuffed 5 (bits_of sent) ++ seven) in
       let bits : List Bool = (past ++ (rest_of_flag phase ++ flags 4)) ++ (stuffed 5 (bits_of sent) ++ seven) in
-      let whole : IsWhole (content (bits ++ false ∷ []) framed.closed.opened) sent =
-      subst (λ l. IsWhole l sent) (sym (framed.content_is framed.closed)) (sent-whole sent frame) in
-      let place : length (bits ++ false ∷ []) ≡ length past + length (opening phase (Some sent)) =
-      omega (
-        arith,
-        length-append {A = Bool} bits (false ∷ []),
-        ap length joined,
-        length-append {A = Bool} past (before_last phase sent),
-        last_place phase sent,
-      ) in
+      let whole : IsWhole (content (bits ++ false ∷ []) framed.closed.opened) sent = grind (arith, framed, sent-whole) in
+      let place : length (bits ++ false ∷ []) ≡ length past + length (opening phase (Some sent))
+      = grind (arith, length-append, last_place) in
       ap (λ l. found_at (l ++ false ∷ [])) (sym joined) ∙ found-whole bits false framed.closed sent whole
       ∙ ap (λ n. Some (whole_at n sent)) place
 
@@ -116,8 +105,7 @@ pub record LeaveAll (size : ℕ) (past : List Bool) (behind : Bool) (phase : ℕ
 -- the state behind one more slot
 flags_behind-more : (behind : Bool) (slot : Slot) (slots : List Slot)
     → flags_behind (flags_behind behind (slot ∷ [])) slots ≡ flags_behind behind (slot ∷ slots)
-flags_behind-more behind (Plain bits) slots = refl
-flags_behind-more behind (Flags frame) slots = refl
+flags_behind-more behind slot slots = grind (arith)
 
 pub slots-leave : (size : ℕ) (past : List Bool) (behind : Bool) (k : Counters) (phase : ℕ) (slots : List Slot) → Counts k past
     → Between behind k phase → AreSlots size phase slots → LeaveAll size past behind phase slots
@@ -196,15 +184,7 @@ one_expected found h = All-cons IsExpected found [] h (All-nil IsExpected)
 
 slot-expected : (size start phase : ℕ) (behind : Bool) (slot : Slot) (found : List Found) → FoundIn size start phase behind slot found
     → AreExpected found (frames_of (slot ∷ []))
-slot-expected size start phase true (Plain bits) found h =
-    subst (λ f. AreExpected f []) (sym h.3) (record { octets = refl; pieces = one_expected (aborted_at h.0) (inr refl) })
-slot-expected size start phase false (Plain bits) found h =
-    subst (λ f. AreExpected f []) (sym h) (record { octets = refl; pieces = All-nil IsExpected })
-slot-expected size start phase behind (Flags None) found h =
-    subst (λ f. AreExpected f []) (sym h) (record { octets = refl; pieces = All-nil IsExpected })
-slot-expected size start phase behind (Flags (Some octets)) found h =
-    subst (λ f. AreExpected f (octets ∷ [])) (sym h)
-    (record { octets = refl; pieces = one_expected (whole_at (start + length (opening phase (Some octets))) octets) (inl refl) })
+slot-expected size start phase behind slot found h = grind (arith, one_expected)
 
 both_expected : (xs ys : List Found) (frames more : List (List ℕ)) → AreExpected xs frames → AreExpected ys more
     → AreExpected (xs ++ ys) (frames ++ more)

@@ -1,9 +1,9 @@
 -- How many bits slots have.
 use Rattle.bit_stuffing.proofs.Names.{◌≡◌, inl, inr, ℕ, zero, suc, ◌+◌, ◌-◌, ◌*◌, ◌/◌, ◌<◌, ◌≤◌, Bool, true, false, not, ◌&&◌, List, []}
 use Rattle.bit_stuffing.proofs.Names.{◌∷◌, ◌++◌, length, take, replicate, Some, None, arith, length-append, length-drop, refl, sym, ◌∙◌, ap}
-use Rattle.bit_stuffing.proofs.Names.{subst, cases_lt, false≢true, append-nil, get_or_default, same_lists, beq, pointwise, ends_with}
+use Rattle.bit_stuffing.proofs.Names.{subst, cases_lt, false≢true, append-nil, beq, pointwise, ends_with}
 use Rattle.bit_stuffing.proofs.Names.{bit_of, flag, FlagEndsAt, seven_ones, Slot, flags, rest_of_flag, opening, slot_bits, IsPlain, IsSlot}
-use Rattle.bit_stuffing.proofs.Names.{Plain, Flags, stuffed, length-bits_of, bits_of}
+use Rattle.bit_stuffing.proofs.Names.{stuffed, length-bits_of, bits_of}
 use Rattle.std.specs.List.{starts_with}
 use Rattle.std.proofs.lemmas.List.{length-replicate, get_or-replicate, get_or-take}
 use Rattle.bit_stuffing.specs.Slots.{are_flagless}
@@ -13,9 +13,7 @@ use Rattle.bit_stuffing.proofs.Fill.{filled-up}
 use Rattle.bit_stuffing.proofs.Plain.{bit-left, bit-right}
 
 pub length-slot_bits : (size phase : ℕ) (slot : Slot) → IsSlot size phase slot → length (slot_bits size phase slot) ≡ size
-length-slot_bits size phase (Plain bits) is = is.full
-length-slot_bits size phase (Flags None) is = filled-up (opening phase None) size is
-length-slot_bits size phase (Flags (Some octets)) is = filled-up (opening phase (Some octets)) size is.1
+length-slot_bits size phase slot is = grind (arith, filled-up)
 
 -- stuffing adds a bit for five at most
 short_stuffing : (room : ℕ) (content : List Bool) → room ≤ 5 → 5 * length (stuffed room content) + room ≤ 6 * length content + 5
@@ -27,17 +25,10 @@ short_stuffing (suc room) (true ∷ content) h = omega (arith, short_stuffing ro
 short_stuffing (suc room) (false ∷ content) h = omega (arith, short_stuffing 5 content (omega arith))
 
 short_rest : (phase : ℕ) → phase < 8 → length (rest_of_flag phase) ≤ 7
-short_rest zero h = omega arith
-short_rest (suc phase) h = omega (arith, length-drop (suc phase) flag)
+short_rest phase h = grind (arith, length-drop)
 
 pub length-empty : (phase : ℕ) → phase < 8 → length (opening phase None) ≤ 39
-length-empty phase low =
-    omega (
-      arith,
-      short_rest phase low,
-      ap length (append-nil (rest_of_flag phase ++ flags 4)),
-      length-append {A = Bool} (rest_of_flag phase) (flags 4),
-    )
+length-empty phase low = grind (arith, short_rest, append-nil, flags, length-append)
 
 pub length-opening : (phase : ℕ) (octets : List ℕ) → phase < 8
     → length (opening phase (Some octets)) ≤ 47 + 8 * length octets + 8 * length octets / 5
@@ -66,16 +57,13 @@ plain-grows size more bits is =
     -- a place behind the given bits
     one : (i : ℕ) → length bits ≤ i → i < length bits + more → bit_of (bits ++ replicate more true) i ≡ true
     one i low high =
-        let place : length bits + (i - length bits) ≡ i = omega arith in
-        ap (bit_of (bits ++ replicate more true)) (sym place) ∙ bit-right bits (replicate more true) (i - length bits)
-        ∙ get_or-replicate more (i - length bits) true false (omega arith)
+        let place : length bits + (i - length bits) ≡ i = omega arith in grind (arith, bit-right, get_or-replicate)
 
     no_flag : (n : ℕ) → FlagEndsAt (bits ++ replicate more true) n → ⊥
     no_flag n f = elim (cases_lt (length bits) n) [
       | inl behind ↦
           let place : n - 8 + 7 ≡ n - 1 = omega (arith, f.room) in
-          let last : bit_of (bits ++ replicate more true) (n - 8 + 7) ≡ true =
-          ap (bit_of (bits ++ replicate more true)) place ∙ one (n - 1) (omega arith) (omega (arith, f.within, f.room, wide)) in
+          let last : bit_of (bits ++ replicate more true) (n - 8 + 7) ≡ true = grind (arith, one, wide) in
           false≢true (sym (f.spelled 7 (omega arith)) ∙ last)
       | inr front ↦ is.no_flag n
           record {
@@ -101,12 +89,7 @@ front-flag : (bits : List Bool) → FlagEndsAt bits 8 → starts_with beq bits f
 front-flag bits f = ap (pointwise beq flag) front ∙ bits-same flag
   where
     front : take 8 bits ≡ flag
-    front = same_lists (take 8 bits) flag (take-length bits 8 f.within) (λ i d l.
-        let near : i < 8 = omega (arith, l, take-length bits 8 f.within) in
-        let within : i < length bits = omega (arith, f.within) in
-        let place : i ≡ 8 - 8 + i = omega arith in
-        get_or-take 8 bits i d near ∙ get_or_default bits i d false within ∙ ap (bit_of bits) place ∙ f.spelled i near
-        ∙ get_or_default flag i false d near)
+    front = grind (arith, take-length, get_or-take)
 
 -- a flag farther back stands in the rest
 rest-flag : (bit : Bool) (bits : List Bool) (n : ℕ) → 8 < n → FlagEndsAt (bit ∷ bits) n → FlagEndsAt bits (n - 1)
@@ -117,8 +100,7 @@ rest-flag bit bits n far f = record {
 }
 
 not_both : (a b : Bool) → (not a && b) ≡ true → (a ≡ true → ⊥) × (b ≡ true)
-not_both true b e = absurd (false≢true e)
-not_both false b e = (λ f. false≢true f, e)
+not_both a b e = grind (arith)
 
 flagless-place : (bits : List Bool) → are_flagless bits ≡ true → (n : ℕ) → FlagEndsAt bits n → ⊥
 flagless-place [] t n f = absurd (omega (arith, f.room, f.within))

@@ -1,6 +1,6 @@
 -- The counters along flags and contents.
 use Rattle.bit_stuffing.proofs.Names.{◌≡◌, ℕ, zero, suc, ◌+◌, ◌-◌, ◌/◌, ◌%◌, ◌<◌, ◌≤◌, min, Bool, true, false, if◌then◌else◌, List, [], ◌∷◌}
-use Rattle.bit_stuffing.proofs.Names.{◌++◌, length, take, drop, Some, None, lit<, arith, refl, sym, ◌∙◌, ap, subst, flag, flags, fill}
+use Rattle.bit_stuffing.proofs.Names.{◌++◌, length, take, drop, Some, None, arith, refl, ap, flag, flags, fill}
 use Rattle.bit_stuffing.proofs.Names.{rest_of_flag, stuffed}
 use Rattle.bit_stuffing.proofs.Latest.{below8}
 use Rattle.bit_stuffing.proofs.Counters.{Counters, step, run, Still, run-append, still-append, still-of, Below6, few_not, run-both}
@@ -19,10 +19,7 @@ flag-open = (refl, still-of (open_at 0) flag refl)
 pub run-flags : (n : ℕ) → (run (open_at 0) (flags n) ≡ open_at 0) × Still (open_at 0) (flags n)
 run-flags zero = (refl, tt)
 run-flags (suc n) =
-    let r = run-flags n in (
-      run-append (open_at 0) flag (flags n) ∙ ap (λ k. run k (flags n)) flag-open.0 ∙ r.0,
-      still-append (open_at 0) flag (flags n) flag-open.1 (subst (λ k. Still k (flags n)) (sym flag-open.0) r.1),
-    )
+    let r = run-flags n in grind (arith, run-append, flags, run, flag-open, still-append)
 
 -- the states along bits in which no flag ends
 abbrev pub Goes : ℕ → ℕ → List Bool → Type 0
@@ -33,28 +30,15 @@ Goes ones count s = Below6 (record { ones = ones; since = Some count }) s
 step-is : (ones count : ℕ) (b : Bool) → ones < 6
     → step (record { ones = ones; since = Some count })
     b ≡ record { ones = if b then min ones 6 + 1 else 0; since = Some (min count 7 + 1) }
-step-is ones count true few = let n = few_not ones few in rw n refl
-step-is ones count false few = let n = few_not ones few in rw n refl
+step-is ones count b few = grind (arith, few_not)
 
 goes-more : (ones count next : ℕ) (b : Bool) (s : List Bool) → ones < 6 → count ≤ 8 → (if b then min ones 6 + 1 else 0) ≡ next
     → Goes next (min count 7 + 1) s → Goes ones count (b ∷ s)
-goes-more ones count next b s few low e g =
-    let now : step (record { ones = ones; since = Some count }) b ≡ record { ones = next; since = Some (min count 7 + 1) } =
-    step-is ones count b few ∙ ap (λ n. record { ones = n; since = Some (min count 7 + 1) }) e in
-    let sum : min 8 (min count 7 + 1 + length s) ≡ min 8 (count + length (b ∷ s)) = omega arith in
-    let k : Counters = record { ones = g.1.0; since = Some (min 8 (count + length (b ∷ s))) } in
-    let end : run (step (record { ones = ones; since = Some count }) b) s ≡ k =
-    ap (λ x. run x s) now ∙ g.1.2 ∙ ap (λ c. record { ones = g.1.0; since = Some c }) sum in
-    ((few, subst (λ x. Below6 x s) (sym now) g.0), (g.1.0, g.1.1, end))
+goes-more ones count next b s few low e g = grind (arith, step, step-is, run)
 
 -- the content of a frame
 pub run-stuffed : (room : ℕ) (m : List Bool) (ones count : ℕ) → ones + room ≡ 5 → count ≤ 8 → Goes ones count (stuffed room m)
-run-stuffed zero [] ones count sum low =
-    goes-more ones count 0 false [] (omega arith) low refl (goes-end 0 (min count 7 + 1) (omega arith) (omega arith))
-  where
-    goes-end : (ones count : ℕ) → ones ≤ 5 → count ≤ 8 → Goes ones count []
-    goes-end ones count few low = let e : count ≡ min 8 (count + 0) = omega arith in
-        (tt, (ones, few, ap (λ c. record { ones = ones; since = Some c }) e))
+run-stuffed zero [] ones count sum low = grind (arith, goes-more)
 run-stuffed zero (true ∷ m) ones count sum low =
     goes-more ones count 0 false (true ∷ stuffed 4 m) (omega arith) low refl
     (goes-more 0 (min count 7 + 1) 1 true (stuffed 4 m) (omega arith) (omega arith) refl
@@ -78,12 +62,7 @@ seven = false ∷ true ∷ true ∷ true ∷ true ∷ true ∷ true ∷ []
 pub run-seven : (ones count : ℕ) → ones < 6 → 1 ≤ count → count ≤ 8
     → Below6 (record { ones = ones; since = Some count }) seven
     × (run (record { ones = ones; since = Some count }) seven ≡ record { ones = 6; since = Some 8 })
-run-seven ones count few low high =
-    let now = step-is ones count false few in
-    let c : min (min (min (min (min (min (min count 7 + 1) 7 + 1) 7 + 1) 7 + 1) 7 + 1) 7 + 1) 7 + 1 ≡ 8 = omega arith in (
-      (few, subst (λ x. Below6 x (drop 1 seven)) (sym now) (lit< tt, (lit< tt, (lit< tt, (lit< tt, (lit< tt, (lit< tt, tt))))))),
-      ap (λ x. run x (drop 1 seven)) now ∙ ap (λ n. record { ones = 6; since = Some n }) c,
-    )
+run-seven ones count few low high = grind (arith, step-is, run)
 
 -- a flag that is cut, and the rest of it
 pub run-cut : (j : ℕ) → j < 8 → (run (open_at 0) (take j flag) ≡ open_at j) × Still (open_at 0) (take j flag)
@@ -111,10 +90,7 @@ run-rest = below8 (λ j. (run (open_at j) (rest_of_flag j) ≡ open_at 0) × Sti
 pub run-fill : (n : ℕ) → (run (open_at 0) (fill n) ≡ open_at (n % 8)) × Still (open_at 0) (fill n)
 run-fill n =
     let f = run-flags (n / 8) in
-    let r = run-cut (n % 8) (omega arith) in (
-      run-append (open_at 0) (flags (n / 8)) (take (n % 8) flag) ∙ ap (λ k. run k (take (n % 8) flag)) f.0 ∙ r.0,
-      still-append (open_at 0) (flags (n / 8)) (take (n % 8) flag) f.1 (subst (λ k. Still k (take (n % 8) flag)) (sym f.0) r.1),
-    )
+    let r = run-cut (n % 8) (omega arith) in grind (arith, run-append, flags, run, still-append)
 
 -- The state behind slots, and the flag phase: flags came last, or ones, or nothing did.
 abbrev pub Between : Bool → Counters → ℕ → Type 0

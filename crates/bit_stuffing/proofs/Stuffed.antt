@@ -5,9 +5,7 @@ use Rattle.bit_stuffing.specs.Stuffing.{StuffsFrom, Stuffs, stuffed, removed, ro
 use Rattle.bit_stuffing.specs.Stuffing.StuffsFrom.{End, Inserted, One, Zero}
 
 pub zero_first : (content : List Bool) → stuffed zero content ≡ false ∷ stuffed 5 content
-zero_first [] = refl
-zero_first (true ∷ content) = refl
-zero_first (false ∷ content) = refl
+zero_first content = grind (arith)
 
 pub is_stuffed : (room : ℕ) {ones : ℕ} {content line : List Bool} → StuffsFrom ones content line → ones + room ≡ 5
     → line ≡ stuffed room content
@@ -97,10 +95,7 @@ removed-snoc (suc room) (false ∷ s) b = ap (λ t. false ∷ t) (removed-snoc 5
 
 pub fits-snoc : (room : ℕ) (s : List Bool) (b : Bool) → Fits room s → (room_after room s ≡ 0 → b ≡ false) → Fits room (s ++ b ∷ [])
 fits-snoc zero [] b f h = (h refl, tt)
-fits-snoc (suc room) [] true f h = fits_empty room
-  where
-    fits_empty : (room : ℕ) → Fits room []
-    fits_empty room = tt
+fits-snoc (suc room) [] true f h = grind (arith)
 fits-snoc (suc room) [] false f h = tt
 fits-snoc zero (c ∷ s) b f h = (f.0, fits-snoc 5 s b f.1 h)
 fits-snoc (suc room) (true ∷ s) b f h = fits-snoc room s b f h

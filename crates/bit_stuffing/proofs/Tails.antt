@@ -1,14 +1,14 @@
 -- The pieces of a stream's last bits are the last of its pieces.
+use Rattle.std.proofs.lemmas.List.{length_push, drop-drop, drop_at, drop-take, get_or-append-add, map-append}
 use Rattle.bit_stuffing.proofs.Names.{◌≡◌, ℕ, ◌+◌, ◌-◌, ◌<◌, ◌≤◌, inl, inr, Bool, true, false, if◌then◌else◌, nat_lt, List, [], ◌∷◌, ◌++◌}
 use Rattle.bit_stuffing.proofs.Names.{All, length, take, drop, get_or, ◌⊎◌, Option, Some, None, arith, append_assoc, length-append, refl}
 use Rattle.bit_stuffing.proofs.Names.{sym, ◌∙◌, ap, subst, cases_lt, false≢true, nat_tests, append-nil, get_or_append_left, All-append}
-use Rattle.bit_stuffing.proofs.Names.{All-nil, beq, pointwise, ends_with, option_map, bit_of, flag, FlagEndsAt, SevenOnesEndAt, OpenedAt}
+use Rattle.bit_stuffing.proofs.Names.{beq, ends_with, option_map, bit_of, flag, FlagEndsAt, SevenOnesEndAt, OpenedAt}
 use Rattle.bit_stuffing.proofs.Names.{Found, seven_ones, found_from, listed, opened_before, content}
 use Rattle.std.proofs.Common.{map}
-use Rattle.std.proofs.lemmas.List.{drop-drop, drop_at, drop-take, get_or-append-add, map-append}
 use Rattle.bit_stuffing.specs.Found.{found_at, pieces_of, closed, aborted}
 use Rattle.bit_stuffing.specs.Tails.{behind, LastPiecesAreFound}
-use Rattle.bit_stuffing.proofs.Places.{length-snoc, flag-stays, flag-was}
+use Rattle.bit_stuffing.proofs.Places.{flag-stays, flag-was}
 use Rattle.bit_stuffing.proofs.Openings.{opened-once}
 use Rattle.bit_stuffing.proofs.EndsWith.{ends-flag, flag-ends}
 use Rattle.bit_stuffing.proofs.Found.{IsOpen, open_before, found-place, found-quiet, pieces-none}
@@ -21,33 +21,17 @@ bit-behind : (first rest : List Bool) (i place : ℕ) → place ≡ length first
 bit-behind first rest i place e = ap (bit_of (first ++ rest)) e ∙ get_or-append-add first rest i false
 
 flag-behind : (first rest : List Bool) (n : ℕ) → FlagEndsAt rest n → FlagEndsAt (first ++ rest) (length first + n)
-flag-behind first rest n f = record {
-  room = omega (arith, f.room);
-  within = omega (arith, f.within, length-append {A = Bool} first rest);
-  spelled = λ i l. bit-behind first rest (n - 8 + i) (length first + n - 8 + i) (omega (arith, f.room)) ∙ f.spelled i l;
-}
+flag-behind first rest n f = grind (arith, length-append, bit-behind)
 
 pub flag-ahead : (first rest : List Bool) (q : ℕ) → length first + 8 ≤ q → FlagEndsAt (first ++ rest) q → FlagEndsAt rest (q - length first)
-flag-ahead first rest q far f = record {
-  room = omega (arith, far);
-  within = omega (arith, f.within, length-append {A = Bool} first rest);
-  spelled = λ i l. sym (bit-behind first rest (q - length first - 8 + i) (q - 8 + i) (omega (arith, far))) ∙ f.spelled i l;
-}
+flag-ahead first rest q far f = grind (arith, length-append, bit-behind)
 
 seven-behind : (first rest : List Bool) (n : ℕ) → SevenOnesEndAt rest n → SevenOnesEndAt (first ++ rest) (length first + n)
-seven-behind first rest n s = record {
-  room = omega (arith, s.room);
-  within = omega (arith, s.within, length-append {A = Bool} first rest);
-  ones = λ i l. bit-behind first rest (n - 7 + i) (length first + n - 7 + i) (omega (arith, s.room)) ∙ s.ones i l;
-}
+seven-behind first rest n s = grind (arith, length-append, bit-behind)
 
 seven-ahead : (first rest : List Bool) (q : ℕ) → length first + 7 ≤ q → SevenOnesEndAt (first ++ rest) q
     → SevenOnesEndAt rest (q - length first)
-seven-ahead first rest q far s = record {
-  room = omega (arith, far);
-  within = omega (arith, s.within, length-append {A = Bool} first rest);
-  ones = λ i l. sym (bit-behind first rest (q - length first - 7 + i) (q - 7 + i) (omega (arith, far))) ∙ s.ones i l;
-}
+seven-ahead first rest q far s = grind (arith, length-append, bit-behind)
 
 -- a flag among the first bits
 pub flag-front : (bits more : List Bool) (n : ℕ) → n ≤ length bits → FlagEndsAt (bits ++ more) n → FlagEndsAt bits n
@@ -92,10 +76,7 @@ drop-behind : (first rest : List Bool) (k : ℕ) → drop (length first + k) (fi
 drop-behind first rest k = sym (drop-drop k (length first) (first ++ rest)) ∙ ap (drop k) (drop_at first rest (length first) refl)
 
 ends-behind : (first rest text : List Bool) → length text ≤ length rest → ends_with beq (first ++ rest) text ≡ ends_with beq rest text
-ends-behind first rest text room =
-    let place : length (first ++ rest) - length text ≡ length first + (length rest - length text) =
-    omega (arith, room, length-append {A = Bool} first rest) in
-    ap (λ bits. pointwise beq text bits) (ap (λ k. drop k (first ++ rest)) place ∙ drop-behind first rest (length rest - length text))
+ends-behind first rest text room = grind (arith, length-append, drop-behind)
 
 content-behind : (first rest : List Bool) (p : ℕ) → 8 ≤ length rest → content (first ++ rest) (length first + p) ≡ content rest p
 content-behind first rest p room =
@@ -108,10 +89,7 @@ content-behind first rest p room =
 by-tests : (n : ℕ) (flags far ones : Bool) (x y : Found)
     → (if flags then (if far then Some (behind n x) else None) else (if ones then Some (behind n y) else None))
     ≡ option_map (behind n) (if flags then (if far then Some x else None) else (if ones then Some y else None))
-by-tests n true true ones x y = refl
-by-tests n true false ones x y = refl
-by-tests n false far true x y = refl
-by-tests n false far false x y = refl
+by-tests n flags far ones x y = grind (arith)
 
 same-test : (n p l : ℕ) → nat_lt (n + p + 8) (n + l) ≡ nat_lt (p + 8) l
 same-test n p l = grind (arith, nat_tests)
@@ -145,13 +123,12 @@ found-behind first past bit n f =
         let e : q ≡ length first + p = opened-once (first ++ past) q (length first + p) theirs (opened-behind first past p mine) in
         ap (λ bits. found_from bits (Some q)) (append_assoc first past (bit ∷ []))
         ∙ ap (λ o. found_from (first ++ (past ++ bit ∷ [])) (Some o)) e
-        ∙ found_from-behind first (past ++ bit ∷ []) p (omega (arith, f.room, f.within, length-snoc past bit))
+        ∙ found_from-behind first (past ++ bit ∷ []) p (omega (arith, f.room, f.within, length_push past bit))
 
 -- ---- along bits
 
 listed-behind : (n : ℕ) (found : Option Found) → listed (option_map (behind n) found) ≡ map (behind n) (listed found)
-listed-behind n None = refl
-listed-behind n (Some found) = refl
+listed-behind n found = grind (arith)
 
 along-behind : (first past s : List Bool) (n : ℕ) → FlagEndsAt past n → along (first ++ past) s ≡ map (behind (length first)) (along past s)
 along-behind first past [] n f = refl
@@ -169,8 +146,7 @@ record Late (first past s : List Bool) (missed : List Found) : Type 0 where
   pub early : (n : ℕ) → FlagEndsAt (past ++ s) n → All (λ found. found.place ≤ length first + n) missed
 
 along-late : (first past s : List Bool) → ((n : ℕ) → FlagEndsAt past n → ⊥) → (missed : List Found) × Late first past s missed
-along-late first past [] none =
-    ([], record { all = refl; early = λ n f. All-nil (λ found. found.place ≤ length first + n) })
+along-late first past [] none = grind (arith)
 along-late first past (b ∷ s) none =
     by (ends_with beq (past ++ b ∷ []) flag) refl (λ still. along-late first (past ++ b ∷ []) s still)
   where
@@ -208,7 +184,7 @@ along-late first past (b ∷ s) none =
     by false e on =
         let still : (n : ℕ) → FlagEndsAt (past ++ b ∷ []) n → ⊥ = λ n f. elim (cases_lt (length past) n) [
           | inl last ↦
-              let place : n ≡ length (past ++ b ∷ []) = omega (arith, f.within, length-snoc past b) in
+              let place : n ≡ length (past ++ b ∷ []) = omega (arith, f.within, length_push past b) in
               false≢true (sym e ∙ flag-ends (past ++ b ∷ []) (subst (FlagEndsAt (past ++ b ∷ [])) place f))
           | inr sooner ↦ none n (flag-was past b n sooner f)
         ] in
@@ -228,13 +204,11 @@ last-pieces-are-found first rest =
     let own = pieces-stay [] first in
     let whole : pieces_of rest ≡ along [] rest = pieces-along [] rest ∙ ap (λ found. found ++ along [] rest) pieces-none in
     let mine : pieces_of first ≡ own.0 = own.1.all ∙ ap (λ found. found ++ own.0) pieces-none in
-    let behind_first : along first rest ≡ late.0 ++ map (behind (length first)) (pieces_of rest) =
-    ap (λ bits. along bits rest) (sym (append-nil first)) ∙ late.1.all
-    ∙ ap (λ found. late.0 ++ map (behind (length first)) found) (sym whole) in (
+    let behind_first : along first rest ≡ late.0 ++ map (behind (length first)) (pieces_of rest)
+    = grind (arith, append-nil, behind) in (
       pieces_of first ++ late.0,
       record {
-        all = pieces-along first rest ∙ ap (λ found. pieces_of first ++ found) behind_first
-            ∙ sym (append_assoc (pieces_of first) late.0 (map (behind (length first)) (pieces_of rest)));
+        all = grind (arith, pieces-along, append_assoc, behind);
         early = λ n f. All-append (λ found. found.place ≤ length first + n) (pieces_of first) late.0
             (λ k d h. let e = own.1.places k d (subst (λ found. k < length found) mine h) in
             let it = ap (λ found. get_or found k d) mine in omega (arith, e.1, ap (λ found. found.place) it))

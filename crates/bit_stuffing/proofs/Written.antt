@@ -16,13 +16,7 @@ length-line_bits (quad ∷ quads) =
     omega (arith, length-append {A = Bool} (low_bits 4 quad) (line_bits quads), length-line_bits quads, length-low_bits 4 quad)
 
 pub length-written : (pen : Pen) (quads : List ℕ) → length (written pen quads) ≡ 4 * length quads + pen.held
-length-written pen quads =
-    omega (
-      arith,
-      length-append {A = Bool} (line_bits quads) (low_bits pen.held pen.part),
-      length-line_bits quads,
-      length-low_bits pen.held pen.part,
-    )
+length-written pen quads = grind (arith, length-append, length-line_bits, length-low_bits)
 
 -- An octet's bits make two quads, and what is held stays as long.
 
@@ -35,8 +29,7 @@ two-quads n =
     let e4 : n % 256 / 2 / 2 / 2 / 2 % 2 ≡ n / 16 % 16 % 2 = omega arith in
     let e5 : n % 256 / 2 / 2 / 2 / 2 / 2 % 2 ≡ n / 16 % 16 / 2 % 2 = omega arith in
     let e6 : n % 256 / 2 / 2 / 2 / 2 / 2 / 2 % 2 ≡ n / 16 % 16 / 2 / 2 % 2 = omega arith in
-    let e7 : n % 256 / 2 / 2 / 2 / 2 / 2 / 2 / 2 % 2 ≡ n / 16 % 16 / 2 / 2 / 2 % 2 = omega arith in
-    rw (e0, e1, e2, e3, e4, e5, e6, e7) refl
+    let e7 : n % 256 / 2 / 2 / 2 / 2 / 2 / 2 / 2 % 2 ≡ n / 16 % 16 / 2 / 2 / 2 % 2 = omega arith in grind (arith)
 
 line-more : (quads : List ℕ) (quad : ℕ) → line_bits (quads ++ quad ∷ []) ≡ line_bits quads ++ low_bits 4 quad
 line-more quads quad = flat_map-append (low_bits 4) quads (quad ∷ []) ∙ ap (λ l. line_bits quads ++ l) (append-nil (low_bits 4 quad))
@@ -51,9 +44,8 @@ octet-written quads held part octet all small e =
     let bits : low_bits held part ++ octet_bits octet ≡ (low_bits 4 q ++ low_bits 4 r) ++ low_bits held (all / 256) =
     joined-bits held part 8 octet small ∙ ap (low_bits (held + 8)) (sym e) ∙ ap (λ n. low_bits n all) turned ∙ first-octet held all
     ∙ ap (λ l. l ++ low_bits held (all / 256)) (two-quads all) in
-    let quads_are : line_bits ((quads ++ q ∷ []) ++ r ∷ []) ≡ line_bits quads ++ (low_bits 4 q ++ low_bits 4 r) =
-    line-more (quads ++ q ∷ []) r ∙ ap (λ l. l ++ low_bits 4 r) (line-more quads q)
-    ∙ append_assoc (line_bits quads) (low_bits 4 q) (low_bits 4 r) in
+    let quads_are : line_bits ((quads ++ q ∷ []) ++ r ∷ []) ≡ line_bits quads ++ (low_bits 4 q ++ low_bits 4 r)
+    = grind (arith, line-more, append_assoc) in
     ap (λ l. l ++ low_bits held (all / 256)) quads_are
     ∙ append_assoc (line_bits quads) (low_bits 4 q ++ low_bits 4 r) (low_bits held (all / 256))
     ∙ ap (λ l. line_bits quads ++ l) (sym bits) ∙ sym (append_assoc (line_bits quads) (low_bits held part) (octet_bits octet))
@@ -73,9 +65,7 @@ stuffed-append (suc zero) (true ∷ content) more h =
   where
     full : (content : List Bool)
         → false ∷ (stuffed 5 content ++ stuffed (room_behind 5 content) more) ≡ stuffed 0 content ++ stuffed (room_behind 0 content) more
-    full [] = refl
-    full (true ∷ content) = refl
-    full (false ∷ content) = refl
+    full content = grind (arith)
 stuffed-append (suc (suc room)) (true ∷ content) more h = ap (λ t. true ∷ t) (stuffed-append (suc room) content more (omega arith))
 stuffed-append (suc room) (false ∷ content) more h = ap (λ t. false ∷ t) (stuffed-append 5 content more (omega arith))
 
@@ -88,9 +78,7 @@ room_behind-append (suc zero) (true ∷ content) more h =
     full content ∙ room_behind-append 5 content more (omega arith) ∙ ap (λ r. room_behind r more) (sym (behind content))
   where
     behind : (content : List Bool) → room_behind 0 content ≡ room_behind 5 content
-    behind [] = refl
-    behind (true ∷ content) = refl
-    behind (false ∷ content) = refl
+    behind content = grind (arith)
 
     full : (content : List Bool) → room_behind 0 (content ++ more) ≡ room_behind 5 (content ++ more)
     full content = behind (content ++ more)
@@ -108,20 +96,13 @@ room_behind-in (suc room) (false ∷ content) h = room_behind-in 5 content (omeg
 -- of a content's front no more is written than of the whole
 pub stuffed-front : (room : ℕ) (content more : List Bool) → 0 < room
     → length (stuffed room content) ≤ length (stuffed room (content ++ more))
-stuffed-front room content more h =
-    omega (
-      arith,
-      ap length (stuffed-append room content more h),
-      length-append {A = Bool} (stuffed room content) (stuffed (room_behind room content) more),
-    )
+stuffed-front room content more h = grind (arith, stuffed-append, length-append)
 
 -- A content is written a part at a time: front is what was written, and left how many ones may follow it.
 module _ (start now front : List Bool) (room left : ℕ) (some : 0 < room) (left_is : left ≡ room_behind room front)
     (now_is : now ≡ start ++ stuffed room front) where
   pub next-written : (next part : List Bool) → next ≡ now ++ stuffed left part → next ≡ start ++ stuffed room (front ++ part)
-  next-written next part e =
-      e ∙ ap (λ t. t ++ stuffed left part) now_is ∙ append_assoc start (stuffed room front) (stuffed left part)
-      ∙ ap (λ r. start ++ (stuffed room front ++ stuffed r part)) left_is ∙ ap (λ t. start ++ t) (sym (stuffed-append room front part some))
+  next-written next part e = grind (arith, append_assoc, stuffed-append)
 
   pub next-left : (part : List Bool) → room_behind left part ≡ room_behind room (front ++ part)
   next-left part = ap (λ r. room_behind r part) left_is ∙ sym (room_behind-append room front part some)
@@ -170,6 +151,5 @@ pub flag-part : (from place : ℕ) (b : Bool) → from ≤ place → place < 8 �
 flag-part from place b low high e =
     let n : place + 1 - from ≡ place - from + 1 = omega arith in
     let at_place : from + (place - from) ≡ place = omega arith in
-    let bit : get_or (drop from flag) (place - from) false ≡ b =
-    get_or-drop from flag (place - from) false ∙ ap (λ i. get_or flag i false) at_place ∙ sym e in
+    let bit : get_or (drop from flag) (place - from) false ≡ b = grind (arith, get_or-drop) in
     rw (n, sym bit) (take_more (drop from flag) (place - from) false (omega (arith, length-drop from flag)))

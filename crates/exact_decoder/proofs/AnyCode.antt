@@ -1,7 +1,7 @@
 -- What the laws of any code's table make of its survivors, whatever the states that sequences start in.
 use Rattle.exact_decoder.proofs.Names.{◌≡◌, ℕ, zero, suc, ◌+◌, ◌<◌, ◌≤◌, ◌⊎◌, inl, inr, nat_lt, Bool, true, false, ◌&&◌, List, [], ◌∷◌}
 use Rattle.exact_decoder.proofs.Names.{◌++◌, length, map, take, drop, arith, length-append, append_assoc, refl, sym, ◌∙◌, ap, subst, Option}
-use Rattle.exact_decoder.proofs.Names.{Some, None, cases_lt, cases_eq, lt-ltb, ltb-true, and_parts, false≢true, take-take, take-append-drop}
+use Rattle.exact_decoder.proofs.Names.{Some, None, cases_lt, cases_eq, lt-ltb, ltb-true, and_parts, take-take, take-append-drop}
 use Rattle.exact_decoder.proofs.Names.{take-append-le, take_all, length-take-le, heard, Beats, IsSurvivor, IsReleased, IsLost, LostIs}
 use Rattle.exact_decoder.proofs.Names.{Trellis, trellis_of, IsSequence, HasLaws, IsPrefixOf, distance_of, Sample, IsBounded, StaysWithin}
 use Rattle.exact_decoder.proofs.Names.{EntersOnce, Reaches, Leads, cost}
@@ -25,16 +25,7 @@ pub record IsCodeTable (table : ℕ → ℕ → Option ℕ) (states labels steps
 
 pub has-laws : (table : ℕ → ℕ → Option ℕ) (points : ℕ → Sample) (states labels steps : ℕ) → IsCodeTable table states labels steps
     → (starts : ℕ → Bool) → AreStarts states starts → HasLaws (trellis_of table points starts) states labels steps
-has-laws table points states labels steps code starts are = record {
-  bounded = code.bounded;
-  within = code.within;
-  enters_once = code.enters_once;
-  some_steps = code.some_steps;
-  reaches = code.reaches;
-  start = are.start;
-  starts_there = are.starts_there;
-  starts_within = are.within;
-}
+has-laws table points states labels steps code starts are = grind (arith)
 
 -- labels cost nothing against their own points, and no others do
 cost-own : (points : ℕ → Sample) (labels : List ℕ) → cost (λ label sample. distance_of (points label) sample) labels (map points labels) ≡ 0
@@ -52,8 +43,7 @@ no-cost table points states few s t u v (x ∷ a) (y ∷ b) bounded differ (m, i
     let rest : cost (λ label sample. distance_of (points label) sample) a (map points b) ≡ 0 = omega (arith, e) in
     let same : length a ≡ length b = omega arith in
     let one : x ≡ y = differ x y (bounded s x m i).1 (bounded t y n j).1 (equal_from_no_distance (points x) (points y) none) in
-    let tails : a ≡ b = no-cost table points states few m n u v a b bounded differ p q same rest in
-    rw (one, tails) refl
+    let tails : a ≡ b = no-cost table points states few m n u v a b bounded differ p q same rest in grind (arith)
 
 length-points : (points : ℕ → Sample) (labels : List ℕ) → length (map points labels) ≡ length labels
 length-points points [] = refl
@@ -101,8 +91,7 @@ pub releases-sent : (table : ℕ → ℕ → Option ℕ) (points : ℕ → Sampl
 releases-sent table points states few bounded differ starts labels samples n front h r =
     let part : take n samples ≡ map points (take n labels) = ap (take n) h.exact ∙ take-points points n labels in
     let l = Leads-take table n h.code_sequence.from labels h.end h.code_sequence.leads in
-    let first : IsCodeSequence table starts (take n labels) l.0 =
-    record { from = h.code_sequence.from; starts_there = h.code_sequence.starts_there; leads = l.1 } in
+    let first : IsCodeSequence table starts (take n labels) l.0 = grind (arith) in
     let p = (subst (λ k. IsReleased (trellis_of table points starts) k front) part r).common l.0 (take n labels)
     (sent-survives table points states few starts (take n labels) l.0 bounded differ first) in
     (p.0 ++ drop n labels, sym (append_assoc front p.0 (drop n labels)) ∙ ap (λ k. k ++ drop n labels) p.1 ∙ take-append-drop n labels)
@@ -115,8 +104,7 @@ released-along : (table : ℕ → ℕ → Option ℕ) (points : ℕ → Sample) 
     → IsSequence (trellis_of table points a) samples labels end)
     → IsReleased (trellis_of table points a) samples front → IsReleased (trellis_of table points b) samples front
 released-along table points a b samples front to back r = record {
-  common = λ state labels v. r.common state labels
-      (record { sequence = back labels state v.sequence; best = λ other o. v.best other (to other state o) });
+  common = grind (arith);
   longest = λ other every. r.longest other
       (λ state labels v. every state labels
       (record { sequence = to labels state v.sequence; best = λ more o. v.best more (back more state o) }));
@@ -134,11 +122,7 @@ some-start starts (suc n) = next (starts n) refl (some-start starts n)
         → ((s : ℕ) × (s < suc n) × (starts s ≡ true)) ⊎ ((s : ℕ) → s < suc n → starts s ≡ true → ⊥)
     next b e (inl (s, l, f)) = inl (s, omega arith, f)
     next true e (inr none) = inl (n, omega arith, e)
-    next false e (inr none) = inr (λ s l f. elim (cases_lt s n) [
-      | inl less ↦ none s less f
-      | inr more ↦ let same : s ≡ n = omega arith in
-          false≢true (sym e ∙ subst (λ k. starts k ≡ true) same f)
-    ])
+    next false e (inr none) = grind (arith)
 
 -- a sequence of some labels starts in a state of the code
 starts-among : (table : ℕ → ℕ → Option ℕ) (points : ℕ → Sample) (states few : ℕ) (starts : ℕ → Bool) (samples : List Sample)
@@ -172,15 +156,7 @@ few-lost table points states labels steps depth starts samples symbol front code
 
     up : (xs : List Sample) (labels : List ℕ) (end : ℕ) → IsSequence (trellis_of table points (among states starts)) xs labels end
         → IsSequence (trellis_of table points starts) xs labels end
-    up xs l end q = record {
-      code_sequence =
-          record {
-            from = q.code_sequence.from;
-            starts_there = (and_parts (starts q.code_sequence.from) (nat_lt q.code_sequence.from states) q.code_sequence.starts_there).0;
-            leads = q.code_sequence.leads;
-          };
-      same_length = q.same_length;
-    }
+    up xs l end q = grind (arith)
 
     down : (xs : List Sample) → 1 ≤ length xs → (labels : List ℕ) (end : ℕ) → IsSequence (trellis_of table points starts) xs labels end
         → IsSequence (trellis_of table points (among states starts)) xs labels end
@@ -204,11 +180,7 @@ few-lost table points states labels steps depth starts samples symbol front code
         } in
         let xs : List Sample = take symbol samples in
         let long : length xs ≡ symbol = length-take-le symbol samples (omega (arith, lost.within)) in
-        let many : 1 ≤ length xs = elim (cases_lt 0 symbol) [
-          | inl m ↦ omega arith
-          | inr m ↦ let z : symbol ≡ 0 = omega arith in
-              absurd (some z)
-        ] in
+        let many : 1 ≤ length xs = grind (arith) in
         let one = some-released (trellis_of table points (among states starts)) _ _ _ xs (has-laws _ _ _ _ _ code _ starts_in) in
         let old = released-along _ _ _ _ _ _ (up _) (down _ many) one.1 in
         let cut : take (symbol + 1) samples ≡ xs ++ drop symbol (take (symbol + 1) samples) =

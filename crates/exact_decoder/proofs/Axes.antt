@@ -38,8 +38,7 @@ line : (x from metric k : ℕ) (at : ℤ) → x < 65536 → from < 65536 → at 
 line x from metric k at l low is key tie =
     let gap = unsigned_abs (at -ℤ coordinate x) in
     let s = square_of_gap from x gap (omega (arith, ints)) in
-    let t = square_of_gap 32768 x (unsigned_abs (pos 0 -ℤ coordinate x)) (omega (arith, ints)) in
-    record { metric = metric; key_is = key; tied = omega arith; close = square-small gap (omega (arith, ints)) }
+    let t = square_of_gap 32768 x (unsigned_abs (pos 0 -ℤ coordinate x)) (omega (arith, ints)) in grind (arith, square-small)
 
 -- the metrics of lines below 0, and above
 abbrev low : ℕ → ℕ → ℕ

@@ -1,6 +1,6 @@
 -- Several samples more.
-use Rattle.exact_decoder.proofs.Names.{◌≡◌, ℕ, ◌+◌, ◌≤◌, min, inl, inr, List, [], ◌∷◌, ◌++◌, length, Option, arith, append_assoc}
-use Rattle.exact_decoder.proofs.Names.{length-append, sym, subst, min-le_left, min-le_right, min-eq_left, min-eq_right, cases_lt}
+use Rattle.exact_decoder.proofs.Names.{◌≡◌, ℕ, ◌+◌, ◌≤◌, min, List, [], ◌∷◌, ◌++◌, length, Option, arith, append_assoc}
+use Rattle.exact_decoder.proofs.Names.{length-append, subst, min-le_left, min-le_right, min-eq_left, min-eq_right}
 use Rattle.exact_decoder.proofs.Names.{append-nil, SteppedEach, Kept, KeepsSurvivors, Stepped, trellis_of, Sample, IsBounded, StaysWithin}
 use Rattle.exact_decoder.proofs.Names.{Reaches, EntersOnce}
 use Rattle.exact_decoder.specs.Batches.{IsSmallAfter}
@@ -9,11 +9,7 @@ use Rattle.exact_decoder.proofs.Spreading.{spread-next}
 
 module _ (table : ℕ → ℕ → Option ℕ) (points : ℕ → Sample) (states labels reach : ℕ) where
   pub stepped-none : (k : Kept) → SteppedEach table points states reach [] k k
-  stepped-none k = record {
-    keeps = λ starts past front h. subst (λ s. KeepsSurvivors (trellis_of table points starts) k s front) (sym (append-nil past)) h;
-    small = λ count h. subst (λ n. IsSmallAfter table states reach n k) (omega arith) h;
-    longer = omega arith;
-  }
+  stepped-none k = grind (arith, append-nil)
 
   pub stepped-more : (samples : List Sample) (sample : Sample) (old mid new : Kept) → IsBounded table states labels
       → StaysWithin table states labels → Reaches table states labels reach → EntersOnce table states labels
@@ -40,7 +36,4 @@ pub heard-fit : (given room heard : ℕ) → heard ≡ min given room → heard 
 heard-fit given room heard is = omega (arith, is, min-le_right given room)
 
 pub some-heard : (given room heard : ℕ) → heard ≡ min given room → 1 ≤ room → 1 ≤ given → 1 ≤ heard
-some-heard given room heard is r g = elim (cases_lt given room) [
-  | inl few ↦ let all : min given room ≡ given = min-eq_left (omega arith) in omega (arith, is, all)
-  | inr many ↦ let all : min given room ≡ room = min-eq_right (omega arith) in omega (arith, is, all)
-]
+some-heard given room heard is r g = grind (arith, min-eq_left, min-eq_right)

@@ -66,9 +66,7 @@ least_of_eight k least e = record {
   place = own.0;
   within = own.1;
   is = e ∙ p.is ∙ own.2;
-  below_each = each_of_eight (λ i. least ≤ k i) (left 0 0 4 (omega arith) refl) (left 2 1 5 (omega arith) refl)
-      (left 1 2 6 (omega arith) refl) (left 3 3 7 (omega arith) refl) (right 0 0 4 (omega arith) refl) (right 2 1 5 (omega arith) refl)
-      (right 1 2 6 (omega arith) refl) (right 3 3 7 (omega arith) refl);
+  below_each = grind (arith, each_of_eight, left, right);
 }
   where
     pairs : ℕ → ℕ

@@ -15,8 +15,8 @@ use Rattle.std.proofs.lemmas.List.FromFn.{get_or-map-range_with_len}
 use Rattle.std.proofs.lemmas.List.Elements.{All-cons}
 use Rattle.exact_decoder.specs.Settled.{settled}
 use Rattle.exact_decoder.specs.Traced.{Part}
-use Rattle.exact_decoder.proofs.Subsets.{label-within, set-index, set-index_here}
-use Rattle.exact_decoder.proofs.Stepping.{IsCode, AreKeys, map-at, map-past, sum-near, entry-near, entry-far, known-at, key-parts}
+use Rattle.exact_decoder.proofs.Subsets.{set-index, set-index_here}
+use Rattle.exact_decoder.proofs.Stepping.{IsCode, AreKeys, map-at, map-past, sum-near, entry-near, entry-far, known-at}
 use Rattle.exact_decoder.proofs.Stepping.{chosen-all}
 use Rattle.exact_decoder.proofs.Walking.{length-traced, traced-below}
 
@@ -31,17 +31,7 @@ pub parts-within : (table : ℕ → ℕ → Option ℕ) (points : ℕ → Sample
     → IsCode table states labels parallel subsets ways before subset
     → AreKeys points states parallel subsets ways before subset sample sums nearest entered → (slice_index entered to % 256 < states)
     × (slice_index entered to / 256 % 256 < labels)
-parts-within table points states labels parallel subsets ways before subset sample sums nearest entered to l code keys =
-    let way = keys.into to l in
-    let q = code.ways_within to way.place l way.within in
-    let near = keys.near (subset to way.place) q.1 in
-    let label = parallel * subset to way.place + near.place in
-    let in_labels : label < labels = label-within _ _ _ _ _ code.fill q.1 near.within in
-    let is : slice_index entered to ≡ slice_index sums (before to way.place) + (65536 * distance_of (points label) sample + 256 * label) =
-    way.key_is ∙ ap (λ x. slice_index sums (before to way.place) + x) near.key_is in
-    let parts = key-parts _ _ _ _ _ (keys.states_in (before to way.place) q.0) (omega (arith, q.0, code.states_few))
-    (omega (arith, in_labels, code.labels_few)) is in
-    (omega (arith, parts.2, q.0), omega (arith, parts.1, in_labels))
+parts-within table points states labels parallel subsets ways before subset sample sums nearest entered to l code keys = grind (arith)
 
 -- a key, and what it is settled as
 pub settled-near : (key least : ℕ) → key < far_key → settled key least ≡ key
@@ -73,8 +63,7 @@ pub reached-next : (table : ℕ → ℕ → Option ℕ) (points : ℕ → Sample
     → AllChosen table points sample sums entries
     → (s m : ℕ) → s < states → sums_at sums s ≡ Some m → (t : ℕ) × (n : ℕ) × (new_sums_at entries t ≡ Some n)
 reached-next table points states labels steps sample sums entries starts low reach h s m within reached =
-    let path = reach s s within within in
-    first path.0 path.1 path.2
+    let path = reach s s within within in grind (arith, first)
   where
     there : (mid label : ℕ) → table s label ≡ Some mid → (o : Option Entry) → entry_at entries mid ≡ o
         → Chooses (trellis_of table points starts) sample (sums_at sums) mid (option_map branch_of o) (option_map sum_of o) → (t : ℕ)
@@ -93,11 +82,9 @@ pub new_sum-known : (states : ℕ) (entered : List ℕ) (s m : ℕ) → length e
     → (s < states) × (slice_index entered s < far_key) × (slice_index entered s / 65536 ≡ m)
 new_sum-known states entered s m long e = elim (cases_lt s states) [
   | inl l ↦ elim (cases_lt (slice_index entered s) far_key) [
-    | inl near ↦ let is : new_sums_at (map entry_in entered) s ≡ Some (slice_index entered s / 65536) =
-        ap (option_map sum_of) (map-at entry_in entered s (omega arith) ∙ entry-near (slice_index entered s) near) in
+    | inl near ↦ let is : new_sums_at (map entry_in entered) s ≡ Some (slice_index entered s / 65536) = grind (arith, map-at, entry-near) in
         (l, near, same_Some _ _ (sym is ∙ e))
-    | inr far ↦ let is : new_sums_at (map entry_in entered) s ≡ None =
-        ap (option_map sum_of) (map-at entry_in entered s (omega arith) ∙ entry-far (slice_index entered s) far) in absurd cc
+    | inr far ↦ let is : new_sums_at (map entry_in entered) s ≡ None = grind (arith, map-at, entry-far, far) in absurd cc
   ]
   | inr l ↦ let none : new_sums_at (map entry_in entered) s ≡ None = ap (option_map sum_of) (map-past entry_in entered s (omega arith)) in
       absurd cc
@@ -119,15 +106,13 @@ new_sums-at : (states : ℕ) (entered new_sums : List ℕ) (least : ℕ) (column
 new_sums-at states entered new_sums least column s few long h = elim (cases_lt s states) [
   | inl l ↦ elim (cases_lt (slice_index entered s) far_key) [
     | inl near ↦
-        let is : slice_index new_sums s ≡ (slice_index entered s / 65536 - least / 65536) * 65536 + s =
-        h.levels s l ∙ leveled-near (slice_index entered s) least s near in
+        let is : slice_index new_sums s ≡ (slice_index entered s / 65536 - least / 65536) * 65536 + s = grind (arith, leveled-near) in
         let value : slice_index new_sums s / 65536 ≡ slice_index entered s / 65536 - least / 65536 = omega (arith, is) in
         map-at sum_in new_sums s (omega (arith, h.new_long)) ∙ sum-near (slice_index new_sums s) (omega (arith, is)) ∙ ap Some value
         ∙ sym (ap (option_map (λ n. n - least / 65536)) (new_sum-near states entered s long l near))
     | inr far ↦
         let is : slice_index new_sums s ≡ far_key + s = h.levels s l ∙ leveled-far (slice_index entered s) least s far in
-        let none : new_sums_at (map entry_in entered) s ≡ None =
-        ap (option_map sum_of) (map-at entry_in entered s (omega arith) ∙ entry-far (slice_index entered s) far) in
+        let none : new_sums_at (map entry_in entered) s ≡ None = grind (arith, map-at, entry-far, far) in
         map-at sum_in new_sums s (omega (arith, h.new_long)) ∙ sum-far (slice_index new_sums s) (omega (arith, is))
         ∙ sym (ap (option_map (λ n. n - least / 65536)) none)
   ]
@@ -162,8 +147,7 @@ covered-of states entered new_sums least column columns newer unreleased few lon
           let in_r = made.is_least.within in
           let near_r : slice_index entered r < far_key = omega (arith, made.is_least.least_is) in
           let mine : choice_at column s ≡ choice_in least = made.choices s l ∙ ap choice_in (settled-far _ _ far) in
-          let theirs : choice_at column r ≡ choice_in least =
-          made.choices r in_r ∙ ap choice_in (settled-near _ _ near_r ∙ sym made.is_least.least_is) in (
+          let theirs : choice_at column r ≡ choice_in least = grind (arith, settled-near) in (
             r,
             slice_index entered r / 65536 - least / 65536,
             in_r,
@@ -192,11 +176,7 @@ module _ (table : ℕ → ℕ → Option ℕ) (points : ℕ → Sample) (states 
     entries = map entry_in entered;
     chosen = λ starts to. chosen-all _ _ _ _ _ _ _ _ _ _ _ _ _ _ _ code keys;
     lowered = least / 65536;
-    lowest = (
-      made.is_least.state,
-      new_sum-near _ _ _ keys.entered_long made.is_least.within (omega (arith, made.is_least.least_is))
-          ∙ ap (λ n. Some (n / 65536)) (sym made.is_least.least_is),
-    );
+    lowest = grind (arith, new_sum-near, keys);
     least = λ s m f. let k = new_sum-known _ _ _ _ keys.entered_long f in omega (arith, made.is_least.below s k.0, k.2);
     sums = λ s. new_sums-at _ _ _ _ _ _ code.states_few keys.entered_long made;
     follow = λ s f g. goes s f g;
@@ -213,8 +193,7 @@ module _ (table : ℕ → ℕ → Option ℕ) (points : ℕ → Sample) (states 
           (map (traced (take unreleased columns)) (range_with_len 0 states)) f.before ++ f.label ∷ []
       goes s f g =
           let k = new_sum-known _ _ _ _ keys.entered_long (ap (option_map sum_of) g) in
-          let is : entry_in (slice_index entered s) ≡ Some f = sym (map-at entry_in entered s (omega (arith, k.0, keys.entered_long))) ∙ g
-          in
+          let is : entry_in (slice_index entered s) ≡ Some f = grind (arith, map-at, keys) in
           let same : record {
             before = slice_index entered s % 256;
             label = slice_index entered s / 256 % 256;
@@ -223,12 +202,7 @@ module _ (table : ℕ → ℕ → Option ℕ) (points : ℕ → Sample) (states 
           let choice : choice_at column s ≡ choice_in (slice_index entered s) = made.choices s k.0 ∙ ap choice_in (settled-near _ _ k.1) in
           let b : (choice_at column s).before ≡ f.before = ap (λ c. c.before) choice ∙ ap (λ x. x.before) same in
           let l : (choice_at column s).label ≡ f.label = ap (λ c. c.label) choice ∙ ap (λ x. x.label) same in
-          let within : f.before < states =
-          omega (
-            arith,
-            ap (λ x. x.before) same,
-            (parts-within table points states labels parallel subsets ways before subset sample sums nearest entered s k.0 code keys).0,
-          ) in
+          let within : f.before < states = grind (arith, parts-within, keys) in
           tail-at _ (take (unreleased + 1) newer) _ k.0 ∙ ap (λ c. traced c s) (newest-more _ _ _ _ room e)
           ∙ ap (λ x. traced (take unreleased columns) x ++ (choice_at column s).label ∷ []) b
           ∙ ap (λ x. traced (take unreleased columns) f.before ++ x ∷ []) l
@@ -352,8 +326,7 @@ least_sum-of states sums least few long states_in some h =
         sum = slice_index sums r / 65536;
         reached = ap (λ s. sums_at (map sum_in sums) s) state ∙ map-at sum_in sums r (omega (arith, h.within)) ∙ sum-near _ near;
         least = λ s m e. let k = known-at _ _ _ _ long e in omega (arith, k.2, h.below s k.0, h.least_is);
-        first = λ s e. let k = known-at _ _ _ _ long e in
-            omega (arith, k.2, h.below s k.0, h.least_is, states_in s k.0, states_in r h.within, state);
+        first = grind (arith, known-at);
       },
     )
 
@@ -380,28 +353,13 @@ push-all table points states labels parallel subsets ways steps depth before sub
     )
   where
     step : Advances points states parallel subsets ways before subset sample sums now column
-    step = subst (λ l. Advances points states parallel subsets ways before subset sample l now column) is_was
-        (subst (λ l. Advances points states parallel subsets ways before subset sample was l column) (sym is_now) advanced)
+    step = grind (arith)
 
     keys : AreKeys points states parallel subsets ways before subset sample sums step.nearest step.entered
-    keys = record {
-      sums_long = holds.sums_long;
-      entered_long = step.entered_long;
-      states_in = holds.states_in;
-      near = step.is_nearest;
-      into = step.into;
-      small = small;
-      close = λ q i l k. step.close q l i k;
-    }
+    keys = grind (arith, step)
 
     settles : Settles states step.entered step.least now column
-    settles = record {
-      new_long = step.settled.sums_long;
-      column_long = step.settled.column_long;
-      is_least = step.is_least;
-      levels = step.settled.levels;
-      choices = step.settled.choices;
-    }
+    settles = grind (arith, step)
 
     far : step.least < far_key
     far = least-near _ _ _ step.entered_long step.is_least
@@ -426,9 +384,7 @@ pub released-below : (states labels : ℕ) (columns : List (List Choice)) (unrel
     → AreColumns states labels columns → Splits states columns unreleased left list → All (λ x. x < labels) list
 released-below states labels columns unreleased left list some h split =
     let whole = traced-below _ _ _ 0 (omega arith) (All-take (IsColumn states labels) unreleased columns h) in
-    let both : All (λ x. x < labels) (reverse list ++ traced (take left columns) 0) =
-    All-same (λ x. x < labels) (reverse list ++ traced (take left columns) 0) (traced (take unreleased columns) 0)
-    (sym (split.split 0 (omega arith))) whole in
+    let both : All (λ x. x < labels) (reverse list ++ traced (take left columns) 0) = grind (arith, traced) in
     let front : All (λ x. x < labels) (take (length (reverse list)) (reverse list ++ traced (take left columns) 0)) =
     All-take (λ x. x < labels) (length (reverse list)) (reverse list ++ traced (take left columns) 0) both in
     All-reversed (λ x. x < labels) _
@@ -437,14 +393,7 @@ released-below states labels columns unreleased left list some h split =
 
 pub labels-long : (columns : List (List Choice)) (unreleased from : ℕ) (list : List ℕ) → unreleased ≤ length columns
     → reverse list ≡ traced (take unreleased columns) from → length list ≡ unreleased
-labels-long columns unreleased from list l e =
-    omega (
-      arith,
-      length-reverse {A = ℕ} list,
-      ap length e,
-      length-traced (take unreleased columns) from,
-      length-take-le unreleased columns l,
-    )
+labels-long columns unreleased from list l e = grind (arith, length-reverse, length-traced, length-take-le)
 
 pub labels-below : (states labels : ℕ) (columns : List (List Choice)) (unreleased from : ℕ) (list : List ℕ) → from < states
     → AreColumns states labels columns → reverse list ≡ traced (take unreleased columns) from → All (λ x. x < labels) list
@@ -498,26 +447,15 @@ pub start-are : (states start : ℕ) (sums : List ℕ) → states ≤ 256 → st
     → ((s : ℕ) → s < states → slice_index sums s ≡ far_key + s) → AreSums states (set sums start start)
 start-are states start sums few within long far = record {
   sums_long = length-set sums start start ∙ long;
-  states_in = λ s l. elim (cases_eq s start) [
-    | inl e ↦ omega (arith, set-index_here sums start start s e (omega arith))
-    | inr n ↦ omega (arith, set-index sums start start s n, far s l)
-  ];
-  bound = λ s l. elim (cases_eq s start) [
-    | inl e ↦ omega (arith, set-index_here sums start start s e (omega arith))
-    | inr n ↦ omega (arith, set-index sums start start s n, far s l)
-  ];
+  states_in = grind (arith, set-index_here, set-index);
+  bound = grind (arith, set-index_here, set-index);
   reached = (start, within, omega (arith, set-index_here sums start start start refl (omega arith)));
 }
 
 -- the same where a sequence starts in each state
 pub any-are : (states : ℕ) (sums : List ℕ) → 1 ≤ states → states ≤ 256 → length sums ≡ states
     → ((s : ℕ) → s < states → slice_index sums s ≡ s) → AreSums states sums
-any-are states sums some few long own = record {
-  sums_long = long;
-  states_in = λ s l. omega (arith, own s l);
-  bound = λ s l. omega (arith, own s l);
-  reached = (0, omega arith, omega (arith, own 0 (omega arith)));
-}
+any-are states sums some few long own = grind (arith)
 
 pub any-sums : (states : ℕ) (sums : List ℕ) → states ≤ 256 → length sums ≡ states → ((s : ℕ) → s < states → slice_index sums s ≡ s)
     → map sum_in sums ≡ replicate states (Some 0)

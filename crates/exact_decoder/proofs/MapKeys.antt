@@ -33,12 +33,7 @@ pub record IsLeastOfFour (k : ℕ → ℕ) (least : ℕ) : Type 0 where
 
 taken : (k : ℕ → ℕ) (place : ℕ) → place < 4 → least_four (k 0) (k 1) (k 2) (k 3) ≡ k place
     → IsLeastOfFour k (least_four (k 0) (k 1) (k 2) (k 3))
-taken k place within is = record {
-  place = place;
-  within = within;
-  is = is;
-  below_each = each_of_four (λ i. k place ≤ k i) (omega (arith, is)) (omega (arith, is)) (omega (arith, is)) (omega (arith, is));
-}
+taken k place within is = grind (arith, each_of_four)
 
 pub least_of_four : (k : ℕ → ℕ) → IsLeastOfFour k (least_four (k 0) (k 1) (k 2) (k 3))
 least_of_four k =

@@ -1,5 +1,5 @@
 -- Sums that keys of 32 bits have.
-use Rattle.exact_decoder.proofs.Names.{◌≡◌, ℕ, ◌+◌, ◌-◌, ◌*◌, ◌/◌, ◌%◌, ◌^◌, ◌<◌, ◌≤◌, Bool, true, nat_eq, List, [], ◌∷◌, arith, ◌∙◌, ap}
+use Rattle.exact_decoder.proofs.Names.{◌≡◌, ℕ, ◌+◌, ◌-◌, ◌*◌, ◌/◌, ◌%◌, ◌^◌, ◌<◌, Bool, true, nat_eq, List, [], ◌∷◌, arith, ◌∙◌, ap}
 use Rattle.exact_decoder.proofs.Names.{bit_and, slice_index, cond, eqb-true, and_mask, mask_l, IsNarrow}
 use Rattle.std.proofs.lemmas.Nat.{and_block}
 
@@ -37,32 +37,7 @@ pub record AreSet (a b c d e f g h : Bool) : Type 0 where
 
 pub are-set : (a b c d e f g h : Bool) → nat_eq (mask_l (a ∷ b ∷ c ∷ d ∷ e ∷ f ∷ g ∷ h ∷ []) % 18446744073709551616) 255 ≡ true
     → AreSet a b c d e f g h
-are-set a b c d e f g h q =
-    let sum : mask_l (a ∷ b ∷ c ∷ d ∷ e ∷ f ∷ g ∷ h ∷ []) % 18446744073709551616 ≡ 255 = eqb-true _ 255 q in
-    let la = one a in
-    let lb = one b in
-    let lc = one c in
-    let ld = one d in
-    let le = one e in
-    let lf = one f in
-    let lg = one g in
-    let lh = one h in
-    record {
-      a_set = set a (omega arith);
-      b_set = set b (omega arith);
-      c_set = set c (omega arith);
-      d_set = set d (omega arith);
-      e_set = set e (omega arith);
-      f_set = set f (omega arith);
-      g_set = set g (omega arith);
-      h_set = set h (omega arith);
-    }
-  where
-    one : (b : Bool) → as_number b ≤ 1
-    one q0 = grind (arith)
-
-    set : (b : Bool) → as_number b ≡ 1 → b ≡ true
-    set q0 e = grind (arith)
+are-set a b c d e f g h q = grind (arith, eqb-true)
 
 pub narrow-lane : (sums : List ℕ) (state : ℕ) → slice_index sums state < 2 ^ 62 → slice_index sums state % 65536 ≡ state
     → nat_eq (bit_and (slice_index sums state) 18444492274164236288) 0 ≡ true → IsNarrow (slice_index sums state) state

@@ -1,10 +1,10 @@
 -- The decoder after more samples.
 use Rattle.exact_decoder.proofs.Names.{◌≡◌, ℕ, ◌+◌, ◌-◌, ◌<◌, ◌≤◌, inl, inr, Bool, List, [], ◌∷◌, ◌++◌, length, take, Option, Some, None}
-use Rattle.exact_decoder.proofs.Names.{option_map, arith, append_assoc, length-append, refl, sym, ◌∙◌, ap, subst, cases_lt, append-nil}
-use Rattle.exact_decoder.proofs.Names.{take-append-le, take_all, SteppedEach, Entry, entry_at, branch_of, sums_at, branches_at, new_sums_at}
+use Rattle.exact_decoder.proofs.Names.{option_map, arith, append_assoc, length-append, sym, ◌∙◌, ap, subst, cases_lt, append-nil}
+use Rattle.exact_decoder.proofs.Names.{take-append-le, take_all, SteppedEach, branch_of, sums_at, branches_at, new_sums_at}
 use Rattle.exact_decoder.proofs.Names.{tail_at, Decoding, DecoderStands, heard, Kept, IsParted, KeepsSurvivors, Stepped, Released}
-use Rattle.exact_decoder.proofs.Names.{KnowsState, Keeps, GoesOn, IsSurvivor, IsCommon, IsReleased, IsOver, IsLost, LostIs, Trellis}
-use Rattle.exact_decoder.proofs.Names.{trellis_of, IsPrefixOf, Sample, IsBounded, EntersOnce, cost}
+use Rattle.exact_decoder.proofs.Names.{Keeps, GoesOn, IsSurvivor, IsCommon, IsReleased, IsOver, IsLost, LostIs, Trellis}
+use Rattle.exact_decoder.proofs.Names.{trellis_of, IsPrefixOf, Sample, IsBounded, EntersOnce}
 use Rattle.std.proofs.Math.Seq.{take-append-add}
 use Rattle.exact_decoder.proofs.Surviving.Columns.{Keeps-more, kept, known}
 use Rattle.exact_decoder.proofs.Surviving.Release.{survivor-one, prefix-parted}
@@ -17,40 +17,24 @@ none-some symbol e = cc
 -- the paths and sums may be written otherwise
 keeps-paths : {X : Type 0} (c : Trellis X) (samples : List X) (base : ℕ) (sums : ℕ → Option ℕ) (paths other : ℕ → List ℕ)
     → ((s m : ℕ) → sums s ≡ Some m → paths s ≡ other s) → Keeps c samples base sums paths → Keeps c samples base sums other
-keeps-paths {X} c samples base sums paths other same k = record { knows = λ s. each s (sums s) refl (k.knows s) }
-  where
-    each : (s : ℕ) (o : Option ℕ) → sums s ≡ o → KnowsState c samples base paths s o → KnowsState c samples base other s o
-    each s None e h = h
-    each s (Some m) e h = (
-      subst (λ l. IsSurvivor c samples l s) (same s m e) h.0,
-      ap (λ l. cost c.distance l samples) (sym (same s m e))
-          ∙ h.1,
-    )
+keeps-paths {X} c samples base sums paths other same k = grind (arith)
 
 keeps-sums : {X : Type 0} (c : Trellis X) (samples : List X) (base : ℕ) (sums other : ℕ → Option ℕ) (paths : ℕ → List ℕ)
     → ((s : ℕ) → other s ≡ sums s) → Keeps c samples base sums paths → Keeps c samples base other paths
-keeps-sums c samples base sums other paths same k =
-    record { knows = λ s. subst (KnowsState c samples base paths s) (sym (same s)) (k.knows s) }
+keeps-sums c samples base sums other paths same k = grind (arith)
 
 -- sums that are lowered by one number are those of a base that is higher by it
 keeps-lowered : {X : Type 0} (c : Trellis X) (samples : List X) (base n : ℕ) (sums : ℕ → Option ℕ) (paths : ℕ → List ℕ)
     → ((s m : ℕ) → sums s ≡ Some m → n ≤ m) → Keeps c samples base sums paths
     → Keeps c samples (base + n) (λ s. option_map (λ m. m - n) (sums s)) paths
-keeps-lowered {X} c samples base n sums paths low k = record { knows = λ s. each s (sums s) refl (k.knows s) }
-  where
-    each : (s : ℕ) (o : Option ℕ) → sums s ≡ o → KnowsState c samples base paths s o
-        → KnowsState c samples (base + n) paths s (option_map (λ m. m - n) o)
-    each s q1 e h = grind (arith)
+keeps-lowered {X} c samples base n sums paths low k = grind (arith)
 
 -- where no first label is common to all tails, the front is what is released
 pub released-of : {X : Type 0} (c : Trellis X) (samples : List X) (base : ℕ) (sums : List (Option ℕ)) (tails : List (List ℕ))
     (front : List ℕ) → Keeps c samples base (sums_at sums) (λ s. front ++ tail_at tails s) → IsParted sums tails
     → IsReleased c samples front
 released-of {X} c samples base sums tails front k parted = record {
-  common = λ s labels v. (
-    tail_at tails s,
-    survivor-one c samples (front ++ tail_at tails s) labels s (mine s labels (sums_at sums s) refl v) v,
-  );
+  common = grind (arith, survivor-one, mine);
   longest = λ other every. longest other every parted;
 }
   where
@@ -63,8 +47,7 @@ released-of {X} c samples base sums tails front k parted = record {
     stands s m e = (known c samples base (sums_at sums) (λ s. front ++ tail_at tails s) s m k e).0
 
     longest : (other : List ℕ) → IsCommon c samples other → IsParted sums tails → IsPrefixOf other front
-    longest other every (inl (s, m, e, empty)) =
-        subst (IsPrefixOf other) (ap (λ l. front ++ l) empty ∙ append-nil front) (every s (front ++ tail_at tails s) (stands s m e))
+    longest other every (inl (s, m, e, empty)) = grind (arith, front, append-nil, stands)
     longest other every (inr a) = prefix-parted _ _ _ _ _ _ a.apart
         (subst (IsPrefixOf other) (ap (λ l. front ++ l) a.s_begins) (every a.s (front ++ tail_at tails a.s) (stands _ _ a.s_reached)))
         (subst (IsPrefixOf other) (ap (λ l. front ++ l) a.t_begins) (every a.t (front ++ tail_at tails a.t) (stands _ _ a.t_reached)))
@@ -90,16 +73,7 @@ keeps-stepped table points states labels starts sample k new samples front bound
     always s t label to e f = let a = bounded s label to e in let b = bounded t label to f in once s t label to a.0 b.0 a.1 e f
 
     goes : GoesOn (λ s. front ++ tail_at k.tails s) (branches_at p.entries) (λ s. front ++ tail_at new.tails s)
-    goes to b e = each (entry_at p.entries to) refl e
-      where
-        each : (o : Option Entry) → entry_at p.entries to ≡ o → option_map branch_of o ≡ Some b
-            → front ++ tail_at new.tails to ≡ (front ++ tail_at k.tails b.before) ++ b.label ∷ []
-        each None is f = absurd cc
-        each (Some ch) is f =
-            let same : branch_of ch ≡ b = cc in
-            let t : tail_at new.tails to ≡ tail_at k.tails ch.before ++ ch.label ∷ [] = p.follow to ch is in
-            subst (λ x. front ++ tail_at new.tails to ≡ (front ++ tail_at k.tails x.before) ++ x.label ∷ []) same
-            (ap (λ l. front ++ l) t ∙ sym (append_assoc front (tail_at k.tails ch.before) (ch.label ∷ [])))
+    goes to b e = grind (arith, branch_of, front, append_assoc)
 
 -- the same survivors, and what they release
 pub keeps-released : {X : Type 0} (c : Trellis X) (k new : Kept) (samples : List X) (taken pending more labels : List ℕ)
@@ -212,8 +186,7 @@ module _ (table : ℕ → ℕ → Option ℕ) (points : ℕ → Sample) (states 
       → DecoderStands table points starts depth new (samples ++ more) taken
   stands-lost symbol last f many =
       let c = trellis_of table points starts in
-      let all_are : symbol + 1 ≡ length (samples ++ more) =
-      omega (arith, last, p.count, counted, length-append {A = Sample} samples more) in
+      let all_are : symbol + 1 ≡ length (samples ++ more) = grind (arith, counted, length-append) in
       let whole : take (symbol + 1) (samples ++ more) ≡ samples ++ more = take_all (symbol + 1) (samples ++ more) (omega arith) in
       let all : heard new.lost (samples ++ more) ≡ samples ++ more = ap (λ o. heard o (samples ++ more)) f ∙ whole in
       record {
@@ -229,18 +202,4 @@ module _ (table : ℕ → ℕ → Option ℕ) (points : ℕ → Sample) (states 
 pub stands-stays : (table : ℕ → ℕ → Option ℕ) (points : ℕ → Sample) (depth : ℕ) (starts : ℕ → Bool) (more : List Sample) (d : Decoding)
     (samples : List Sample) (taken : List ℕ) (symbol : ℕ) → d.lost ≡ Some symbol
     → DecoderStands table points starts depth d samples taken → DecoderStands table points starts depth d (samples ++ more) taken
-stands-stays table points depth starts more d samples taken symbol e h = record {
-  counted = h.counted ∙ sym (ap length same);
-  lost = subst (LostIs c depth (samples ++ more)) (sym e) (lost-stays c depth samples more symbol was);
-  released = subst (λ s. IsReleased c s (taken ++ d.pending)) (sym same) h.released;
-  keeps = λ g. none-some symbol (sym g ∙ e);
-}
-  where
-    c : Trellis Sample
-    c = trellis_of table points starts
-
-    was : IsLost c depth samples symbol
-    was = subst (LostIs c depth samples) e h.lost
-
-    same : heard d.lost (samples ++ more) ≡ heard d.lost samples
-    same = grind (arith, take-append-le)
+stands-stays table points depth starts more d samples taken symbol e h = grind (arith, lost-stays, none-some, heard, take-append-le)

@@ -12,8 +12,7 @@ use Rattle.exact_decoder.specs.Decoder.{IsNearAfter, IsSpread}
 entered-some : {X : Type 0} (c : Trellis X) (d : X) (sums : ℕ → Option ℕ) (s m : ℕ) (entry : Option Entry)
     → option_map sum_of entry ≡ Some m → Chooses c d sums s (option_map branch_of entry) (option_map sum_of entry)
     → (e : Entry) × (entry ≡ Some e) × Enters c d sums s (branch_of e) m
-entered-some c d sums s m None e h = absurd cc
-entered-some c d sums s m (Some ch) e h = let same : ch.sum ≡ m = cc in (ch, refl, subst (Enters c d sums s (branch_of ch)) same h.0)
+entered-some c d sums s m entry e h = grind (arith, branch_of)
 
 enters-at : (table : ℕ → ℕ → Option ℕ) (points : ℕ → Sample) (sample : Sample) (sums : List (Option ℕ)) (entries : List (Option Entry))
     (s m : ℕ) → AllChosen table points sample sums entries → new_sums_at entries s ≡ Some m
@@ -64,16 +63,10 @@ near-least : (table : ℕ → ℕ → Option ℕ) (points : ℕ → Sample) (sta
     × IsNearAfter table (sums_at new.sums) 0 from
 near-least table points states labels sample old new bounded within p =
     let e = enters-at table points sample old.sums p.entries p.lowest.0 p.lowered p.chosen p.lowest.1 in
-    let in_table = bounded e.0.before e.0.label p.lowest.0 e.2.leads in
-    (p.lowest.0, within e.0.before e.0.label p.lowest.0 in_table.0 in_table.1 e.2.leads, here)
+    let in_table = bounded e.0.before e.0.label p.lowest.0 e.2.leads in grind (arith, here)
   where
     here : IsNearAfter table (sums_at new.sums) 0 p.lowest.0
-    here [] to l leads = (
-      p.lowered - p.lowered,
-      subst (λ s. sums_at new.sums s ≡ Some (p.lowered - p.lowered)) leads (p.sums p.lowest.0
-          ∙ ap (option_map (λ n. n - p.lowered)) p.lowest.1),
-      omega arith,
-    )
+    here [] to l leads = grind (arith)
     here (x ∷ path) to l leads = absurd (omega arith)
 
 near-each : (table : ℕ → ℕ → Option ℕ) (points : ℕ → Sample) (states labels : ℕ) (sample : Sample) (old new : Kept) (n steps : ℕ)
@@ -98,8 +91,7 @@ sum-after table points sample old new n s m p small e = each (new_sums_at p.entr
     each : (o : Option ℕ) → new_sums_at p.entries s ≡ o → option_map (λ n. n - p.lowered) o ≡ Some m → m ≤ (n + 1) * 2 ^ 33
     each None f g = absurd cc
     each (Some k) f g =
-        let a = enters-at table points sample old.sums p.entries s k p.chosen f in
-        omega (arith, same_Some _ _ g, a.2.sum_is, small a.0.before a.2.known a.2.reached, p.close a.0.before a.0.label s a.2.leads)
+        let a = enters-at table points sample old.sums p.entries s k p.chosen f in grind (arith)
 
 pub spread-next : (table : ℕ → ℕ → Option ℕ) (points : ℕ → Sample) (states labels reach : ℕ) (sample : Sample) (old new : Kept) (count : ℕ)
     → IsBounded table states labels → StaysWithin table states labels → Reaches table states labels reach
@@ -129,8 +121,7 @@ spread-next table points states labels reach sample old new count bounded within
     entered s m None f e = absurd cc
     entered s m (Some k) f e =
         let a = enters-at table points sample old.sums p.entries s k p.chosen f in
-        let i = bounded a.0.before a.0.label s a.2.leads in
-        within a.0.before a.0.label s i.0 i.1 a.2.leads
+        let i = bounded a.0.before a.0.label s a.2.leads in grind (arith)
 
     all : IsSpread table states reach (sums_at old.sums) → (s m : ℕ) → sums_at new.sums s ≡ Some m → m ≤ reach * 2 ^ 33
     all g s m e =
@@ -164,9 +155,7 @@ sound-next table points states labels reach depth more old new between list h fe
   low = h.low;
   high = h.high;
   few = omega (arith, count);
-  spread = subst (λ n. IsSpread table states (min n reach) (sums_at (opened new.memory).sums)) (sym count)
-      (subst (λ l. IsSpread table states (min (old.count + length more) reach) (sums_at l)) (sym r.sums_stay)
-      (p.small old.count h.spread));
+  spread = grind (arith, opened);
   room = room;
   few_unreleased = omega (arith, r.count, p.longer, held);
   few_pending = omega (arith, ap length pending, r.count, p.longer, held);

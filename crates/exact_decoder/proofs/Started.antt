@@ -1,5 +1,5 @@
 -- A decoder before its first sample.
-use Rattle.exact_decoder.proofs.Names.{◌≡◌, ◌≢◌, ℕ, ◌<◌, ◌≤◌, nat_eq, nat_lt, inl, inr, Bool, true, false, if◌then◌else◌, List, [], ◌++◌}
+use Rattle.exact_decoder.proofs.Names.{◌≡◌, ◌≢◌, ℕ, ◌<◌, ◌≤◌, nat_eq, nat_lt, inl, inr, Bool, true, if◌then◌else◌, List, [], ◌++◌}
 use Rattle.exact_decoder.proofs.Names.{length, get_or, replicate, set, Option, Some, None, arith, refl, sym, ◌∙◌, ap, subst, cases_lt}
 use Rattle.exact_decoder.proofs.Names.{lt-ltb, le-ltb, eqb-true, eqb-false, common_steps, length-replicate, sums_at, tail_at, Decoding}
 use Rattle.exact_decoder.proofs.Names.{DecoderStands, heard, Kept, KeepsSurvivors, Keeps, IsReleased, LostIs, Trellis, trellis_of, Sample}
@@ -32,16 +32,12 @@ one_start states start h s = each (nat_eq s start) refl
     nowhere = elim (cases_lt s states) [ inl l ↦ get_or-replicate states s None None l | inr l ↦ replicate-past states s None None l ]
 
     each : (b : Bool) → nat_eq s start ≡ b → sums_at (set (replicate states None) start (Some 0)) s ≡ (if b then Some 0 else None)
-    each true e = grind (arith, here, eqb-true, length-replicate)
-    each false e = other (replicate states None) (Some 0) start s (eqb-false s start e) ∙ nowhere
+    each b e = grind (arith, here, eqb-true, length-replicate, other, eqb-false, nowhere)
 
 -- sums that are those of a start are zero
 pub start-zero : (sums : List (Option ℕ)) (starts : ℕ → Bool) → ((s : ℕ) → sums_at sums s ≡ (if starts s then Some 0 else None)) → (s m : ℕ)
     → sums_at sums s ≡ Some m → m ≡ 0
-start-zero sums starts h s m e = each (starts s) (sym e ∙ h s)
-  where
-    each : (b : Bool) → Some m ≡ (if b then Some 0 else None) → m ≡ 0
-    each q0 q = grind (arith)
+start-zero sums starts h s m e = grind (arith)
 
 abbrev pub start_sum : Bool → Option ℕ
 start_sum b = if b then Some 0 else None
@@ -57,10 +53,7 @@ start-small states start h = start-zero (set (replicate states None) start (Some
 
 -- the sums of a decoder that starts in any state
 pub any_start : (states s : ℕ) → sums_at (replicate states (Some 0)) s ≡ (if nat_lt s states then Some 0 else None)
-any_start states s = elim (cases_lt s states) [
-  | inl l ↦ get_or-replicate states s (Some 0) None l ∙ sym (ap start_sum (lt-ltb s states l))
-  | inr l ↦ replicate-past states s (Some 0) None l ∙ sym (ap start_sum (le-ltb s states l))
-]
+any_start states s = grind (arith, get_or-replicate, lt-ltb, replicate-past, le-ltb)
 
 pub any-small : (states s m : ℕ) → sums_at (replicate states (Some 0)) s ≡ Some m → m ≡ 0
 any-small states = start-zero (replicate states (Some 0)) (λ s. nat_lt s states) (any_start states)

@@ -1,8 +1,8 @@
 -- The decoder after a label is taken, and at its end.
 use Rattle.exact_decoder.proofs.Names.{◌≡◌, ℕ, ◌<◌, Bool, List, [], ◌∷◌, ◌++◌, length, drop, reverse, All, Option, Some, None, append_assoc}
 use Rattle.exact_decoder.proofs.Names.{refl, sym, ◌∙◌, ap, subst, arith, append-nil, reverse-append, length-reverse, All-head, All-tail}
-use Rattle.exact_decoder.proofs.Names.{All-same, tail_at, Decoding, decoding_of, IsSound, DecoderStands, heard, Kept, KeepsSurvivors}
-use Rattle.exact_decoder.proofs.Names.{IsLeastSum, IsReleased, IsFirstLeast, trellis_of, Sample}
+use Rattle.exact_decoder.proofs.Names.{All-same, tail_at, Decoding, decoding_of, IsSound, DecoderStands, heard, Kept}
+use Rattle.exact_decoder.proofs.Names.{IsLeastSum, IsFirstLeast, trellis_of, Sample}
 use Rattle.std.proofs.Common.{IfSome, MatchOption}
 use Rattle.std.proofs.Common.{option_to_list}
 use Rattle.exact_decoder.specs.Memory.{opened}
@@ -12,16 +12,7 @@ use Rattle.exact_decoder.proofs.Least.{final-of}
 pub stands-taken : (table : ℕ → ℕ → Option ℕ) (points : ℕ → Sample) (depth : ℕ) (starts : ℕ → Bool) (d new : Decoding)
     (samples : List Sample) (taken : List ℕ) (label : ℕ) → d.pending ≡ label ∷ new.pending → new ≡ record d { pending = new.pending }
     → DecoderStands table points starts depth d samples taken → DecoderStands table points starts depth new samples (taken ++ label ∷ [])
-stands-taken table points depth starts d new samples taken label e f h =
-    subst (λ v. DecoderStands table points starts depth v samples (taken ++ label ∷ [])) (sym f) (record {
-      counted = h.counted;
-      lost = h.lost;
-      released = subst (IsReleased (trellis_of table points starts) (heard d.lost samples)) same h.released;
-      keeps = λ g. subst (KeepsSurvivors (trellis_of table points starts) (opened d.memory) samples) same (h.keeps g);
-    })
-  where
-    same : taken ++ d.pending ≡ (taken ++ label ∷ []) ++ new.pending
-    same = ap (λ l. taken ++ l) e ∙ sym (append_assoc taken (label ∷ []) new.pending)
+stands-taken table points depth starts d new samples taken label e f h = grind (arith, heard, opened, append_assoc)
 
 pub sound-taken : (table : ℕ → ℕ → Option ℕ) (states labels reach depth : ℕ) (d : Decoding) (label : ℕ) (rest : List ℕ)
     → d.pending ≡ label ∷ rest → IsSound table states labels reach depth d → (label < labels)
@@ -60,8 +51,7 @@ turned old new label e = ap reverse e ∙ reverse-append new (label ∷ [])
 pub sound-popped : (table : ℕ → ℕ → Option ℕ) (states labels reach depth : ℕ) (k : Kept) (count : ℕ) (old new : List ℕ) (lost : Option ℕ)
     (r : Option ℕ) → IsPopped old new r → IsSound table states labels reach depth (decoding_of k count old lost)
     → IsSound table states labels reach depth (decoding_of k count new lost) × IfSome r (λ label. label < labels)
-sound-popped table states labels reach depth k count old new lost None p h =
-    (subst (λ l. IsSound table states labels reach depth (decoding_of k count l lost)) (p.0 ∙ sym p.1) h, tt)
+sound-popped table states labels reach depth k count old new lost None p h = grind (arith)
 sound-popped table states labels reach depth k count old new lost (Some label) p h =
     let t = sound-taken table states labels reach depth (decoding_of k count old lost) label (reverse new) (turned old new label p) h in
     (t.1, t.0)
@@ -69,20 +59,16 @@ sound-popped table states labels reach depth k count old new lost (Some label) p
 -- the label that is taken, and those that are left
 pub popped-first : (old new : List ℕ) (r : Option ℕ) (seen : List ℕ) → reverse old ≡ seen → IsPopped old new r
     → MatchOption r (seen ≡ []) (λ label. seen ≡ label ∷ reverse new)
-popped-first old new None seen e p = sym e ∙ ap reverse p.0
-popped-first old new (Some label) seen e p = sym e ∙ turned old new label p
+popped-first old new r seen e p = grind (arith, turned)
 
 pub popped-rest : (old new : List ℕ) (r : Option ℕ) → IsPopped old new r → reverse new ≡ drop 1 (reverse old)
-popped-rest old new None p = ap reverse p.1 ∙ sym (ap (λ l. drop 1 (reverse l)) p.0)
-popped-rest old new (Some label) p = sym (ap (drop 1) (turned old new label p))
+popped-rest old new r p = grind (arith, turned)
 
 pub stands-popped : (table : ℕ → ℕ → Option ℕ) (points : ℕ → Sample) (depth : ℕ) (starts : ℕ → Bool) (k : Kept) (count : ℕ)
     (old new : List ℕ) (lost : Option ℕ) (samples : List Sample) (taken : List ℕ) (r : Option ℕ) → IsPopped old new r
     → DecoderStands table points starts depth (decoding_of k count old lost) samples taken
     → DecoderStands table points starts depth (decoding_of k count new lost) samples (taken ++ option_to_list r)
-stands-popped table points depth starts k count old new lost samples taken None p h =
-    subst (DecoderStands table points starts depth (decoding_of k count new lost) samples) (sym (append-nil taken))
-    (subst (λ l. DecoderStands table points starts depth (decoding_of k count l lost) samples taken) (p.0 ∙ sym p.1) h)
+stands-popped table points depth starts k count old new lost samples taken None p h = grind (arith, append-nil)
 stands-popped table points depth starts k count old new lost samples taken (Some label) p h =
     stands-taken _ _ _ _ _ _ _ _ _ (turned _ _ _ p) refl h
 
@@ -97,29 +83,22 @@ pub sound-popped-two : (table : ℕ → ℕ → Option ℕ) (states labels reach
     (old new : List ℕ) (lost : Option ℕ)
     (r : Option (ℕ × ℕ)) → IsPoppedTwo old new r → IsSound table states labels reach depth (decoding_of k count old lost)
     → IsSound table states labels reach depth (decoding_of k count new lost) × IfSome r (λ two. (two.0 < labels) × (two.1 < labels))
-sound-popped-two table states labels reach depth k count old new lost None p h =
-    (subst (λ l. IsSound table states labels reach depth (decoding_of k count l lost)) (sym p.1) h, tt)
+sound-popped-two table states labels reach depth k count old new lost None p h = grind (arith)
 sound-popped-two table states labels reach depth k count old new lost (Some two) p h =
     let first = sound-taken _ _ _ _ _ _ _ _ (turned-two _ _ _ p) h in
-    let second = sound-taken _ _ _ _ _ _ _ _ refl first.1 in
-    (second.1, (first.0, second.0))
+    let second = sound-taken _ _ _ _ _ _ _ _ refl first.1 in grind (arith)
 
 -- the labels that are taken, and those that are left
 pub popped-two-first : (k : Kept) (count : ℕ) (old new : List ℕ) (lost : Option ℕ) (r : Option (ℕ × ℕ)) (d : Decoding)
     → decoding_of k count old lost ≡ d → IsPoppedTwo old new r
     → MatchOption r ((length d.pending < 2) × (decoding_of k count new lost ≡ d)) (λ two. d.pending ≡ two.0 ∷ two.1 ∷ reverse new)
-popped-two-first k count old new lost None d e p =
-    (omega (arith, p.0, ap (λ (v : Decoding). length v.pending) e, length-reverse old), ap (λ l. decoding_of k count l lost) p.1 ∙ e)
-popped-two-first k count old new lost (Some two) d e p = sym (ap (λ (v : Decoding). v.pending) e) ∙ turned-two old new two p
+popped-two-first k count old new lost r d e p = grind (arith, length-reverse, turned-two)
 
 pub stands-popped-two : (table : ℕ → ℕ → Option ℕ) (points : ℕ → Sample) (depth : ℕ) (starts : ℕ → Bool) (k : Kept) (count : ℕ)
     (old new : List ℕ) (lost : Option ℕ) (samples : List Sample) (taken : List ℕ) (r : Option (ℕ × ℕ)) → IsPoppedTwo old new r
     → DecoderStands table points starts depth (decoding_of k count old lost) samples taken
     → DecoderStands table points starts depth (decoding_of k count new lost) samples (taken ++ two_in r)
-stands-popped-two table points depth starts k count old new lost samples taken None p h =
-    subst (DecoderStands table points starts depth (decoding_of k count new lost) samples) (sym (append-nil taken))
-    (subst (λ l. DecoderStands table points starts depth (decoding_of k count l lost) samples taken) (sym p.1) h)
+stands-popped-two table points depth starts k count old new lost samples taken None p h = grind (arith, append-nil)
 stands-popped-two table points depth starts k count old new lost samples taken (Some two) p h =
     let middle : Decoding = record (decoding_of k count old lost) { pending = two.1 ∷ reverse new } in
-    subst (DecoderStands table points starts depth (decoding_of k count new lost) samples) (append_assoc taken (two.0 ∷ []) (two.1 ∷ []))
-    (stands-taken _ _ _ _ _ _ _ _ _ refl refl (stands-taken _ _ _ _ _ _ _ _ _ (turned-two _ _ _ p) refl h))
+    grind (arith, append_assoc, stands-taken, turned-two)

@@ -1,5 +1,5 @@
 -- Lanes of vectors.
-use Rattle.exact_decoder.proofs.Names.{◌≡◌, ℕ, zero, suc, ◌+◌, ◌*◌, ◌<◌, List, [], ◌∷◌, ◌++◌, length, slice_index, arith, refl, ap, ◌∙◌}
+use Rattle.exact_decoder.proofs.Names.{◌≡◌, ℕ, ◌+◌, ◌*◌, ◌<◌, List, [], ◌∷◌, ◌++◌, length, slice_index, arith, refl, ap, ◌∙◌}
 use Rattle.exact_decoder.proofs.Names.{pick_l, words}
 
 -- a function of two vectors
@@ -21,18 +21,10 @@ eight a b c d e f g h p q r s t u v w i j k l m n o z = grind (arith)
 
 -- what holds of each of four, and of each of eight
 pub each_of_four : (P : ℕ → Type 0) → P 0 → P 1 → P 2 → P 3 → (i : ℕ) → i < 4 → P i
-each_of_four P a b c d zero l = a
-each_of_four P a b c d (suc zero) l = b
-each_of_four P a b c d (suc (suc zero)) l = c
-each_of_four P a b c d (suc (suc (suc zero))) l = d
-each_of_four P a b c d (suc (suc (suc (suc i)))) l = absurd (omega arith)
+each_of_four P a b c d i l = grind (arith)
 
 pub each_of_eight : (P : ℕ → Type 0) → P 0 → P 1 → P 2 → P 3 → P 4 → P 5 → P 6 → P 7 → (i : ℕ) → i < 8 → P i
-each_of_eight P a b c d e f g h zero l = a
-each_of_eight P a b c d e f g h (suc zero) l = b
-each_of_eight P a b c d e f g h (suc (suc zero)) l = c
-each_of_eight P a b c d e f g h (suc (suc (suc zero))) l = d
-each_of_eight P a b c d e f g h (suc (suc (suc (suc i)))) l = each_of_four (λ i. P (suc (suc (suc (suc i))))) e f g h i (omega arith)
+each_of_eight P a b c d e f g h i l = grind (arith, each_of_four)
 
 -- a list of eight
 abbrev pub lanes : List ℕ → List ℕ

@@ -1,9 +1,9 @@
 -- What was taken stays.
-use Rattle.std.proofs.Common.{◌≡◌, ℕ, ◌+◌, List, [], ◌∷◌, ◌++◌, refl, sym, append-nil}
-use Rattle.lapm_receiver.specs.Incoming.{KeepsTaken, after_kind, kind_of, offset, next_expected}
-use Rattle.lapm_receiver.specs.Held.{run_from}
+use Rattle.lapm_receiver.proofs.Names.{◌≡◌, ℕ, ◌+◌, List, [], ◌∷◌, ◌++◌, refl, sym, run_from, after_kind, Kept}
+use Rattle.std.proofs.Common.{append-nil}
+use Rattle.lapm_receiver.specs.Incoming.{KeepsTaken, kind_of, offset, next_expected}
 use Rattle.lapm_receiver.specs.declared.took.Took.{Took}
-use Rattle.lapm_receiver.specs.declared.took.Took.TheVariants.{InOrder, Kept, Repeat, Gap}
+use Rattle.lapm_receiver.specs.declared.took.Took.TheVariants.{InOrder, Repeat, Gap}
 
 pub keeps_taken_always : KeepsTaken
 keeps_taken_always ns info i = go (kind_of ns i) (offset i ns)

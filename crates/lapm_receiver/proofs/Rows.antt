@@ -1,31 +1,29 @@
 -- Rows of slots, and what stands in them.
-use Rattle.std.proofs.Common.{◌≡◌, ℕ, zero, suc, ◌+◌, ◌-◌, ◌^◌, ◌<◌, ◌≤◌, Bool, true, false, cond, not, ◌&&◌, List, [], ◌∷◌, ◌++◌, length}
-use Rattle.std.proofs.Common.{drop, set, replicate, nat_eq, nat_lt, nat_le, Some, None, Bor, refl, sym, ap, subst, ◌∙◌, arith}
-use Rattle.std.specs.Prelude.{slice_get, unwrap_or, is_some, IfSome, Option}
+use Rattle.lapm_receiver.proofs.Names.{◌≡◌, ℕ, zero, suc, ◌+◌, ◌-◌, ◌<◌, ◌≤◌, Bool, true, false, cond, List, [], ◌∷◌, ◌++◌, length, drop}
+use Rattle.lapm_receiver.proofs.Names.{replicate, nat_eq, nat_lt, nat_le, Some, None, refl, sym, ap, subst, ◌∙◌, arith, drop_of_length-le}
+use Rattle.lapm_receiver.proofs.Names.{nat_tests, length-append, length-drop, find, slice_get, is_some, Option, Held, is_held, with_held}
+use Rattle.lapm_receiver.proofs.Names.{run_from, rest_from, missing_from, Arrived, info_at, any_held, missing_among, IsRising}
+use Rattle.std.proofs.Common.{◌^◌, ◌&&◌}
+use Rattle.std.proofs.Common.{set, Bor}
+use Rattle.std.specs.Prelude.{unwrap_or, IfSome}
 use Rattle.std.specs.Option.{option_copied}
-use Rattle.std.specs.List.{find, position, position_or_len}
-use Rattle.std.proofs.lemmas.List.{length-append, length-drop}
+use Rattle.std.specs.List.{position, position_or_len}
 use Rattle.std.proofs.lemmas.List.Sums.{prefix_len-le-length}
-use Rattle.std.proofs.Math.ListN.{drop_of_length-le}
-use Rattle.std.proofs.lemmas.Bool.Decides.{nat_tests}
-use Rattle.lapm_receiver.specs.Held.{Held, is_held, with_held, run_from, rest_from, missing_from}
-use Rattle.lapm_receiver.specs.Slots.{Arrived, is_empty, info_at, ready_of, held_from, held_after, any_held, missing_among, IsRising}
+use Rattle.lapm_receiver.specs.Slots.{is_empty, ready_of, held_from, held_after}
 
 abbrev pub Row : Type 0
 Row = List (Option (List ℕ))
 
 -- empty slots
 pub ready-fill : (n : ℕ) → ready_of (replicate n None) ≡ []
-ready-fill zero = refl
-ready-fill (suc n) = refl
+ready-fill n = grind (arith)
 
 held_from-fill : (m n : ℕ) → held_from m (replicate n None) ≡ []
 held_from-fill m zero = refl
 held_from-fill m (suc n) = held_from-fill (m + 1) n
 
 pub held_after-fill : (m n : ℕ) → held_after m (replicate n None) ≡ []
-held_after-fill m zero = refl
-held_after-fill m (suc n) = held_from-fill (m + 1) n
+held_after-fill m n = grind (arith, held_from-fill)
 
 -- how many stand before the first empty slot
 pub ready-length : (ss : Row) → length (ready_of ss) ≡ position_or_len is_empty ss
@@ -34,15 +32,7 @@ ready-length (None ∷ ss) = refl
 ready-length (Some info ∷ ss) = let rest : length (ready_of ss) ≡ position_or_len is_empty ss = ready-length ss in omega (arith, rest)
 
 pub ready-count : (ss : Row) (o : Option ℕ) → o ≡ position is_empty ss → unwrap_or o (length ss) ≡ length (ready_of ss)
-ready-count ss o e = rw e (by (nat_lt (position_or_len is_empty ss) (length ss)) refl)
-  where
-    within : position_or_len is_empty ss ≤ length ss
-    within = prefix_len-le-length (λ x. not (is_empty x)) ss
-
-    by : (t : Bool) → nat_lt (position_or_len is_empty ss) (length ss) ≡ t
-        → unwrap_or (cond t (Some (position_or_len is_empty ss)) None) (length ss) ≡ length (ready_of ss)
-    by true e = sym (ready-length ss)
-    by false e = let same : length ss ≡ position_or_len is_empty ss = grind (arith, nat_tests, e, within) in same ∙ sym (ready-length ss)
+ready-count ss o e = grind (arith, prefix_len-le-length, ready-length)
 
 -- no number lies before the first one
 before-first : (m n : ℕ) (ss : Row) → m < n → is_held m (held_from n ss) ≡ false
@@ -146,18 +136,7 @@ find-missing low n (None ∷ ss) = by (any_held ss) refl (find-missing low (n + 
         → find (λ m. nat_le low m) (missing_from (n + 1) (held_from (n + 1) ss)) ≡ missing_among low (n + 1) ss
         → find (λ m. nat_le low m) (missing_from n (held_from (n + 1) ss)) ≡ cond (t && nat_le low n) (Some n)
         (missing_among low (n + 1) ss)
-    by true e rest =
-        let next : missing_from n (held_from (n + 1) ss) ≡ n ∷ missing_from (n + 1) (held_from (n + 1) ss) =
-        missing-next n (n + 1) ss (omega arith) e in
-        rw next (within (nat_le low n))
-      where
-        within : (u : Bool) → cond u (Some n) (find (λ m. nat_le low m) (missing_from (n + 1) (held_from (n + 1) ss))) ≡ cond u (Some n)
-            (missing_among low (n + 1) ss)
-        within q0 = grind (arith)
-    by false e rest =
-        let nothing : held_from (n + 1) ss ≡ [] = none-held (n + 1) ss e in
-        let none : missing_among low (n + 1) ss ≡ None = none-missing low (n + 1) ss e in
-        rw (nothing, none) refl
+    by t e rest = grind (arith, missing-next, none-held, none-missing)
 
 -- what is kept of a row
 abbrev pub seen : ℕ → ℕ → Row → Arrived
@@ -193,17 +172,7 @@ seen-take room taken ss info v e =
         }
     core [] r l = absurd (omega (arith, l))
     core (Some other ∷ rest) r l = cc
-    core (None ∷ rest) r l = subst (λ xs. seen room (taken + suc (length (ready_of rest))) (Some info ∷ rest)
-        ≡ record {
-          room = room;
-          taken = taken + suc (length xs);
-          ready = info ∷ run_from (taken + 1) (held_from (taken + 1) rest);
-          held = rest_from (taken + 1) (held_from (taken + 1) rest);
-        }) (sym (run-ready (taken + 1) rest))
-        (same-seen room (taken + suc (length (ready_of rest))) (Some info ∷ rest)
-        (info ∷ run_from (taken + 1) (held_from (taken + 1) rest)) (rest_from (taken + 1) (held_from (taken + 1) rest))
-        (ap (λ xs. info ∷ xs) (sym (run-ready (taken + 1) rest)))
-        (sym (rest-after (taken + 1) (taken + suc (length (ready_of rest))) rest (omega arith))))
+    core (None ∷ rest) r l = grind (arith, run-ready, same-seen, rest-after)
 
 -- a segment ahead is held
 pub seen-held : (room taken k : ℕ) (ss : Row) (v : Arrived) → seen room taken ss ≡ v → v.ready ≡ [] → 1 ≤ k
@@ -229,17 +198,12 @@ seen-keep room taken k ss info v e = subst (λ v. v.ready ≡ [] → 1 ≤ k →
     core k [] r l w f = absurd (omega (arith, w))
     core k (Some other ∷ rest) r l w f = cc
     core zero (None ∷ rest) r l w f = absurd (omega (arith, l))
-    core (suc k) (None ∷ rest) r l w f =
-        same-seen room taken (None ∷ set rest k (Some info)) []
-        (with_held (record { number = taken + suc k; info = info }) (held_from (taken + 1) rest)) refl
-        (held-set (taken + suc k) (taken + 1) k info rest (omega arith) (omega (arith, w))
-        (sym (held-at (taken + suc k) (taken + 1) k rest (omega arith)) ∙ f))
+    core (suc k) (None ∷ rest) r l w f = grind (arith, same-seen, set, held-set, held-at)
 
 -- the first segment is delivered
 pub next-row : (room : ℕ) (info : List ℕ) (ss : Row) → length ss ≡ room → Some info ≡ info_at (slice_get ss 0)
     → drop (length (drop 1 ss ++ None ∷ []) - room) (drop 1 ss ++ None ∷ []) ≡ drop 1 ss ++ None ∷ []
-next-row room info [] l e = cc
-next-row room info (s ∷ rest) l e = grind (arith, length-append)
+next-row room info ss l e = grind (arith, length-append)
 
 pub seen-deliver : (room taken : ℕ) (info : List ℕ) (ss : Row) (v : Arrived) → seen room taken ss ≡ v → Some info ≡ info_at (slice_get ss 0)
     → seen room taken (drop 1 ss ++ None ∷ []) ≡ record v { ready = drop 1 v.ready }
@@ -247,12 +211,7 @@ seen-deliver room taken info ss v e first = grind (arith, same-seen, ready-snoc,
 
 pub ready-first : (room taken : ℕ) (info : List ℕ) (ss : Row) (v : Arrived) → seen room taken ss ≡ v → Some info ≡ info_at (slice_get ss 0)
     → v.ready ≡ info ∷ ready_of (drop 1 ss ++ None ∷ [])
-ready-first room taken info ss v e first = subst (λ v. v.ready ≡ info ∷ ready_of (drop 1 ss ++ None ∷ [])) e (core ss first)
-  where
-    core : (ss : Row) → Some info ≡ info_at (slice_get ss 0) → ready_of ss ≡ info ∷ ready_of (drop 1 ss ++ None ∷ [])
-    core [] first = cc
-    core (None ∷ rest) first = cc
-    core (Some other ∷ rest) first = let same : other ≡ info = cc in rw (same, ready-snoc rest) refl
+ready-first room taken info ss v e first = grind (arith, ready-snoc)
 
 pub none-ready : (room taken : ℕ) (ss : Row) (v : Arrived) → seen room taken ss ≡ v → full (slice_get ss 0) ≡ false → v.ready ≡ []
 none-ready room taken ss v e first = subst (λ v. v.ready ≡ []) e (core ss first)
@@ -284,8 +243,7 @@ seen-fill room n = same-seen room 0 (replicate n None) [] [] (ready-fill n) (hel
 
 -- a reference says as much as what it points to
 pub copied-some : {X : Type 0} (o : Option (Bor X)) → is_some (option_copied o) ≡ is_some o
-copied-some None = refl
-copied-some (Some x) = refl
+copied-some o = grind (arith)
 
 -- the slots from one on
 row-at : (k : ℕ) (ss : Row) → k < length ss → drop k ss ≡ info_at (slice_get ss k) ∷ drop (suc k) ss
@@ -381,14 +339,11 @@ missing-within low n [] = tt
 missing-within low n (Some info ∷ ss) = further (missing_among low (n + 1) ss) (missing-within low (n + 1) ss)
   where
     further : (o : Option ℕ) → IfSome o (λ m. m < n + 1 + length ss) → IfSome o (λ m. m < n + suc (length ss))
-    further None h = tt
-    further (Some m) h = omega (arith, h)
+    further o h = grind (arith)
 missing-within low n (None ∷ ss) = by (any_held ss && nat_le low n) (missing_among low (n + 1) ss) (missing-within low (n + 1) ss)
   where
     by : (t : Bool) (o : Option ℕ) → IfSome o (λ m. m < n + 1 + length ss) → IfSome (cond t (Some n) o) (λ m. m < n + suc (length ss))
-    by true o h = omega arith
-    by false None h = tt
-    by false (Some m) h = omega (arith, h)
+    by t o h = grind (arith)
 
 -- no number is found where all slots are full
 pub none-found : (low room taken : ℕ) (ss : Row) (v : Arrived) → seen room taken ss ≡ v → None ≡ position is_empty ss
@@ -411,12 +366,7 @@ rising-from n (None ∷ ss) = rising-lower n (n + 1) (held_from (n + 1) ss) (ome
 rising-from n (Some info ∷ ss) = (omega arith, rising-from (n + 1) ss)
 
 pub seen-rising : (room taken : ℕ) (ss : Row) (v : Arrived) → seen room taken ss ≡ v → IsRising v.taken v.held
-seen-rising room taken ss v e =
-    subst (λ v. IsRising v.taken v.held) e
-    (subst (λ hs. IsRising taken hs) (sym (after-first taken ss)) (lift (drop (position_or_len is_empty ss) ss)))
-  where
-    lift : (xs : Row) → IsRising taken (held_from taken xs)
-    lift xs = rising-from taken xs
+seen-rising room taken ss v e = grind (arith, after-first, rising-from)
 
 -- what is found is small
 pub found-small : (low taken start : ℕ) (ss : Row) (o : Option ℕ) → o ≡ missing_among low taken (drop start ss) → taken < 2 ^ 57
@@ -426,5 +376,4 @@ found-small low taken start ss o e few room =
     (by (missing_among low taken (drop start ss)) (missing-within low taken (drop start ss)))
   where
     by : (o : Option ℕ) → IfSome o (λ n. n < taken + length (drop start ss)) → IfSome o (λ n. n < 2 ^ 58)
-    by None h = tt
-    by (Some n) h = omega (arith, h, few, room, length-drop start ss)
+    by o h = grind (arith, length-drop)

@@ -1,17 +1,13 @@
 -- What a receiver stands for after each call.
-use Rattle.std.proofs.Common.{◌≡◌, ℕ, zero, suc, ◌+◌, ◌-◌, ◌<◌, ◌≤◌, Bool, true, false, cond, ◌||◌, ◌⊎◌, inl, inr, List, [], ◌∷◌, ◌++◌}
-use Rattle.std.proofs.Common.{length, drop, nat_eq, nat_lt, nat_le, Some, None, refl, sym, ap, ◌∙◌, arith}
-use Rattle.std.specs.Prelude.{Option}
-use Rattle.std.specs.List.{find, range_with_len}
-use Rattle.std.proofs.lemmas.List.{length-append, length-drop}
+use Rattle.lapm_receiver.proofs.Names.{◌≡◌, ℕ, zero, suc, ◌+◌, ◌-◌, ◌<◌, ◌≤◌, Bool, true, false, cond, List, [], ◌∷◌, ◌++◌, length, drop}
+use Rattle.lapm_receiver.proofs.Names.{nat_eq, nat_lt, nat_le, Some, None, refl, sym, ap, ◌∙◌, arith, drop_of_length-le, nat_tests}
+use Rattle.lapm_receiver.proofs.Names.{length-append, length-drop, find, Option, Held, is_held, with_held, run_from, rest_from}
+use Rattle.lapm_receiver.proofs.Names.{missing_from, is_among, after_kind, IsRising, Taking, StandsIn, Kept}
+use Rattle.std.proofs.Common.{◌||◌, ◌⊎◌, inl, inr}
+use Rattle.std.specs.List.{range_with_len}
 use Rattle.std.proofs.Math.Seq.{drop-append_seam}
-use Rattle.std.proofs.Math.ListN.{drop_of_length-le}
-use Rattle.std.proofs.lemmas.Bool.Decides.{nat_tests}
-use Rattle.lapm_receiver.specs.declared.took.Took.TheVariants.{Kept}
-use Rattle.lapm_receiver.specs.Held.{Held, is_held, with_held, run_from, rest_from, missing_from, is_among, first_outside}
-use Rattle.lapm_receiver.specs.Slots.{IsRising}
-use Rattle.lapm_receiver.specs.Incoming.{Incoming, with_segment, after_kind, after_delivered, asks, after_asked}
-use Rattle.lapm_receiver.specs.Taking.{Taking, StandsIn}
+use Rattle.lapm_receiver.specs.Held.{first_outside}
+use Rattle.lapm_receiver.specs.Incoming.{Incoming, with_segment, after_delivered, asks, after_asked}
 
 -- what is held behind a run stays so
 rest-held : (n r : ℕ) (hs : List Held) → r + length (run_from r hs) ≤ n → is_held n (rest_from r hs) ≡ is_held n hs
@@ -21,11 +17,7 @@ rest-held n r (h ∷ hs) l = by (nat_eq h.number r) refl l (rest-held n (r + 1) 
     by : (t : Bool) → nat_eq h.number r ≡ t → r + length (cond t (h.info ∷ run_from (r + 1) hs) []) ≤ n
         → (r + 1 + length (run_from (r + 1) hs) ≤ n → is_held n (rest_from (r + 1) hs) ≡ is_held n hs)
         → is_held n (cond t (rest_from (r + 1) hs) (h ∷ hs)) ≡ nat_eq h.number n || is_held n hs
-    by true e l rest =
-        let same : h.number ≡ r = grind (arith, nat_tests, e) in
-        let other : nat_eq h.number n ≡ false = grind (arith, nat_tests, same, l) in
-        rw other (rest (omega (arith, l)))
-    by false e l rest = refl
+    by t e l rest = grind (arith)
 
 -- the next segment is taken
 pub stands-next : (t : Taking) (i : Incoming) (info : List ℕ) → StandsIn t i → length t.ready ≡ 0
@@ -68,8 +60,7 @@ with-held n s (h ∷ hs) e = by (nat_lt s.number h.number) (inner (nat_eq h.numb
   where
     inner : (u : Bool) → nat_eq h.number n ≡ u → u || is_held n hs ≡ true → (is_held n hs ≡ true → is_held n (with_held s hs) ≡ true)
         → nat_eq h.number n || is_held n (with_held s hs) ≡ true
-    inner true w e rest = rw w refl
-    inner false w e rest = rw w (rest e)
+    inner u w e rest = grind (arith)
 
     first : (u : Bool) → u || (nat_eq h.number n || is_held n hs) ≡ true
     first q0 = grind (arith)
@@ -110,33 +101,8 @@ stands-delivered t i h = by (nat_lt i.given (length i.taken)) refl
   where
     by : (u : Bool) → nat_lt i.given (length i.taken) ≡ u
         → StandsIn (record t { ready = drop 1 t.ready }) (cond u (record i { given = i.given + 1 }) i)
-    by true e = record {
-      window_is = h.window_is;
-      srej_is = h.srej_is;
-      taken_is = h.taken_is;
-      given_within = grind (arith, nat_tests, e);
-      ready_is = rw h.ready_is (drop-next i.given i.taken);
-      held_is = h.held_is;
-      asked_are = record { lie_below = h.asked_are.lie_below; were_asked = h.asked_are.were_asked };
-      rej_is = h.rej_is;
-      gapped_is = h.gapped_is;
-      owed_is = h.owed_is;
-    }
-    by false e =
-        let beyond : length i.taken ≤ i.given = grind (arith, nat_tests, e) in
-        let nothing : drop i.given i.taken ≡ [] = drop_of_length-le i.taken beyond in
-        record {
-          window_is = h.window_is;
-          srej_is = h.srej_is;
-          taken_is = h.taken_is;
-          given_within = h.given_within;
-          ready_is = rw (h.ready_is, nothing) refl;
-          held_is = h.held_is;
-          asked_are = h.asked_are;
-          rej_is = h.rej_is;
-          gapped_is = h.gapped_is;
-          owed_is = h.owed_is;
-        }
+    by true e = grind (arith, drop-next)
+    by false e = grind (arith, drop_of_length-le)
 
 -- The missing numbers. None of them is held.
 below-held : (m n : ℕ) (hs : List Held) → IsRising n hs → m < n → is_held m hs ≡ false
@@ -173,18 +139,7 @@ outside-found low asked r (h ∷ hs) rising told = up (h.number - r) r (omega (a
 
 -- where a missing number is told by the limit
 told-by : (t : Taking) (i : Incoming) → StandsIn t i → (m : ℕ) → t.taken ≤ m → is_held m t.held ≡ false → Told t.asked_below i.asked m
-told-by t i h m low free = by (nat_lt m t.asked_below) refl (is_among m i.asked) refl
-  where
-    by : (u : Bool) → nat_lt m t.asked_below ≡ u → (v : Bool) → is_among m i.asked ≡ v → v ≡ u
-    by true e true f = refl
-    by false e false f = refl
-    by false e true f = let below : m < t.asked_below = h.asked_are.lie_below m f in absurd (grind (arith, nat_tests, e, below))
-    by true e false f =
-        let below : m < t.asked_below = grind (arith, nat_tests, e) in
-        elim (h.asked_are.were_asked m (omega (arith, low, h.taken_is)) below) [
-          | inl held ↦ (let full : is_held m t.held ≡ true = rw h.held_is held in cc)
-          | inr among ↦ cc
-        ]
+told-by t i h m low free = grind (arith)
 
 -- by SREJ what is asked for is the first missing number from the limit on
 pub asks-found : (t : Taking) (i : Incoming) → StandsIn t i → IsRising t.taken t.held → t.srej ≡ true
@@ -222,21 +177,7 @@ least-up low n h hs (suc k) r e next f = by (nat_le low r) refl f (least-up low 
         → cond u (Some r) (find (λ m. nat_le low m) (range_with_len (r + 1) k ++ missing_from (h.number + 1) hs)) ≡ Some n
         → (find (λ m. nat_le low m) (range_with_len (r + 1) k ++ missing_from (h.number + 1) hs) ≡ Some n → IsLeast low (r + 1) n (h ∷ hs))
         → IsLeast low r n (h ∷ hs)
-    by true w f rest =
-        let same : r ≡ n = cc in
-        record {
-          above = grind (arith, nat_tests, w, same);
-          behind = omega (arith, same);
-          held_before = λ m low_m less high. absurd (omega (arith, same, low_m, less));
-        }
-    by false w f rest =
-        let least : IsLeast low (r + 1) n (h ∷ hs) = rest f in
-        let below : r < low = grind (arith, nat_tests, w) in
-        record {
-          above = least.above;
-          behind = omega (arith, least.behind);
-          held_before = λ m low_m less high. least.held_before m (omega (arith, low_m, high, below)) less high;
-        }
+    by u w f rest = grind (arith)
 
 found-least : (low r n : ℕ) (hs : List Held) → IsRising r hs → find (λ m. nat_le low m) (missing_from r hs) ≡ Some n → IsLeast low r n hs
 found-least low r n [] rising e = cc
@@ -250,8 +191,7 @@ among-snoc m n (x ∷ xs) = by (nat_eq x m) (among-snoc m n xs)
   where
     by : (u : Bool) → is_among m (xs ++ n ∷ []) ≡ is_among m xs || nat_eq n m
         → u || is_among m (xs ++ n ∷ []) ≡ u || is_among m xs || nat_eq n m
-    by true rest = refl
-    by false rest = rest
+    by u rest = grind (arith)
 
 pub stands-asked : (t : Taking) (i : Incoming) (found n : ℕ) → StandsIn t i → IsRising t.taken t.held → t.srej ≡ true
     → Some found ≡ find (λ m. nat_le t.asked_below m) (missing_from t.taken t.held) → asks i ≡ Some n
@@ -278,32 +218,14 @@ stands-asked t i found n h rising srej e a =
     })
   where
     below : IsLeast t.asked_below t.taken n t.held → (m : ℕ) → is_among m i.asked || nat_eq n m ≡ true → m < n + 1
-    below least m among = by (is_among m i.asked) refl among
-      where
-        by : (u : Bool) → is_among m i.asked ≡ u → u || nat_eq n m ≡ true → m < n + 1
-        by q0 w among = grind (arith)
+    below least m among = grind (arith)
 
     more : (m : ℕ) (u : Bool) → is_among m i.asked ≡ u → u ≡ true → is_among m (i.asked ++ n ∷ []) ≡ true
     more m u w t = rw (among-snoc m n i.asked, w, t) refl
 
     asked : IsLeast t.asked_below t.taken n t.held → (m : ℕ) → length i.taken ≤ m → m < n + 1
         → (is_held m i.held ≡ true) ⊎ (is_among m (i.asked ++ n ∷ []) ≡ true)
-    asked least m low less = by (nat_eq n m) refl (nat_lt m t.asked_below) refl
-      where
-        by : (u : Bool) → nat_eq n m ≡ u → (v : Bool) → nat_lt m t.asked_below ≡ v
-            → (is_held m i.held ≡ true) ⊎ (is_among m (i.asked ++ n ∷ []) ≡ true)
-        by true w v x = inr (rw (among-snoc m n i.asked, w) (last (is_among m i.asked)))
-          where
-            last : (b : Bool) → b || true ≡ true
-            last q0 = grind (arith)
-        by false w true x =
-            let under : m < t.asked_below = grind (arith, nat_tests, x) in
-            elim (h.asked_are.were_asked m low under) [ inl held ↦ inl held | inr among ↦ inr (more m true among refl) ]
-        by false w false x =
-            let over : t.asked_below ≤ m = grind (arith, nat_tests, x) in
-            let before : m < n = grind (arith, nat_tests, w, less) in
-            let behind : t.taken ≤ m = omega (arith, low, h.taken_is) in
-            inl (ap (λ hs. is_held m hs) (sym h.held_is) ∙ least.held_before m behind before over)
+    asked least m low less = grind (arith, among-snoc, more)
 
 -- where nothing is missing nothing is due
 pub none-due : (t : Taking) (i : Incoming) (n : ℕ) → StandsIn t i → IsRising t.taken t.held → t.srej ≡ true

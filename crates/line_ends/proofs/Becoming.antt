@@ -84,18 +84,7 @@ slot-becomes laws c sender ts hearing wide low behind = go (sent_ago delay sende
             (bits_behind (4 * c.symbols) before signal) first.0 upto.0 first.1
             (subst (λ xs. Records c.script sender xs upto.0) (slot-added (4 * c.symbols) before signal) upto.1) in
             let o = some-outcome (loses c.script sender (length (drop delay ts))) sender c.dlci slot.sent r.octets r.patterns in
-            let a : Arrives c sender (drop delay ts) (x.turn ∷ drop delay ts) hearing slot o.0 =
-            record {
-              before = first.0;
-              samples = upto.0;
-              recorded_before = first.1;
-              recorded = recorded;
-              not_lost = n;
-              octets = r.octets;
-              patterns = r.patterns;
-              received = r.received;
-              outcome = o.1;
-            } in
+            let a : Arrives c sender (drop delay ts) (x.turn ∷ drop delay ts) hearing slot o.0 = grind (arith, first, upto) in
             heard-as (Some slot) e o.0 (subst (λ us. Arrives c sender (drop delay ts) us hearing slot o.0) (sym x.rest) a)
 
     go : (o : Option Spoken) → sent_ago delay sender ts ≡ o → Becomes c sender ts hearing
@@ -135,8 +124,7 @@ line-or-heard c ts checks = go
   where
     both : IsHeardWell c Answerer ts (checks Originator) → IsHeardWell c Originator ts (checks Answerer) → (role : Role)
         → IsHeardWell c (other role) ts (checks role)
-    both w v Originator = w
-    both w v Answerer = v
+    both w v role = grind (arith)
 
     go : Becomes c Answerer ts (checks Originator) → Becomes c Originator ts (checks Answerer)
         → ((end : LineEnd) × EndsLineBy c ts checks end) ⊎ ((role : Role) → IsHeardWell c (other role) ts (checks role))

@@ -103,8 +103,7 @@ lost-named-to script (t ∷ ts) h role =
     let longer : length ts + 1 ≡ length (t ∷ ts) = omega arith in
     let one = subst (λ n. named_in script.losses (other role) (length ts - d) + lost_in (of role t).heard ≤ named_in script.losses
     (other role) (n - d)) longer
-    (counts-on script (other role) ts (of role t).heard (h.0 role)) in
-    omega (arith, before, one)
+    (counts-on script (other role) ts (of role t).heard (h.0 role)) in grind (arith)
 
 lost-both : (ts : List Turn) → lost_slots ts ≡ lost_to Originator ts + lost_to Answerer ts
 lost-both [] = refl

@@ -22,10 +22,7 @@ pub both-decided : {P Q : Type 0} → Decided P → Decided Q → Decided (P × 
 both-decided x d = grind (arith)
 
 three-decided : {P Q R : Type 0} → Decided P → Decided Q → Decided R → Decided (P × Q × R)
-three-decided (inl p) (inl q) (inl r) = inl (p, q, r)
-three-decided (inl p) (inl q) (inr r) = inr (λ h. r h.2)
-three-decided (inl p) (inr q) d = inr (λ h. q h.1)
-three-decided (inr p) d e = inr (λ h. p h.0)
+three-decided given d d2 = grind (arith)
 
 pub number-decided : (m n : ℕ) → Decided (m ≡ n)
 number-decided zero zero = inl refl
@@ -49,9 +46,7 @@ list-decided same (x ∷ xs) (y ∷ ys) = go (same x y) (list-decided same xs ys
     tail e = cc
 
     go : Decided (x ≡ y) → Decided (xs ≡ ys) → Decided (x ∷ xs ≡ y ∷ ys)
-    go (inl e) (inl f) = inl (ap (λ z. z ∷ xs) e ∙ ap (λ zs. y ∷ zs) f)
-    go (inl e) (inr f) = inr (λ g. f (tail g))
-    go (inr e) f = inr (λ g. e (head g))
+    go given f = grind (arith, tail, head)
 
 some-below : (o : Option ℕ) (m : ℕ) → Decided (IfSome o (λ n. n < m))
 some-below None m = inl tt

@@ -74,8 +74,7 @@ broken-end : EndLaws → (script : ScriptValue) (files : Both (List ℕ)) (ts : 
     → (m : MadeOver (wire_of script) files ts ends) (role : Role) (fault : LinkFault)
     → m.outcome ≡ Broken role fault → HasEnd script files
 broken-end laws script files ts ends h r m role fault e =
-    let is : TurnIs (link_of script files) ts ends m.turn m.mid (Broken role fault) =
-    subst (TurnIs (link_of script files) ts ends m.turn m.mid) e m.is in
+    let is : TurnIs (link_of script files) ts ends m.turn m.mid (Broken role fault) = grind (arith) in
     go role fault e (laws.named (link_of script files) ts ends m.turn m.mid role fault (laws.play script files h) r.run is)
   where
     left : Left
@@ -102,9 +101,7 @@ broken-end laws script files ts ends h r m role fault e =
         ended = in-turn script files ts ends m (Broken Originator faults.NotDetected) (e ∙ ap (λ x. Broken x faults.NotDetected) n);
       };
     }
-    go role (faults.BadAck nr va high) e n = absurd n
-    go role (faults.PeerReset va vr) e n = absurd n
-    go role faults.PeerRefused e n = absurd n
+    go role fault e n = grind (arith)
 
 -- by the turns that follow, where one is made
 goes : EndLaws → (script : ScriptValue) (files : Both (List ℕ)) → IsInLimits script → (ts : List Turn) (ends : Accounts)

@@ -31,9 +31,7 @@ fits-one codable script files ts ends t after h r k g role sendable fit =
     let phase : ℕ = phase_after size (slots_of size before) in
     let can = codable (wire_of script) files ts ends t after h r k g role slot 0 phase
     (phase-low size 0 (slots_of size before) (omega arith)) e is in
-    let fits : Fits size phase (signal_of slot.check role 0 slot.sent)
-    = codable-fits slot.check role 0 (symbols_of script) phase slot.sent
-    (spelled-octets slot.check role 0 slot.sent (omega arith) is) can in
+    let fits : Fits size phase (signal_of slot.check role 0 slot.sent) = grind (arith, codable-fits, spelled-octets) in
     subst (λ o. AreFit size 0 (before ++ signal_in (wire_of script) role o)) (sym e)
     (fit-more size 0 before (signal_of slot.check role 0 slot.sent) fit fits)
 

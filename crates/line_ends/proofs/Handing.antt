@@ -4,7 +4,7 @@ use Rattle.std.proofs.Common.{refl, sym, subst, Option, Some, None}
 use Rattle.std.specs.List.{concat}
 use Rattle.std.proofs.lemmas.List.{length-take}
 use Rattle.std.proofs.lemmas.List.Elements.{All-nil, All-cons, All-head, All-tail, All-push, All-take}
-use Rattle.line_ends.proofs.Names.{Account, AreOctets, OwnBreaks, after_ask, after_break_asked, after_busy, after_given, is_connected}
+use Rattle.line_ends.proofs.Names.{Account, AreOctets, OwnBreaks, after_ask, after_break_asked, after_busy, after_given}
 use Rattle.line_ends.proofs.Names.{takes_break, wants}
 use Rattle.link_run.specs.End.{User, BreakLine, delivered, offered_at, offered_times, room_for, offered, is_busy, next_break, asked_at}
 use Rattle.link_run.specs.End.{asked, served}
@@ -48,11 +48,7 @@ pub record OfferLaws : Type 0 where
   pub own : OwnSegmentsStay
 
 holds-delivered : (file : List ℕ) (a : Account) → Holds file a → Holds file (after_given (delivered a))
-holds-delivered file a h = go (is_connected a.phase)
-  where
-    go : (b : Bool) → Holds file (after_given (cond b (record a { incoming = record a.incoming { given = length a.incoming.taken } }) a))
-    go true = grind (arith)
-    go false = grind (arith)
+holds-delivered file a h = grind (arith)
 
 offers-at : OfferLaws → (file : List ℕ) (a : Account) (w : Option ℕ) → wants a ≡ w → Holds file a → Holds file (offered_at file a w)
 offers-at laws file a w e h = grind (arith, length-take)

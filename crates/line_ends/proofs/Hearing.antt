@@ -1,11 +1,11 @@
 -- What is heard in a script's run whose noise is faint.
-use Rattle.std.proofs.Common.{◌≡◌, ◌≢◌, ℕ, ◌+◌, ◌-◌, ◌*◌, ◌<◌, ◌≤◌, Bool, true, List, [], ◌∷◌, ◌++◌, length, drop, arith, refl, sym, ◌∙◌}
+use Rattle.std.proofs.Common.{◌≡◌, ◌≢◌, ℕ, ◌+◌, ◌-◌, ◌*◌, ◌<◌, ◌≤◌, Bool, true, List, [], ◌∷◌, ◌++◌, length, drop, arith, refl, sym}
 use Rattle.std.proofs.Common.{subst, Option, Some, None, append-nil}
 use Rattle.line_ends.proofs.Names.{Accounts, AllSendable, Answerer, AreFit, Arrives, ArrivesAs, Both, Chance, Check, FaintGoOn}
 use Rattle.line_ends.proofs.Names.{FaintNeverLost, FaintReceivedIsSent, Frame, Heard, IsFaint, IsHeardOf, IsInLimits, IsSendable, LineRun}
 use Rattle.line_ends.proofs.Names.{LosesLine, NeverChance, Nothing, Originator, Records, Role, RunsOver, SamplesAreCarried, ScriptValue}
 use Rattle.line_ends.proofs.Names.{ScriptsHaveDelays, ScriptsMayPlay, Sent, SentAgo, Signal, SlotsAreCodable, SlotsHaveRoom, Spoken, Turn}
-use Rattle.line_ends.proofs.Names.{Wire, check_of, delay_of, link_of, loses, of, other, sent-ago, sent_ago, signal_bits, signal_in}
+use Rattle.line_ends.proofs.Names.{Wire, check_of, delay_of, link_of, loses, of, other, sent-ago, sent_ago, signal_bits}
 use Rattle.line_ends.proofs.Names.{signal_of, signals, wire_of}
 use Rattle.lapm_frames.specs.Checked.{check_for}
 use Rattle.lapm_frames.specs.declared.sent.Sent.TheVariants as slots
@@ -55,10 +55,8 @@ arrives-unhindered laws script sender earlier t hearing slot heard h d e fit is 
     let c : Wire = wire_of script in
     let before : List Signal = signals c sender earlier in
     let signal : Signal = signal_of slot.check sender 0 slot.sent in
-    let fits : AreFit (bits_in script) 0 (before ++ signal ∷ []) =
-    subst (λ o. AreFit (bits_in script) 0 (before ++ signal_in c sender o)) e fit in
-    let recorded : Records script sender (signal_bits (bits_in script) (before ++ signal ∷ [])) a.samples
-    = subst (λ o. Records script sender (signal_bits (bits_in script) (before ++ signal_in c sender o)) a.samples) e a.recorded in
+    let fits : AreFit (bits_in script) 0 (before ++ signal ∷ []) = grind (arith) in
+    let recorded : Records script sender (signal_bits (bits_in script) (before ++ signal ∷ [])) a.samples = grind (arith) in
     let same = laws.received script slot.check hearing sender 0 (symbols_of script) before slot.sent a.before a.samples a.octets a.patterns
     (d sender (symbols_of script * (length before + 1))) (slots-long script) fits is agree a.recorded_before recorded a.received in
     let lose : Bool = loses script sender (length earlier) in
@@ -98,24 +96,12 @@ heard-named laws script files ts ends h d r s role heard k = go (sent_ago delay 
     go (Some slot) e a =
         let x : SentAgo sender delay ts slot = sent-ago sender delay ts slot (laws.delays script h sender) e in
         let fit : AreFit (bits_in script) 0 (signals (wire_of script) sender (x.turn ∷ drop delay ts))
-        = subst (λ us. AreFit (bits_in script) 0 (signals (wire_of script) sender us)) x.rest
-        (fits-before script sender (delay - 1) ts (fits-all laws.codable script files ts ends h r s sender)) in
+        = grind (arith, sender, fits-before, delay, fits-all) in
         let arrives : Arrives (wire_of script) sender (drop delay ts) (x.turn ∷ drop delay ts) hearing slot heard
         = subst (λ us. Arrives (wire_of script) sender (drop delay ts) us hearing slot heard) x.rest a in
-        let checks : ChecksAgree slot.check hearing slot.sent
-        = agree-on slot.check hearing slot.sent
-        (λ frame f. laws.judges (link_of script files) (delay_of script) ts ends
-        (over laws script files ts ends h r) delay role slot frame e f) in
+        let checks : ChecksAgree slot.check hearing slot.sent = grind (arith, agree-on, hearing, over, delay) in
         let same = arrives-unhindered laws script sender (drop delay ts) x.turn hearing slot heard h d x.sent fit
-        (x.sendable s) checks arrives in
-        record {
-          well = λ f. laws.never_chance (loses script sender (length (drop delay ts))) slot.sent (sym same ∙ f);
-          lost = λ l. (
-            x.enough,
-            subst (λ n. loses script sender n ≡ true) x.count
-                (lost-named (loses script sender (length (drop delay ts))) slot.sent (subst IsLost same l)),
-          );
-        }
+        (x.sendable s) checks arrives in grind (arith, loses, sender, delay, lost-named)
 
 -- the line isn't lost
 stays : HearLaws → (script : ScriptValue) (sender : Role) (ts : List Turn) (symbol : ℕ) → IsFaint script

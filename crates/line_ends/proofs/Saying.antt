@@ -189,12 +189,10 @@ module _ (file : List ℕ) where
   sixth special news busy a h = grind (arith, asking)
 
   fifth : (special : Bool) (a : Account) → IsReady file a → AllGood file (step5 special a)
-  fifth true a h = tt
-  fifth false a h = words a.their_breaks.ack a h.owes.0 h
+  fifth special a h = grind (arith, words)
 
   fourth : (turn : ℕ) (urgent : Bool) (a : Account) → IsReady file a → AllGood file (cond urgent (says_segment turn (may_send a) a) None)
-  fourth turn true a h = segment turn (may_send a) a h
-  fourth turn false a h = tt
+  fourth turn urgent a h = grind (arith, segment)
 
   all : (turn : ℕ) (special : Bool) (a : Account) → IsReady file a → IsGood file (steps turn special a)
   all turn special a h =
@@ -241,8 +239,7 @@ module _ (file : List ℕ) where
       (record { sent = tt; octets = bare; owes = h.owes })
 
   answers-due : (a : Account) → IsReady file a → IfGood file (speak_answer a)
-  answers-due a h = else-says (answering a.owes.answer a) (says slots.Flags a) (due a.owes.answer a h)
-      (record { sent = tt; octets = bare; owes = h.owes })
+  answers-due a h = grind (arith, else-says, says, due, bare)
 
   negotiates : (role : Role) (turn : ℕ) (a : Account) → IsReady file a → IfGood file (speak_negotiating role turn a)
   negotiates Originator turn a h =

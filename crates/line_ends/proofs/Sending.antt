@@ -2,7 +2,7 @@
 use Rattle.std.proofs.Common.{◌≡◌, ℕ, ◌<◌, ◌≤◌, false, List, [], ◌∷◌, All, length, filter, arith, sym, ◌∙◌, ap, subst, Option, Some, None}
 use Rattle.std.proofs.Common.{IfSome, Ok}
 use Rattle.std.specs.Prelude.{unwrap_or}
-use Rattle.std.proofs.lemmas.List.Elements.{All-nil, All-map, All-filter}
+use Rattle.std.proofs.lemmas.List.Elements.{All-map, All-filter}
 use Rattle.line_ends.proofs.Names.{Accounts, AllPlain, AllSendable, AllShort, Answerer, AreOctets, AsksInOctets, Both, Carries, Crosses}
 use Rattle.line_ends.proofs.Names.{Frame, GoingTurn, Heard, Hears, INFO, IsAllowed, IsInLimits, IsPlainSent, IsSendable, LineRun, Link}
 use Rattle.line_ends.proofs.Names.{OctetsAreSendable, OneIsCarried, Originator, Role, RunsOver, SamplesAreCarried, ScriptValue}
@@ -17,7 +17,7 @@ use Rattle.link_account.specs.Play.{arrives}
 use Rattle.link_run.specs.End.{is_released}
 use Rattle.link_run.specs.Reading.{StaysOffered, BeginsUnoffered, HearingStaysOffered, SpeakingStaysOffered}
 use Rattle.line_ends.proofs.Slots.{plain-sent}
-use Rattle.line_ends.proofs.Words.{Octet, ArrivesInOctets, heard-owes}
+use Rattle.line_ends.proofs.Words.{ArrivesInOctets, heard-owes}
 use Rattle.line_ends.proofs.Saying.{information_in, IsGood, said-good}
 use Rattle.line_ends.proofs.Handing.{IsOctetBreak, Holds, OfferLaws, ready, holds-served}
 
@@ -43,8 +43,7 @@ breaks-octets script role h =
 
 user-octets : (script : ScriptValue) (files : Both (List ℕ)) → AsksInOctets script → (role : Role)
     → All IsOctetBreak (of role (link_of script files)).user.breaks
-user-octets script files o Originator = breaks-octets script Originator o
-user-octets script files o Answerer = breaks-octets script Answerer o
+user-octets script files o role = grind (arith, breaks-octets)
 
 -- the offer that an end may send
 offers-allowed : ScriptsMayPlay → (script : ScriptValue) (files : Both (List ℕ)) → IsInLimits script → (role : Role)
@@ -185,28 +184,7 @@ next-turn laws c files ts before t after h o r carries g k =
 
 pub holds-all : SendLaws → (c : Wire) (files : Both (List ℕ)) (ts : List Turn) (ends : Accounts) → IsInLimits c.script
     → AsksInOctets c.script → LineRun c (link_of c.script files) ts ends → HoldBoth (file_of c.script files) ts ends
-holds-all laws c files [] ends h o r =
-    record {
-      plain = tt;
-      short = tt;
-      sendable = λ are. tt;
-      holds = λ role. subst (λ (e : Accounts). Holds (file_of c.script files role) (of role e)) (sym r.run) (begins role);
-    }
-  where
-    link : Link
-    link = link_of c.script files
-
-    begins : (role : Role) → Holds (file_of c.script files role) (of role (start link))
-    begins Originator = record {
-      offered = laws.begins link.orig.user.file link.orig.setup (offers-allowed laws.play c.script files h Originator);
-      own = All-nil Octet;
-      owes = (tt, All-nil Octet);
-    }
-    begins Answerer = record {
-      offered = laws.begins link.answ.user.file link.answ.setup (offers-allowed laws.play c.script files h Answerer);
-      own = All-nil Octet;
-      owes = (tt, All-nil Octet);
-    }
+holds-all laws c files [] ends h o r = grind (arith, start, offers-allowed)
 holds-all laws c files (t ∷ ts) ends h o r =
     let before : LineRun c (link_of c.script files) ts r.run.0 = record { run = r.run.1; heard = r.heard.1 } in
     next-turn laws c files ts r.run.0 t ends h o before (laws.one c ts t r.heard.0) r.run.2

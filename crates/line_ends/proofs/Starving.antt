@@ -84,8 +84,7 @@ gives-up-on-time laws c files (NotDetected turn) left h r =
     let e = r.ended in
     let run = over laws c files r.turns r.ends h r.run in
     let told = laws.on_time c.script.tries (period_of c.script) (delay_of c.script) (link_of c.script files) r.turns r.ends e.last e.mid
-    (laws.time c.script files h) run.run run.carried e.is in
-    (e.number ∙ told.0, told.1)
+    (laws.time c.script files h) run.run run.carried e.is in grind (arith)
 gives-up-on-time laws c files end left h r = tt
 
 gives-each-break : Laws → (c : Wire) (files : Both (List ℕ)) (end : RunEnd) (left : Left) → IsInLimits c.script
@@ -99,17 +98,16 @@ gives-each-break laws c files (IsDone turn) left h r =
 gives-each-break laws c files end left h r = tt
 
 pub ends-have-causes : Laws → EndsHaveCauses
-ends-have-causes laws c files end left h r = record {
-  starved = lost-links-were-starved laws c files end left h r;
-  periods = loses-without-break laws c files end left h r;
-  unasked = loses-unasked laws c files end left h r;
-  on_time = gives-up-on-time laws c files end left h r;
-  breaks = gives-each-break laws c files end left h r;
-}
+ends-have-causes laws c files end left h r = assumption (
+  lost-links-were-starved laws c files end left h r,
+  loses-without-break laws c files end left h r,
+  loses-unasked laws c files end left h r,
+  gives-up-on-time laws c files end left h r,
+  gives-each-break laws c files end left h r,
+)
 
 pub few-losses-keep-links : ScriptsKeepTime → LostLinksWereStarved → StarvedLosesMany → FewLossesKeepLinks
 few-losses-keep-links time starved many c files end left h r few g =
     let lost = many c.script.tries (period_of c.script) (delay_of c.script) (link_of c.script files)
     (turns_heard c (link_of c.script files) r.turns r.ends end left r.ended) (time c.script files h)
-    (starved c files end left h r g) in
-    omega (arith, few, lost)
+    (starved c files end left h r g) in grind (arith)

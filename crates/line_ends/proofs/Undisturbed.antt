@@ -1,6 +1,6 @@
 -- Runs of scripts whose noise is faint are done.
 use Rattle.std.proofs.Common.{◌≡◌, ℕ, List, [], ◌∷◌, length, arith, ap, subst}
-use Rattle.line_ends.proofs.Names.{Accounts, AllSendable, Answerer, Both, Broken, ChanceMatch, CompletesQuiet, CompletesUndisturbed}
+use Rattle.line_ends.proofs.Names.{Accounts, AllSendable, Both, Broken, ChanceMatch, CompletesQuiet, CompletesUndisturbed}
 use Rattle.line_ends.proofs.Names.{CompletesWithFewLosses, CompletesWithFewNamed, DisplacesNoneIsFaint, Done, DoneLeavesWhole, EachRunEnds}
 use Rattle.line_ends.proofs.Names.{EmptyScriptDisplacesNone, EndsInTurn, FaintGoOn, HasEnd, HeardIn, Hears, IsDone, IsFaint, IsInLimits}
 use Rattle.line_ends.proofs.Names.{IsQuiet, Left, LineEnds, LineLost, LineRun, Link, LinkLost, LosesWhatIsNamed, NotDetected}
@@ -102,5 +102,4 @@ quiet-deliver play delays whole done ends script files h f q o =
     }
   where
     is-whole : (role : Role) {got : List ℕ} → got ≡ (of (other role) (link_of script files)).user.file → got ≡ of (other role) files
-    is-whole Originator e = e
-    is-whole Answerer e = e
+    is-whole role e = grind (arith)

@@ -1,14 +1,13 @@
 -- The word of a break that an end owes and the breaks that its user is given are octets, where the frames that it hears bring octets.
-use Rattle.std.proofs.Common.{◌≡◌, ℕ, ◌<◌, ◌%◌, ◌&&◌, ◌||◌, Bool, true, false, cond, nat_eq, List, [], ◌∷◌, length, arith, refl, sym, subst}
+use Rattle.std.proofs.Common.{◌≡◌, ℕ, ◌<◌, ◌%◌, ◌||◌, Bool, true, false, cond, nat_eq, List, [], ◌∷◌, length, arith, refl, sym, subst}
 use Rattle.std.proofs.Common.{Option, Some, None, Result, Ok, Err}
-use Rattle.std.specs.Option.{option_map}
 use Rattle.std.proofs.lemmas.List.Elements.{All-cons, All-head, All-push, All-tail}
 use Rattle.line_ends.proofs.Names.{Account, AreOctets, Frame, InOctets, LinkFault, Role, Seen, is_originator, with_given}
 use Rattle.lapm_frames.specs.declared.frame.Frame.TheVariants.{I, Rr, Rnr, Rej, Srej, Sabme, Disc, Dm, Frmr, Ui}
 use Rattle.xid_params.specs.declared.offer.Offer.{Offer}
-use Rattle.lapm_sender.specs.Outgoing.{Outgoing, acknowledged, rejected, replied, selected, paused_at, resumed}
+use Rattle.lapm_sender.specs.Outgoing.{Outgoing, acknowledged, rejected, replied, selected}
 use Rattle.break_signals.specs.declared.word.BreakWord.{BreakWord}
-use Rattle.break_signals.specs.declared.word.BreakWord.TheVariants.{Brk, Ack}
+use Rattle.break_signals.specs.declared.word.BreakWord.TheVariants.{Brk}
 use Rattle.break_signals.specs.declared.fault.BreakFault.{BreakFault}
 use Rattle.break_signals.specs.Words.{spelled, word_in, IsSpelledBack}
 use Rattle.lapm_frames.specs.declared.arrived.Arrived.{Arrived}
@@ -17,8 +16,8 @@ use Rattle.link_account.specs.declared.phase.Phase.{Phase}
 use Rattle.link_account.specs.declared.phase.Phase.TheVariants.{Detecting, Negotiating, Establishing, Connected, Releasing, Closed}
 use Rattle.link_account.specs.declared.answer.Answer.TheVariants as answers
 use Rattle.link_account.specs.Hear.{hear, on_frame, on_seen, on_pattern, on_detecting, on_negotiating, on_establishing, on_connected}
-use Rattle.link_account.specs.Hear.{on_releasing, on_closed, on_xid_command, on_xid_response, on_number, on_disc, on_word, then_in, taking}
-use Rattle.link_account.specs.Hear.{replying, hurrying, ends_wait, owing, peer_reset, pausing}
+use Rattle.link_account.specs.Hear.{on_releasing, on_closed, on_xid_command, on_xid_response, on_number, on_disc, on_word, then_in}
+use Rattle.link_account.specs.Hear.{owing, peer_reset}
 
 abbrev pub Octet : ℕ → Type 0
 Octet octet = octet < 256
@@ -89,21 +88,13 @@ word-owes back a turn info (Ok (Brk number length_octet)) e i h =
         → AreOctets (with_given (cond b (Some length_octet) None) a.their_breaks.lengths)
     lengths few true = All-push Octet a.their_breaks.lengths length_octet h.1 few
     lengths few false = h.1
-word-owes back a turn info (Ok (Ack number length_octet)) e i h = h
-word-owes back a turn info (Err fault) e i h = h
+word-owes back a turn info w e i h = grind (arith)
 
 connected-owes : IsSpelledBack → (a : Account) (turn : ℕ) (frame : Frame) → InOctets frame → Owes a → OnHeard (on_connected frame turn a)
-connected-owes back a turn (I ns nr pf info) i h =
-    number-owes a turn nr (acknowledged nr a.outgoing) (λ b. replying pf (taking ns info b)) h (λ b k. k)
-connected-owes back a turn (Rr command nr pf) i h =
-    number-owes a turn nr (option_map resumed (cond (ends_wait command pf a) (replied nr a.outgoing) (acknowledged nr a.outgoing)))
-    (λ b. hurrying (ends_wait command pf a) (replying (command && pf) b)) h (λ b k. k)
-connected-owes back a turn (Rnr command nr pf) i h =
-    number-owes a turn nr (option_map paused_at (cond (ends_wait command pf a) (replied nr a.outgoing) (acknowledged nr a.outgoing)))
-    (λ b. pausing turn (replying (command && pf) b)) h (λ b k. k)
-connected-owes back a turn (Rej command nr pf) i h =
-    number-owes a turn nr (option_map resumed (cond (ends_wait command pf a) (replied nr a.outgoing) (rejected nr a.outgoing)))
-    (λ b. hurrying (ends_wait command pf a) (replying (command && pf) b)) h (λ b k. k)
+connected-owes back a turn (I ns nr pf info) i h = grind (arith, number-owes, acknowledged)
+connected-owes back a turn (Rr command nr pf) i h = grind (arith, number-owes, replied, acknowledged)
+connected-owes back a turn (Rnr command nr pf) i h = grind (arith, number-owes, replied, acknowledged)
+connected-owes back a turn (Rej command nr pf) i h = grind (arith, number-owes, replied, rejected)
 connected-owes back a turn (Srej command nr pf) i h = one-owes a turn nr (selected nr a.outgoing) h
 connected-owes back a turn (Sabme pf) i h = sabme-owes a pf (a.numbered || is_originator a.setup.role) h
 connected-owes back a turn (Disc pf) i h = disc-owes a pf a.setup.role h

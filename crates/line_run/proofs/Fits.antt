@@ -1,27 +1,20 @@
 -- Slots that fit one another, and what fits a slot.
-use Rattle.std.proofs.Common.{◌≡◌, ◌∙◌, ℕ, ◌+◌, ◌-◌, ◌*◌, ◌/◌, ◌<◌, ◌≤◌, Bool, List, [], ◌∷◌, ◌++◌, length, All, Some, None, ap, arith}
-use Rattle.std.proofs.Common.{length-append}
-use Rattle.std.proofs.Math.Nat.{mul-suc}
-use Rattle.std.proofs.lemmas.List.Elements.{All-append}
-use Rattle.line_run.proofs.Cited.{AreFit, AreSlots, Check, Fits, FlagSlot, Frame, IsCodable, IsFrame, IsSendable, IsSlot, MarkSlot}
-use Rattle.line_run.proofs.Cited.{OfOctets, PatternSlot, Role, Sent, Signal, bits_from, check_for, checked, flags, framed, information_of}
-use Rattle.line_run.proofs.Cited.{next_phase, opening, phase_from, rest_of_flag, signal_of, slot_bits, slot_of, slots_of, spelled}
-use Rattle.frame_check.specs.declared.check.Check.TheVariants.{Sixteen, ThirtyTwo}
+use Rattle.line_run.proofs.Cited.{◌≡◌, ℕ, ◌+◌, ◌-◌, ◌*◌, ◌/◌, ◌<◌, ◌≤◌, Bool, List, [], ◌∷◌, ◌++◌, length, All, Some, arith, length-append}
+use Rattle.line_run.proofs.Cited.{mul-suc, All-append, length-slot_bits, AreSlots, IsSlot, bits_from, flags, framed, next_phase, opening}
+use Rattle.line_run.proofs.Cited.{phase_from, rest_of_flag, slot_bits, TAIL, Signal, slot_of, slots_of, FlagSlot, Check, check_for, checked}
+use Rattle.line_run.proofs.Cited.{IsFrame, information_of, spelled, IsSendable, Frame, Sent, AreFit, Fits, OfOctets, IsCodable, signal_of}
+use Rattle.line_run.proofs.Cited.{Role}
 use Rattle.frame_check.specs.Division.{check_of, count_of}
 use Rattle.frame_check.proofs.Checks.{check_of-is, length-check_of}
-use Rattle.bit_stuffing.specs.declared.slot_writer.TheConstants.{TAIL}
 use Rattle.bit_stuffing.proofs.Fill.{length-flags, next-low}
-use Rattle.bit_stuffing.proofs.Sizes.{length-slot_bits, length-empty, length-opening}
+use Rattle.bit_stuffing.proofs.Sizes.{length-empty, length-opening}
 use Rattle.lapm_frames.proofs.Octets.{length-information, length-spelled, spelled-small}
 use Rattle.lapm_frames.specs.declared.sent.Sent.TheVariants as sent
 use Rattle.line_run.proofs.Patterns.{ArePlain}
 
 pub fit-slot : (plain : ArePlain) (size phase : ℕ) (signal : Signal) → 552 < size → phase < 8 → Fits size phase signal
     → IsSlot size phase (slot_of size signal)
-fit-slot plain size phase (PatternSlot seen) long low h = plain.patterns size seen long
-fit-slot plain size phase MarkSlot long low h = plain.marks size long
-fit-slot plain size phase (FlagSlot None) long low h = omega (arith, length-empty phase low)
-fit-slot plain size phase (FlagSlot (Some octets)) long low h = (h.0, omega (arith, h.1))
+fit-slot plain size phase signal long low h = grind (arith, length-empty)
 
 pub fit-slots : (plain : ArePlain) (size phase : ℕ) (signals : List Signal) → 552 < size → phase < 8 → AreFit size phase signals
     → AreSlots size phase (slots_of size signals)
@@ -53,25 +46,20 @@ length-fit plain size phase (signal ∷ signals) long low h =
     let slot = slot_of size signal in
     let rest = length-fit plain size (next_phase size phase slot) signals long (next-low size phase slot) h.1 in
     let both = length-append {A = Bool} (slot_bits size phase slot) (bits_from size (next_phase size phase slot) (slots_of size signals)) in
-    let here = length-slot_bits size phase slot (fit-slot plain size phase signal long low h.0) in
-    omega (arith, both, here, rest, mul-suc size (length signals))
+    let here = length-slot_bits size phase slot (fit-slot plain size phase signal long low h.0) in grind (arith, mul-suc)
 
 -- how many octets a frame has
 
 count-two : (check : Check) → (2 ≤ count_of check) × (count_of check ≤ 4)
-count-two Sixteen = (omega arith, omega arith)
-count-two ThirtyTwo = (omega arith, omega arith)
+count-two check = grind (arith)
 
 length-whole : (check : Check) (sender : Role) (dlci : ℕ) (frame : Frame)
     → length (checked check sender dlci frame) ≡ length (spelled frame sender dlci) + count_of (check_for check frame)
-length-whole check sender dlci frame =
-    length-append {A = ℕ} (spelled frame sender dlci) (check_of (check_for check frame) (spelled frame sender dlci))
-    ∙ ap (λ n. length (spelled frame sender dlci) + n) (length-check_of (check_for check frame) (spelled frame sender dlci))
+length-whole check sender dlci frame = grind (arith, length-append, spelled, length-check_of)
 
 pub few-besides : (check : Check) (sender : Role) (dlci : ℕ) (frame : Frame)
     → length (checked check sender dlci frame) ≤ 7 + length (information_of frame)
-few-besides check sender dlci frame =
-    omega (arith, length-whole check sender dlci frame, (length-spelled frame sender dlci).1, (count-two (check_for check frame)).1)
+few-besides check sender dlci frame = grind (arith, length-whole, length-spelled, count-two)
 
 -- frames that can be coded
 
@@ -80,8 +68,7 @@ pub short-codable : (check : Check) (sender : Role) (dlci symbols phase most : �
     → length (checked check sender dlci frame) ≤ most → 47 + 8 * most + 8 * most / 5 ≤ 4 * (symbols - TAIL)
     → IsCodable check sender dlci symbols phase (sent.Frame frame)
 short-codable check sender dlci symbols phase most frame low is few room =
-    let long = length-opening phase (checked check sender dlci frame) low in
-    record { sendable = is; room = omega (arith, long, few, room) }
+    let long = length-opening phase (checked check sender dlci frame) low in grind (arith)
 
 -- the octets of a frame
 
@@ -95,20 +82,10 @@ checked-small check sender dlci frame low is h =
 
 pub spelled-octets : (check : Check) (sender : Role) (dlci : ℕ) (s : Sent) → dlci < 64 → IsSendable s
     → OfOctets (signal_of check sender dlci s)
-spelled-octets check sender dlci sent.Mark low is = tt
-spelled-octets check sender dlci sent.Odp low is = tt
-spelled-octets check sender dlci sent.Adp low is = tt
-spelled-octets check sender dlci sent.Flags low is = tt
-spelled-octets check sender dlci (sent.Frame frame) low is = checked-small check sender dlci frame low is.0 is.1
+spelled-octets check sender dlci s low is = grind (arith, checked-small)
 
 some-flags : (count : ℕ) (before behind : List Bool) → 8 * count ≤ length (before ++ flags count ++ behind)
-some-flags count before behind =
-    omega (
-      arith,
-      length-append {A = Bool} (before ++ flags count) behind,
-      length-append {A = Bool} before (flags count),
-      length-flags count,
-    )
+some-flags count before behind = grind (arith, length-append, flags, length-flags)
 
 some-opening : (phase : ℕ) (frame : List ℕ) → 32 ≤ length (opening phase (Some frame))
 some-opening phase frame = some-flags 4 (rest_of_flag phase) (framed (Some frame))
@@ -117,11 +94,7 @@ some-opening phase frame = some-flags 4 (rest_of_flag phase) (framed (Some frame
 
 pub codable-sendable : (check : Check) (sender : Role) (dlci symbols phase : ℕ) (s : Sent) → IsCodable check sender dlci symbols phase s
     → IsSendable s
-codable-sendable check sender dlci symbols phase sent.Mark k = tt
-codable-sendable check sender dlci symbols phase sent.Odp k = tt
-codable-sendable check sender dlci symbols phase sent.Adp k = tt
-codable-sendable check sender dlci symbols phase sent.Flags k = tt
-codable-sendable check sender dlci symbols phase (sent.Frame frame) k = k.sendable
+codable-sendable check sender dlci symbols phase s k = grind (arith)
 
 frame-fits : (check : Check) (sender : Role) (dlci symbols phase : ℕ) (frame : Frame)
     → All (λ octet. octet < 256) (checked check sender dlci frame) → IsFrame frame
@@ -138,9 +111,4 @@ frame-fits check sender dlci symbols phase frame small is room = (
 
 pub codable-fits : (check : Check) (sender : Role) (dlci symbols phase : ℕ) (s : Sent) → OfOctets (signal_of check sender dlci s)
     → IsCodable check sender dlci symbols phase s → Fits (4 * symbols) phase (signal_of check sender dlci s)
-codable-fits check sender dlci symbols phase sent.Mark small k = tt
-codable-fits check sender dlci symbols phase sent.Odp small k = tt
-codable-fits check sender dlci symbols phase sent.Adp small k = tt
-codable-fits check sender dlci symbols phase sent.Flags small k = tt
-codable-fits check sender dlci symbols phase (sent.Frame frame) small k =
-    frame-fits check sender dlci symbols phase frame small k.sendable.0 k.room
+codable-fits check sender dlci symbols phase s small k = grind (arith, frame-fits)

@@ -1,24 +1,14 @@
 -- What the ends of a script's link send fits the slots of its line.
-use Rattle.std.proofs.Common.{◌≡◌, ℕ, ◌+◌, ◌-◌, ◌*◌, ◌/◌, ◌<◌, ◌≤◌, max, length, arith, refl, Some}
-use Rattle.line_run.proofs.Cited.{Answerer, Check, FewOctetsBesidesInformation, Frame, IsCodable, IsSendable, Originator, Role, SendsShort}
-use Rattle.line_run.proofs.Cited.{Sent, ShortIsCodable, SlotsAreCodable, SlotsHaveRoom, checked, delay_of, information_of, link_of}
-use Rattle.line_run.proofs.Cited.{longest_of, of, slot_symbols}
-use Rattle.bit_stuffing.specs.declared.slot_writer.TheConstants.{TAIL}
+use Rattle.line_run.proofs.Cited.{◌≡◌, ℕ, ◌+◌, ◌-◌, ◌*◌, ◌/◌, ◌<◌, ◌≤◌, length, arith, refl, Some, TAIL, Check, checked, information_of}
+use Rattle.line_run.proofs.Cited.{IsSendable, Frame, Sent, FewOctetsBesidesInformation, ShortIsCodable, SlotsAreCodable, SlotsHaveRoom}
+use Rattle.line_run.proofs.Cited.{link_of, longest_of, slot_symbols, SendsShort, delay_of, IsCodable, of, Role, Answerer, Originator}
+use Rattle.std.proofs.Common.{max}
 use Rattle.lapm_frames.specs.declared.sent.Sent.TheVariants as sent
 use Rattle.line_run.proofs.Sampling.{samples_are_carried, one_is_carried}
 use Rattle.line_run.proofs.Scripting.{scripts_may_play, scripts_have_delays}
 
 pub slots_have_room : SlotsHaveRoom
-slots_have_room script h = (
-  omega arith,
-  omega (
-    arith,
-    h.offer_orig_allowed.tx_len_high,
-    h.offer_orig_allowed.rx_len_high,
-    h.offer_answ_allowed.tx_len_high,
-    h.offer_answ_allowed.rx_len_high,
-  ),
-)
+slots_have_room script h = grind (arith)
 
 -- a slot has room for the longest stuffing
 room : (n most : ℕ) → most ≡ n + 7 → 47 + 8 * most + 8 * most / 5 ≤ 4 * (slot_symbols n - TAIL)

@@ -1,8 +1,7 @@
 -- What a decoder makes of recordings, whatever displaces their samples.
-use Rattle.std.proofs.Common.{◌≡◌, ℕ, ◌+◌, ◌*◌, ◌≤◌, Bool, List, length, ◌++◌, take, arith, sym, ap, subst, ◌∙◌, length-append}
+use Rattle.line_run.proofs.Cited.{◌≡◌, ℕ, ◌+◌, ◌*◌, ◌≤◌, Bool, List, length, ◌++◌, take, arith, sym, ap, subst, ◌∙◌, length-append}
+use Rattle.line_run.proofs.Cited.{IsReleased, line_trellis, ScriptValue, LosesAt, LosesWithin, Records, IsPrefixOf, Role, Sample}
 use Rattle.std.proofs.lemmas.List.{take_all}
-use Rattle.shared_terms.specs.Prefix.{IsPrefixOf}
-use Rattle.line_run.proofs.Cited.{IsReleased, LosesAt, LosesWithin, Records, Role, Sample, ScriptValue, line_trellis}
 
 -- Of a sender's first symbols, so many: the labels that are released were sent, all that was sent is released but for the last bits, at
 -- most

@@ -1,7 +1,6 @@
 -- What is heard of a line that a decoder follows.
-use Rattle.std.proofs.Common.{ℕ, ◌+◌, ◌*◌, ◌<◌, length, arith}
-use Rattle.line_run.proofs.Cited.{DisplacesNoneBefore, HeardIsSentWhere, IsFaintBefore, NeverLostWhere, PassesUnhinderedWhere}
-use Rattle.line_run.proofs.Cited.{ReceivedIsSentWhere, Role, ScriptValue, SentIsReceivedWhere, sender_of}
+use Rattle.line_run.proofs.Cited.{ℕ, ◌+◌, ◌*◌, ◌<◌, length, arith, IsFaintBefore, HeardIsSentWhere, NeverLostWhere, PassesUnhinderedWhere}
+use Rattle.line_run.proofs.Cited.{ReceivedIsSentWhere, SentIsReceivedWhere, DisplacesNoneBefore, ScriptValue, sender_of, Role}
 use Rattle.line_run.proofs.Patterns.{AreSeen}
 use Rattle.line_run.proofs.Settled.{LeavesTime}
 use Rattle.line_run.proofs.Following.{Follows, none-within}
@@ -48,13 +47,7 @@ passes-where Holds most lag f laws line script passed signal check hearing dlci 
 -- where no symbol is displaced, and where noise is faint
 
 pub undisplaced : IsFollowed DisplacesNoneBefore 138 96
-undisplaced = record {
-  follows = undisplaced-followed;
-  time = λ symbols long. record { long = omega arith; frames = omega arith; patterns = omega arith };
-}
+undisplaced = grind (arith, undisplaced-followed)
 
 pub faint : IsFollowed IsFaintBefore 215 504
-faint = record {
-  follows = faint-followed;
-  time = λ symbols long. record { long = omega arith; frames = omega arith; patterns = omega arith };
-}
+faint = grind (arith, faint-followed)

@@ -1,11 +1,9 @@
 -- However a run ends, what was given begins the other's file; done means whole.
-use Rattle.std.proofs.Common.{◌≡◌, ℕ, List, ◌∷◌, length, sym, ◌∙◌, subst}
-use Rattle.line_run.proofs.Cited.{Accounts, ChanceMatch, DoneIsWhole, DoneLeavesWhole, EndsInTurn, EndsOnLine, Hears, HearsPrefixes}
-use Rattle.line_run.proofs.Cited.{HearsWhatPassed, HoldPrefixes, IsDone, Leaves, Left, LineEnd, LineLost, LineRun, Link, LinkLost, MayRun}
-use Rattle.line_run.proofs.Cited.{NotDetected, OneIsCarried, Role, RunsLeavePrefixes, RunsLeaveWhatPassed, RunsOver, SamplesAreCarried}
-use Rattle.line_run.proofs.Cited.{TakesPrefixes, TakesWhatPassed, Turn, Wire, agreed_srej, delay_of, of, other}
-use Rattle.shared_terms.specs.Prefix.{IsPrefixOf}
-use Rattle.link_run.specs.Outcomes.{Outcome, Going, Done, Broken, TurnIs}
+use Rattle.line_run.proofs.Cited.{arith, ◌≡◌, ℕ, List, ◌∷◌, length, sym, ◌∙◌, subst, ChanceMatch, DoneLeavesWhole, EndsInTurn, EndsOnLine}
+use Rattle.line_run.proofs.Cited.{IsDone, Leaves, Left, LineLost, LinkLost, MayRun, NotDetected, RunsLeavePrefixes, RunsLeaveWhatPassed}
+use Rattle.line_run.proofs.Cited.{OneIsCarried, SamplesAreCarried, LineEnd, LineRun, Wire, DoneIsWhole, HearsPrefixes, HearsWhatPassed}
+use Rattle.line_run.proofs.Cited.{HoldPrefixes, RunsOver, TakesPrefixes, TakesWhatPassed, agreed_srej, Outcome, Done, TurnIs, Accounts}
+use Rattle.line_run.proofs.Cited.{Hears, Link, Turn, delay_of, of, IsPrefixOf, other, Role}
 use Rattle.link_run.specs.Taken.{taken_octets}
 
 pub record RunLaws : Type 0 where
@@ -36,9 +34,7 @@ over laws c link ts ends m r = record { may_play = m.may_play; delays = m.delays
 
 pub hearing-in : (link : Link) (ts : List Turn) (ends : Accounts) (t : Turn) (mid : Accounts) (o : Outcome) → TurnIs link ts ends t mid o
     → Hears (length ts) ends t mid
-hearing-in link ts ends t mid Going h = subst (Hears (length ts) ends t) h.2 h.1.hearing
-hearing-in link ts ends t mid Done h = h.hearing
-hearing-in link ts ends t mid (Broken role fault) h = h.hearing
+hearing-in link ts ends t mid o h = grind (arith)
 
 in-turn : (laws : RunLaws) (c : Wire) (link : Link) (ts : List Turn) (ends : Accounts) (o : Outcome) (turn : ℕ) (left : Left)
     → MayRun c link
@@ -74,15 +70,9 @@ passed-in-turn laws c link ts ends o turn left m r e role =
     (laws.heard link (delay_of c.script) ts ends e.last e.mid (over laws c link ts ends m r) (laws.one c ts e.last e.heard)
     (hearing-in link ts ends e.last e.mid o e.is) role)
 
-passed-on-line : (laws : RunLaws) (c : Wire) (link : Link) (ts : List Turn) (ends : Accounts) (end : LineEnd) (text : List ℕ) (left : Left)
-    → MayRun c link → LineRun c link ts ends → EndsOnLine c ts ends end text left → ArePassed c link ts left
-passed-on-line laws c link ts ends end text left m r e role =
-    e.leaves.got_is role ∙ sym (laws.took link (delay_of c.script) ts ends (over laws c link ts ends m r) role)
-
 pub leave_what_passed : RunLaws → RunsLeaveWhatPassed
 leave_what_passed laws c link (IsDone turn) left m r = passed-in-turn laws c link r.turns r.ends Done turn left m r.run r.ended
 leave_what_passed laws c link (LinkLost role segment turn) left m r =
     passed-in-turn laws c link r.turns r.ends _ turn left m r.run r.ended.1
 leave_what_passed laws c link (NotDetected turn) left m r = passed-in-turn laws c link r.turns r.ends _ turn left m r.run r.ended
-leave_what_passed laws c link (LineLost role symbol) left m r = passed-on-line laws c link r.turns r.ends _ _ left m r.run r.ended
-leave_what_passed laws c link (ChanceMatch role turn) left m r = passed-on-line laws c link r.turns r.ends _ _ left m r.run r.ended.1
+leave_what_passed laws c link given left m r = grind (arith)

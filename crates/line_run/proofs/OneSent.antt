@@ -1,8 +1,7 @@
 -- The bits of a slot tell what was sent in it.
-use Rattle.std.proofs.Common.{◌≡◌, ℕ, ◌*◌, List, [], Some, None, refl, ap, subst, arith}
-use Rattle.line_run.proofs.Cited.{Check, FlagSlot, IsSendable, MarkSlot, PatternSlot, Role, Sent, Signal, SlotsTellWhatWasSent, SpellsFrame}
-use Rattle.line_run.proofs.Cited.{checked, signal_of}
-use Rattle.lapm_frames.proofs.Checking.{spells, spells-one}
+use Rattle.line_run.proofs.Cited.{◌≡◌, ℕ, List, [], Some, None, refl, ap, subst, arith, Signal, FlagSlot, MarkSlot, PatternSlot, Check}
+use Rattle.line_run.proofs.Cited.{spells, SpellsFrame, checked, IsSendable, Sent, SlotsTellWhatWasSent, signal_of, Role}
+use Rattle.lapm_frames.proofs.Checking.{spells-one}
 use Rattle.lapm_frames.specs.declared.sent.Sent.TheVariants as sent
 use Rattle.detection.proofs.OneSignal.{one-signal}
 use Rattle.line_run.proofs.Patterns.{ArePlain}
@@ -51,10 +50,4 @@ pub one-sent : ArePlain → SlotsTellWhatWasSent
 one-sent plain check sender dlci symbols phase s other channel few long codable codable_other e =
     let is = codable-sendable check sender dlci symbols phase s codable in
     let others = codable-sendable check sender dlci symbols phase other codable_other in
-    signals-tell check sender dlci s other is others
-    (one-signal (4 * symbols) phase (signal_of check sender dlci s) (signal_of check sender dlci other) (omega arith) few
-    (fit-slot plain (4 * symbols) phase (signal_of check sender dlci s) (omega arith) few
-    (codable-fits check sender dlci symbols phase s (spelled-octets check sender dlci s channel is) codable))
-    (fit-slot plain (4 * symbols) phase (signal_of check sender dlci other) (omega arith) few
-    (codable-fits check sender dlci symbols phase other (spelled-octets check sender dlci other channel others) codable_other))
-    e)
+    grind (arith, signals-tell, one-signal, fit-slot, codable-fits, spelled-octets)

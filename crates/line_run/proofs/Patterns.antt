@@ -1,8 +1,8 @@
 -- The laws of pattern slots that the lemmas here are handed.
-use Rattle.std.proofs.Common.{◌≡◌, ℕ, ◌<◌, Bool, List, [], ◌∷◌, ◌++◌, length, refl}
-use Rattle.line_run.proofs.Cited.{AreSlots, IsPlain, Seen, Sight, SightsAdded, Signal, pattern_bits, seen_in, signal_bits, slots_of}
-use Rattle.detection.specs.Patterns.{ones}
+use Rattle.line_run.proofs.Cited.{◌≡◌, ℕ, ◌<◌, Bool, List, [], ◌∷◌, ◌++◌, length, refl, AreSlots, IsPlain, Sight, SightsAdded, seen_in}
+use Rattle.line_run.proofs.Cited.{Signal, pattern_bits, signal_bits, slots_of, Seen}
 use Rattle.detection.specs.Sights.{sights_of}
+use Rattle.detection.specs.Patterns.{ones}
 
 -- patterns and ones may fill a slot
 pub record ArePlain : Type 0 where

@@ -1,7 +1,6 @@
 -- How many lines of a script are a role's.
-use Rattle.std.proofs.Common.{◌≡◌, ◌+◌, Bool, true, false, cond, List, [], ◌∷◌, map, filter, length, arith, refl}
-use Rattle.std.specs.List.{AllByRecursion}
-use Rattle.line_run.proofs.Cited.{Answerer, IsShort, Originator, Pause, Role, busy_line, same_role}
+use Rattle.line_run.proofs.Cited.{◌≡◌, ◌+◌, Bool, cond, List, [], ◌∷◌, map, filter, length, arith, refl, AllByRecursion, busy_line, IsShort}
+use Rattle.line_run.proofs.Cited.{Pause, same_role, Role, Answerer, Originator}
 use Rattle.turn_bound.specs.Limits as limits
 
 -- those of both roles together
@@ -20,8 +19,7 @@ parted {X = X} f role_of (x ∷ lines) = go (role_of x) (parted f role_of lines)
     go : (r : Role) → length (map f orig) + length (map f answ) ≡ length lines
         → length (map f (cond (same_role r Originator) (x ∷ orig) orig)) + length
         (map f (cond (same_role r Answerer) (x ∷ answ) answ)) ≡ length (x ∷ lines)
-    go Originator e = omega (arith, e)
-    go Answerer e = omega (arith, e)
+    go r e = grind (arith)
 
 -- a role's pauses are as short as all
 pub shorts : (role : Role) (lines : List Pause) → AllByRecursion IsShort lines
@@ -34,5 +32,4 @@ shorts role (p ∷ lines) all = go (same_role p.role role) (shorts role lines al
 
     go : (b : Bool) → AllByRecursion limits.IsShort (map busy_line rest)
         → AllByRecursion limits.IsShort (map busy_line (cond b (p ∷ rest) rest))
-    go true more = (all.0, more)
-    go false more = more
+    go b more = grind (arith)

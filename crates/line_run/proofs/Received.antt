@@ -1,33 +1,27 @@
 -- What is received in a slot is what was sent in it.
-use Rattle.std.proofs.Common.{◌≡◌, ◌∙◌, inr, ℕ, ◌+◌, ◌*◌, ◌<◌, ◌≤◌, Bool, true, false, List, [], ◌∷◌, ◌++◌, length, take, drop, map}
-use Rattle.std.proofs.Common.{replicate, Ok, Err, Result, refl, sym, ap, subst, arith, length-append, append-nil, append_assoc}
-use Rattle.std.proofs.Math.Nat.{mul_assoc, mul-suc}
-use Rattle.std.proofs.Math.Seq.{take-append_seam, drop-append_seam}
-use Rattle.std.proofs.lemmas.List.{take-append-drop, length-drop}
+use Rattle.line_run.proofs.Cited.{◌≡◌, ◌∙◌, ℕ, ◌+◌, ◌*◌, ◌<◌, ◌≤◌, Bool, true, false, List, [], ◌∷◌, ◌++◌, length, take, drop, map, refl}
+use Rattle.line_run.proofs.Cited.{sym, ap, subst, arith, length-append, append-nil, append_assoc, mul_assoc, mul-suc, take-append_seam}
+use Rattle.line_run.proofs.Cited.{drop-append_seam, length-drop, pieces-stay, Found, pieces_of, FoundIn, wholes, phase_after, slot_bits}
+use Rattle.line_run.proofs.Cited.{Sight, seen_in, sights_of, Signal, signal_bits, slot_of, slots_of, IsReleased, line_trellis, Check}
+use Rattle.line_run.proofs.Cited.{spells, SpellsFrame, check_for, checked, spelled, IsSendable, Frame, Heard, Chance, Seen, Sent}
+use Rattle.line_run.proofs.Cited.{first-stay, four-each, Demodulates, AreFit, ChecksAgree, octets_in, patterns_in, unhindered, ScriptValue}
+use Rattle.line_run.proofs.Cited.{recordings-grow, slot-added, Kept, Passes, PassesSlot, bits_behind, sender_of, size_of, mode_of}
+use Rattle.line_run.proofs.Cited.{IsOutcome, Receives, Records, signal_of, tap_of, Role, Sample}
+use Rattle.std.proofs.Common.{replicate, Ok, Err, Result}
+use Rattle.std.proofs.lemmas.List.{take-append-drop}
 use Rattle.std.proofs.lemmas.List.Elements.{All-replicate}
-use Rattle.line_run.proofs.Cited.{AreFit, Check, ChecksAgree, Frame, IsReleased, IsSendable, Kept, Passes, PassesSlot, Records, Role}
-use Rattle.line_run.proofs.Cited.{Sample, ScriptValue, Seen, Sent, Sight, Signal, SpellsFrame, bits_behind, check_for, checked, first-stay}
-use Rattle.line_run.proofs.Cited.{four-each, line_trellis, mode_of, octets_in, patterns_in, phase_after, seen_in, sender_of, sights_of}
-use Rattle.line_run.proofs.Cited.{signal_bits, signal_of, size_of, slot_bits, slot_of, slots_of, spelled, tap_of, unhindered}
 use Rattle.scramblers.proofs.Readings.{Descrambles_once}
 use Rattle.exact_decoder.proofs.Surviving.Least.{some-released}
 use Rattle.exact_decoder.specs.declared.decoder.Lost.{Lost}
 use Rattle.exact_decoder.proofs.Surviving.V32.{line-has-laws}
-use Rattle.line_coding.specs.Demodulates.{Demodulates, line_of}
-use Rattle.bit_stuffing.specs.Found.{Found, pieces_of}
-use Rattle.bit_stuffing.specs.Sent.{FoundIn, wholes}
-use Rattle.bit_stuffing.proofs.Sent.{pieces-stay}
+use Rattle.line_coding.specs.Demodulates.{line_of}
 use Rattle.lapm_frames.specs.declared.seen.Seen.TheVariants as seen
 use Rattle.frame_check.specs.Division.{with_check}
-use Rattle.lapm_frames.proofs.Checking.{spells}
 use Rattle.lapm_frames.specs.declared.sent.Sent.TheVariants as sent
-use Rattle.lapm_frames.specs.declared.heard.Heard.{Heard}
-use Rattle.lapm_frames.specs.declared.heard.Heard.TheVariants.{Chance}
-use Rattle.sample_line.specs.Outcomes.{IsPattern, IsOutcome}
-use Rattle.sample_line.specs.Received.{PassTheCheck, FoundBetween, Gives, Receives}
+use Rattle.sample_line.specs.Outcomes.{IsPattern}
+use Rattle.sample_line.specs.Received.{PassTheCheck, FoundBetween, Gives}
 use Rattle.sample_line.proofs.Finding.{wholes-append}
-use Rattle.sample_line.proofs.Passing.{slot-added}
-use Rattle.sample_line.proofs.Once.{given-stays, outcome-once, received-once, recordings-grow}
+use Rattle.sample_line.proofs.Once.{given-stays, outcome-once, received-once}
 use Rattle.line_run.proofs.Patterns.{AreSeen}
 use Rattle.line_run.proofs.Fits.{fit-front, length-fit}
 use Rattle.line_run.proofs.Recordings.{tap-some}
@@ -42,8 +36,7 @@ released-carry : (lag : ℕ) (script : ScriptValue) (sender : Role) (count : ℕ
 released-carry lag script sender count bits samples labels follows few r released =
     let tap : ℕ = tap_of (mode_of sender) in
     let sent = follows.sent bits samples labels few r released in
-    let first : take (length labels) r.modulated.labels ≡ labels =
-    ap (take (length labels)) (sym sent.1) ∙ take-append_seam labels sent.0 in
+    let first : take (length labels) r.modulated.labels ≡ labels = grind (arith, take-append_seam) in
     subst (λ (xs : List ℕ). Demodulates tap xs (take (4 * length labels) bits)) first
     (first-stay tap (length labels) r.modulated.labels bits (tap-some sender) (carried script sender bits samples r))
 
@@ -76,34 +69,21 @@ slot-octets : (size start phase : ℕ) (behind : Bool) (check hearing : Check) (
     → IsSendable s → ChecksAgree check hearing s
     → FoundIn size start phase behind (slot_of size (signal_of check sender dlci s)) added
     → PassTheCheck hearing (wholes added) (octets_in sender dlci s)
-slot-octets size start phase true check hearing sender dlci sent.Mark added is agree h =
-    subst (λ (xs : List Found). PassTheCheck hearing (wholes xs) []) (sym h.3) refl
-slot-octets size start phase false check hearing sender dlci sent.Mark added is agree h =
-    subst (λ (xs : List Found). PassTheCheck hearing (wholes xs) []) (sym h) refl
-slot-octets size start phase true check hearing sender dlci sent.Odp added is agree h =
-    subst (λ (xs : List Found). PassTheCheck hearing (wholes xs) []) (sym h.3) refl
-slot-octets size start phase false check hearing sender dlci sent.Odp added is agree h =
-    subst (λ (xs : List Found). PassTheCheck hearing (wholes xs) []) (sym h) refl
-slot-octets size start phase true check hearing sender dlci sent.Adp added is agree h =
-    subst (λ (xs : List Found). PassTheCheck hearing (wholes xs) []) (sym h.3) refl
-slot-octets size start phase false check hearing sender dlci sent.Adp added is agree h =
-    subst (λ (xs : List Found). PassTheCheck hearing (wholes xs) []) (sym h) refl
-slot-octets size start phase behind check hearing sender dlci sent.Flags added is agree h =
-    subst (λ (xs : List Found). PassTheCheck hearing (wholes xs) []) (sym h) refl
+slot-octets size start phase true check hearing sender dlci sent.Mark added is agree h = grind (arith)
+slot-octets size start phase false check hearing sender dlci sent.Mark added is agree h = grind (arith)
+slot-octets size start phase true check hearing sender dlci sent.Odp added is agree h = grind (arith)
+slot-octets size start phase false check hearing sender dlci sent.Odp added is agree h = grind (arith)
+slot-octets size start phase true check hearing sender dlci sent.Adp added is agree h = grind (arith)
+slot-octets size start phase false check hearing sender dlci sent.Adp added is agree h = grind (arith)
+slot-octets size start phase behind check hearing sender dlci sent.Flags added is agree h = grind (arith)
 slot-octets size start phase behind check hearing sender dlci (sent.Frame frame) added is agree h =
     let s : SpellsFrame hearing sender dlci (checked check sender dlci frame) frame
     = subst (λ (whole : List ℕ). SpellsFrame hearing sender dlci whole frame) (same-checked check hearing sender dlci frame agree)
-    (spells hearing sender dlci frame is.0) in
-    subst (λ (xs : List Found). PassTheCheck hearing (wholes xs) (spelled frame sender dlci ∷ [])) (sym h)
-    (inr (s.octets, [], s.passes, ap (λ (front : List ℕ). front ∷ []) (sym s.spelling.1), refl))
+    (spells hearing sender dlci frame is.0) in grind (arith, spelled)
 
 slot-patterns : (check : Check) (sender : Role) (dlci start : ℕ) (s : Sent)
     → map (λ (sight : Sight). sight.seen) (seen_in start (signal_of check sender dlci s)) ≡ patterns_in s
-slot-patterns check sender dlci start sent.Mark = refl
-slot-patterns check sender dlci start sent.Odp = refl
-slot-patterns check sender dlci start sent.Adp = refl
-slot-patterns check sender dlci start sent.Flags = refl
-slot-patterns check sender dlci start (sent.Frame frame) = refl
+slot-patterns check sender dlci start s = grind (arith)
 
 same-behind : {X : Type 0} (front a b : List X) → front ++ a ≡ front ++ b → a ≡ b
 same-behind front a b e = sym (drop-append_seam front a) ∙ ap (drop (length front)) e ∙ drop-append_seam front b
@@ -118,8 +98,7 @@ pub record Grows (earlier later : List Bool) : Type 0 where
 more-grows : (laws : AreSeen) (earlier more : List Bool) → Grows earlier (earlier ++ more)
 more-grows laws earlier more =
     let pieces = pieces-stay earlier more in
-    let sights = laws.stay earlier more in
-    record { pieces = pieces.0; pieces_are = pieces.1.all; sights = sights.0; sights_are = sights.1.all }
+    let sights = laws.stay earlier more in grind (arith)
 
 -- what is found of a slot in the bits that were read up to its end and not before
 found-sent : (laws : AreSeen) (lag : ℕ) (check hearing : Check) (sender : Role) (dlci size : ℕ) (passed : List Signal) (s : Sent)
@@ -139,20 +118,16 @@ found-sent laws lag check hearing sender dlci size passed s earlier later time f
     = a.all ∙ ap (λ xs. xs ++ a.added) before.pieces ∙ append_assoc (pieces_of earlier) before.added a.added in
     let other_way : pieces_of (signal_bits size (passed ++ signal ∷ [])) ≡ pieces_of earlier ++ (f.pieces ++ upto.added)
     = upto.pieces ∙ ap (λ xs. xs ++ upto.added) f.pieces_are ∙ append_assoc (pieces_of earlier) f.pieces upto.added in
-    let pieces : f.pieces ++ upto.added ≡ before.added ++ a.added =
-    same-behind (pieces_of earlier) (f.pieces ++ upto.added) (before.added ++ a.added) (sym other_way ∙ one_way) in
+    let pieces : f.pieces ++ upto.added ≡ before.added ++ a.added = grind (arith, same-behind) in
     let whole : wholes f.pieces ≡ wholes a.added
     = sym (append-nil (wholes f.pieces)) ∙ ap (λ xs. wholes f.pieces ++ xs) (sym upto.none) ∙ sym (wholes-append f.pieces upto.added)
     ∙ ap wholes pieces
     ∙ wholes-append before.added a.added ∙ ap (λ xs. xs ++ wholes a.added) before.none in
-    let sights : f.sights ≡ seen_in start signal
-    = same-behind (sights_of earlier) f.sights (seen_in start signal) (sym f.sights_are ∙ sym upto.sights ∙ a.sights
-    ∙ ap (λ xs. xs ++ seen_in start signal) before.sights) in
+    let sights : f.sights ≡ seen_in start signal = grind (arith, same-behind) in
     record {
       pieces = f.pieces;
       pieces_are = f.pieces_are;
-      octets_are = subst (λ (xs : List (List ℕ)). PassTheCheck hearing xs (octets_in sender dlci s)) (sym whole)
-          (slot-octets size start _ _ check hearing sender dlci s a.added is agree a.found);
+      octets_are = grind (arith, slot-octets);
       sights = f.sights;
       sights_are = f.sights_are;
       patterns_are = sym (slot-patterns check sender dlci start s) ∙ ap (map (λ (sight : Sight). sight.seen)) (sym sights);
@@ -163,18 +138,7 @@ bounds : (laws : AreSeen) (symbols : ℕ) (passed : List Signal) (signal : Signa
     → AreFit (4 * symbols) 0 (passed ++ signal ∷ [])
     → (length (signal_bits (4 * symbols) passed) ≤ 4 * (symbols * (length passed + 1)))
     × (length (signal_bits (4 * symbols) (passed ++ signal ∷ [])) ≤ 4 * (symbols * (length passed + 1)))
-bounds laws symbols passed signal long fit =
-    let all = length-fit laws.plain (4 * symbols) 0 (passed ++ signal ∷ []) (omega arith) (omega arith) fit in
-    let some = length-fit laws.plain (4 * symbols) 0 passed (omega arith) (omega arith)
-    (fit-front (4 * symbols) 0 passed (signal ∷ []) fit) in
-    let one_more : length (passed ++ signal ∷ []) ≡ length passed + 1 = length-append {A = Signal} passed (signal ∷ []) in
-    (rw some (by-size symbols (length passed)), rw (all, one_more) (whole-size symbols (length passed)))
-  where
-    whole-size : (m n : ℕ) → 4 * m * (n + 1) ≤ 4 * (m * (n + 1))
-    whole-size m n = subst (λ k. k ≤ 4 * (m * (n + 1))) (sym (mul_assoc 4 m (n + 1))) (omega arith)
-
-    by-size : (m n : ℕ) → 4 * m * n ≤ 4 * (m * (n + 1))
-    by-size m n = subst (λ k. k ≤ 4 * (m * (n + 1))) (sym (mul_assoc 4 m n)) (let more = mul-suc m n in omega (arith, more))
+bounds laws symbols passed signal long fit = grind (arith, length-fit, fit-front, length-append, mul_assoc, mul-suc)
 
 -- slots that leave time are long enough for patterns
 long-of : (lag symbols : ℕ) → LeavesTime lag (4 * symbols) → 138 < symbols
@@ -243,8 +207,7 @@ given-received laws lag script check hearing sender dlci size passed s before up
     let signal : Signal = signal_of check sender dlci s in
     let slot : List Bool = slot_bits size (phase_after size (slots_of size passed)) (slot_of size signal) in
     let joined : signal_bits size (passed ++ signal ∷ []) ≡ signal_bits size passed ++ slot = slot-added size passed signal in
-    let added : Records script sender (signal_bits size passed ++ slot) upto =
-    subst (λ (xs : List Bool). Records script sender xs upto) joined new in
+    let added : Records script sender (signal_bits size passed ++ slot) upto = grind (arith) in
     record {
       earlier = earlier;
       later = later;
@@ -280,16 +243,7 @@ all-nine pattern = (refl, (λ e. absurd cc), All-replicate (λ other. other ≡ 
 
 pub as-expected : (loses : Bool) (sender : Role) (dlci : ℕ) (s : Sent) → IsSendable s
     → IsOutcome loses sender dlci s (octets_in sender dlci s) (patterns_in s) (unhindered loses s)
-as-expected true sender dlci sent.Mark is = refl
-as-expected false sender dlci sent.Mark is = (refl, (refl, refl))
-as-expected true sender dlci sent.Flags is = refl
-as-expected false sender dlci sent.Flags is = (refl, (refl, refl))
-as-expected true sender dlci sent.Odp is = (refl, refl)
-as-expected false sender dlci sent.Odp is = (refl, all-nine seen.Odp)
-as-expected true sender dlci sent.Adp is = (refl, refl)
-as-expected false sender dlci sent.Adp is = (refl, all-nine seen.Adp)
-as-expected true sender dlci (sent.Frame frame) is = (refl, refl)
-as-expected false sender dlci (sent.Frame frame) is = (refl, (spelled frame sender dlci, (is.0, refl), refl, refl))
+as-expected loses sender dlci s is = grind (arith, all-nine, spelled)
 
 pub heard-sent : (laws : AreSeen) (lag : ℕ) (line : Kept) (script : ScriptValue) (passed : List Signal) (signal : Signal)
     (check hearing : Check) (dlci : ℕ) (loses : Bool) (s : Sent) (heard : Heard)
@@ -299,8 +253,7 @@ pub heard-sent : (laws : AreSeen) (lag : ℕ) (line : Kept) (script : ScriptValu
     → PassesSlot line script passed signal hearing dlci loses s heard → heard ≡ unhindered loses s
 heard-sent laws lag line script passed signal check hearing dlci loses s heard follows time fit e is agree p =
     let sender : Role = sender_of line in
-    let fit_s : AreFit (size_of line) 0 (passed ++ signal_of check sender dlci s ∷ []) =
-    subst (λ (x : Signal). AreFit (size_of line) 0 (passed ++ x ∷ [])) e fit in
+    let fit_s : AreFit (size_of line) 0 (passed ++ signal_of check sender dlci s ∷ []) = grind (arith) in
     let recorded : Records script sender (signal_bits (size_of line) (passed ++ signal_of check sender dlci s ∷ [])) p.upto
     = subst (λ (x : Signal). Records script sender (signal_bits (size_of line) (passed ++ x ∷ [])) p.upto) e p.recorded in
     let same = received-sent laws lag script check hearing sender dlci line.symbols passed s p.before p.upto p.octets p.patterns
@@ -311,14 +264,7 @@ heard-sent laws lag line script passed signal check hearing dlci loses s heard f
     (as-expected loses sender dlci s is)
 
 pub never-chance : (loses : Bool) (s : Sent) → unhindered loses s ≡ Chance → ⊥
-never-chance loses sent.Mark e = absurd cc
-never-chance loses sent.Flags e = absurd cc
-never-chance true sent.Odp e = absurd cc
-never-chance false sent.Odp e = absurd cc
-never-chance true sent.Adp e = absurd cc
-never-chance false sent.Adp e = absurd cc
-never-chance true (sent.Frame frame) e = absurd cc
-never-chance false (sent.Frame frame) e = absurd cc
+never-chance loses s e = grind (arith)
 
 pub passes-sent : (laws : AreSeen) (lag : ℕ) (line : Kept) (script : ScriptValue) (passed : List Signal) (signal : Signal)
     (check hearing : Check) (dlci : ℕ) (loses : Bool) (s : Sent) (result : Result Heard Lost)

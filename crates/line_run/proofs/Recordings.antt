@@ -7,7 +7,7 @@ use Rattle.std.proofs.lemmas.List.Elements.{All-nil, All-cons, All-head, All-tai
 use Rattle.frame_check.specs.Bits.{low_bits, number}
 use Rattle.trellis_tables.specs.Differential.Turned.{turned}
 use Rattle.trellis_tables.proofs.Turning.Places.{turned-snoc}
-use Rattle.line_run.proofs.Cited.{Answerer, AreFit, LosesAt, LosesWithin, LostIs, Originator, Records, Role, Sample, ScriptValue, Signal}
+use Rattle.line_run.proofs.Cited.{AreFit, LosesAt, LosesWithin, LostIs, Records, Role, Sample, ScriptValue, Signal}
 use Rattle.line_run.proofs.Cited.{displaced_from, line_depth, line_trellis, lost-stays, mode_of, point_of, signal_bits, tap_of}
 use Rattle.scramblers.specs.Scrambles.{Scrambles}
 use Rattle.scramblers.specs.Stream.{earlier}
@@ -24,8 +24,7 @@ use Rattle.line_run.proofs.Patterns.{ArePlain}
 use Rattle.line_run.proofs.Fits.{length-fit}
 
 pub tap-some : (sender : Role) → 1 ≤ tap_of (mode_of sender)
-tap-some Originator = omega arith
-tap-some Answerer = omega arith
+tap-some sender = grind (arith)
 
 -- bits are scrambled
 
@@ -72,8 +71,7 @@ four-bits true true true false = refl
 four-bits true true true true = refl
 
 number-small : (a : Bool) → number a ≤ 1
-number-small false = omega arith
-number-small true = omega arith
+number-small a = grind (arith)
 
 four-small : (a b c d : Bool) → four a b c d < 16
 four-small a b c d = omega (arith, number-small a, number-small b, number-small c, number-small d)
@@ -102,13 +100,11 @@ pub record AreCoded (quads : List ℕ) : Type 0 where
 
 coded-from : (done quads labels : List ℕ) (state : ℕ) → state < 8 → All (λ quad. quad < 16) quads → Encodes done labels state
     → AreCoded (done ++ quads)
-coded-from done [] labels state low are h =
-    record { labels = labels; end = state; encoded = subst (λ (xs : List ℕ). Encodes xs labels state) (sym (append-nil done)) h }
+coded-from done [] labels state low are h = grind (arith, append-nil)
 coded-from done (quad ∷ quads) labels state low are h =
     let y : ℕ = (sum (map turn_of done) + turn_of quad) % 4 in
     let small : y < 4 = omega arith in
-    let here : map y_of labels ++ y ∷ [] ≡ turned (map turn_of done ++ turn_of quad ∷ []) =
-    ap (λ ys. ys ++ y ∷ []) h.turned_is ∙ sym (turned-snoc (map turn_of done) (turn_of quad)) in
+    let here : map y_of labels ++ y ∷ [] ≡ turned (map turn_of done ++ turn_of quad ∷ []) = grind (arith, turned-snoc) in
     let next = Encodes-more done labels state y quad low small (All-head (λ q. q < 16) quad quads are) h here in
     subst AreCoded (append_assoc done (quad ∷ []) quads)
     (coded-from (done ++ quad ∷ []) quads _ (next_by_y state y) (next_by_y-lt state y low small)
@@ -123,21 +119,7 @@ are-coded quads are = coded-from [] quads [] 0 (omega arith) are coded-none
 recorded-of : (script : ScriptValue) (sender : Role) (bits line : List Bool) → Scrambles (tap_of (mode_of sender)) bits line
     → (fours : AreFours line) → (coded : AreCoded fours.quads)
     → Records script sender bits (displaced_from script sender 0 (map point_of coded.labels))
-recorded-of script sender bits line scrambled fours coded = record {
-  points = map point_of coded.labels;
-  modulated = record {
-    line = line;
-    quads = fours.quads;
-    labels = coded.labels;
-    end = coded.end;
-    scrambled = scrambled;
-    in_fours = fours.in_fours;
-    are_quads = fours.are_quads;
-    encoded = coded.encoded;
-    points = refl;
-  };
-  samples_are = refl;
-}
+recorded-of script sender bits line scrambled fours coded = grind (arith)
 
 pub recorded-some : (script : ScriptValue) (sender : Role) (bits : List Bool) → length bits % 4 ≡ 0 → (samples : List Sample)
     × Records script sender bits samples
@@ -151,16 +133,12 @@ recorded-some script sender bits whole =
 
 slots-fours : (plain : ArePlain) (symbols : ℕ) (signals : List Signal) → 138 < symbols → AreFit (4 * symbols) 0 signals
     → length (signal_bits (4 * symbols) signals) % 4 ≡ 0
-slots-fours plain symbols signals long h =
-    let whole = length-fit plain (4 * symbols) 0 signals (omega arith) (omega arith) h in
-    let fours : 4 * symbols * length signals ≡ 4 * (symbols * length signals) = mul_assoc 4 symbols (length signals) in
-    omega (arith, whole, fours)
+slots-fours plain symbols signals long h = grind (arith, length-fit, mul_assoc)
 
 pub slots-recorded : (plain : ArePlain) (script : ScriptValue) (sender : Role) (symbols : ℕ) (signals : List Signal) → 138 < symbols
     → AreFit (4 * symbols) 0 signals
     → (samples : List Sample) × Records script sender (signal_bits (4 * symbols) signals) samples
-slots-recorded plain script sender symbols signals long h =
-    recorded-some script sender (signal_bits (4 * symbols) signals) (slots-fours plain symbols signals long h)
+slots-recorded plain script sender symbols signals long h = grind (arith, recorded-some, slots-fours)
 
 -- losses stay
 
@@ -176,9 +154,7 @@ pub loss-in_each : (sender : Role) (script : ScriptValue) (before bits more : Li
     → LosesWithin sender script before bits symbol → Records script sender ((before ++ bits) ++ more) samples
     → LostIs line_trellis line_depth samples (Some symbol)
 loss-in_each sender script before bits more symbol samples l r =
-    let split : (before ++ bits) ++ more ≡ (before ++ l.first) ++ (l.rest ++ more)
-    = ap (λ xs. (before ++ xs) ++ more) l.bits_are ∙ ap (λ xs. xs ++ more) (sym (append_assoc before l.first l.rest))
-    ∙ append_assoc (before ++ l.first) l.rest more in
+    let split : (before ++ bits) ++ more ≡ (before ++ l.first) ++ (l.rest ++ more) = grind (arith, append_assoc) in
     loss-goes_on sender script (before ++ l.first) (l.rest ++ more) symbol samples l.loses
     (subst (λ (xs : List Bool). Records script sender xs samples) split r)
 

@@ -1,7 +1,7 @@
 -- A script and two users have one result at most.
 use Rattle.std.proofs.Common.{◌≡◌, ◌≢◌, ◌⊎◌, inl, inr, ℕ, zero, suc, ◌<◌, List, [], ◌∷◌, ◌++◌, length, arith, refl, sym, ◌∙◌, ap, subst}
 use Rattle.line_run.proofs.Cited.{Accounts, Answerer, ChanceMatch, EndsBy, EndsInTurn, EndsLine, EndsOrGoesOn, GoingTurn, HeardIn}
-use Rattle.line_run.proofs.Cited.{HeardOnce, Hears, IsDone, IsHeardOf, IsHeardOver, Leaves, Left, LineEnd, LineLost, LineRun, Link}
+use Rattle.line_run.proofs.Cited.{HeardOnce, Hears, IsDone, IsHeardOver, Leaves, Left, LineEnd, LineLost, LineRun, Link}
 use Rattle.line_run.proofs.Cited.{LinkLost, OneLineEnd, OneLineRun, OneOutcome, OneResult, Originator, Role, RunEnd, RunOf, RunsTo, Turn}
 use Rattle.line_run.proofs.Cited.{Wire, heard_in, of, other}
 use Rattle.shared_terms.specs.declared.fault.LinkFault.{LinkFault}
@@ -107,10 +107,7 @@ both-heard laws c ts es t u mid later h k p q =
     ∙ ap (λ z. record { orig = u.orig.heard; answ = z }) (each Answerer)
   where
     each : (role : Role) → (of role t).heard ≡ (of role u).heard
-    each role =
-        laws.heard c (other role) ts (of role u).check (of role t).heard (of role u).heard
-        (subst (λ z. IsHeardOf c (other role) ts z (of role t).heard)
-        (same-checks (length ts) (length ts) es es t u mid later refl h k role) (p role).heard_of) (q role).heard_of
+    each role = grind (arith, other, same-checks)
 
 same-cause : (laws : ResultLaws) (c : Wire) (link : Link) (ts : List Turn) (es : Accounts) (k q : Cause) (a b : Left)
     → EndsWith c link ts es k a → EndsWith c link ts es q b → (k ≡ q) × (a ≡ b)
@@ -134,11 +131,7 @@ pub same-or-less : (m n : ℕ) → m < suc n → (n ≡ m) ⊎ (m < n)
 same-or-less zero zero l = inl refl
 same-or-less zero (suc n) l = inr (omega arith)
 same-or-less (suc m) zero l = absurd (omega (arith, l))
-same-or-less (suc m) (suc n) l = up (same-or-less m n (omega (arith, l)))
-  where
-    up : (n ≡ m) ⊎ (m < n) → (suc n ≡ suc m) ⊎ (suc m < suc n)
-    up (inl e) = inl (ap suc e)
-    up (inr k) = inr (omega (arith, k))
+same-or-less (suc m) (suc n) l = grind (arith)
 
 -- the turn of that number in a longer run
 pub record Cut (c : Wire) (link : Link) (n : ℕ) : Type 0 where
@@ -194,12 +187,7 @@ pub compare : (m n : ℕ) → (m ≡ n) ⊎ ((m < n) ⊎ (n < m))
 compare zero zero = inl refl
 compare zero (suc n) = inr (inl (omega arith))
 compare (suc m) zero = inr (inr (omega arith))
-compare (suc m) (suc n) = up (compare m n)
-  where
-    up : (m ≡ n) ⊎ ((m < n) ⊎ (n < m)) → (suc m ≡ suc n) ⊎ ((suc m < suc n) ⊎ (suc n < suc m))
-    up (inl e) = inl (ap suc e)
-    up (inr (inl l)) = inr (inl (omega (arith, l)))
-    up (inr (inr l)) = inr (inr (omega (arith, l)))
+compare (suc m) (suc n) = grind (arith)
 
 pub one_result : ResultLaws → OneResult
 one_result laws c link a b left others r q = go (compare (length r.turns) (length q.turns))

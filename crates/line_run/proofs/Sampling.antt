@@ -1,5 +1,5 @@
 -- The line of samples as a line: what is heard of it, and once.
-use Rattle.std.proofs.Common.{◌≡◌, ◌≢◌, ℕ, ◌-◌, Bool, true, false, List, [], ◌∷◌, length, map, drop, arith, refl, sym, ◌∙◌, ap, subst}
+use Rattle.std.proofs.Common.{◌≡◌, ◌≢◌, ℕ, ◌-◌, Bool, true, List, [], ◌∷◌, length, map, drop, arith, refl, sym, ◌∙◌, ap, subst}
 use Rattle.std.proofs.Common.{Option, Some, None}
 use Rattle.std.specs.Prelude.{is_some, unwrap_or}
 use Rattle.std.proofs.lemmas.Bool.{false≢true}
@@ -10,7 +10,7 @@ use Rattle.line_run.proofs.Cited.{bits_before, bits_of, delay_of, has_message, h
 use Rattle.exact_decoder.specs.Surviving.Laws.{LostOnce}
 use Rattle.lapm_frames.specs.declared.sent.Sent.TheVariants as sent
 use Rattle.lapm_frames.specs.declared.heard.Heard.{Heard}
-use Rattle.lapm_frames.specs.declared.heard.Heard.TheVariants.{Nothing, Passed, Lost, Chance}
+use Rattle.lapm_frames.specs.declared.heard.Heard.TheVariants.{Chance}
 use Rattle.sample_line.specs.Outcomes.{is_message, IsWhatWasSent, IsOutcome}
 use Rattle.sample_line.specs.Received.{Receives}
 use Rattle.sample_line.specs.Laws.{RecordedOnce, ReceivedOnce, OneOutcome}
@@ -19,42 +19,22 @@ use Rattle.line_run.specs.Sampled.{LineLost, ChanceMatch}
 
 -- a message is what arrives as something
 same-message : (s : Sent) → has_message s ≡ is_message s
-same-message sent.Mark = refl
-same-message sent.Flags = refl
-same-message sent.Odp = refl
-same-message sent.Adp = refl
-same-message (sent.Frame frame) = refl
+same-message s = grind (arith)
 
 what-was-sent : (sender : Role) (dlci : ℕ) (s : Sent) (octets : List (List ℕ)) (patterns : List Seen)
     → IsWhatWasSent sender dlci s octets patterns → is_message s ≡ true
-what-was-sent sender dlci sent.Mark octets patterns h = absurd h
-what-was-sent sender dlci sent.Flags octets patterns h = absurd h
-what-was-sent sender dlci sent.Odp octets patterns h = refl
-what-was-sent sender dlci sent.Adp octets patterns h = refl
-what-was-sent sender dlci (sent.Frame frame) octets patterns h = refl
+what-was-sent sender dlci s octets patterns h = grind (arith)
 
 outcome-crosses : (loses : Bool) (sender : Role) (dlci : ℕ) (slot : Spoken) (octets : List (List ℕ)) (patterns : List Seen) (heard : Heard)
     → heard ≢ Chance → IsOutcome loses sender dlci slot.sent octets patterns heard → Crosses (Some slot) heard
-outcome-crosses true sender dlci slot octets patterns Nothing well h = same-message slot.sent ∙ h
-outcome-crosses true sender dlci slot octets patterns (Passed t) well h = absurd h
-outcome-crosses true sender dlci slot octets patterns (Lost t) well h = (h.0, same-message slot.sent ∙ h.1)
-outcome-crosses true sender dlci slot octets patterns Chance well h = absurd (well refl)
-outcome-crosses false sender dlci slot octets patterns Nothing well h = same-message slot.sent ∙ h.0
-outcome-crosses false sender dlci slot octets patterns (Passed t) well h =
-    (h.0, same-message slot.sent ∙ what-was-sent sender dlci slot.sent octets patterns h.1)
-outcome-crosses false sender dlci slot octets patterns (Lost t) well h = (h.0, same-message slot.sent ∙ h.1)
-outcome-crosses false sender dlci slot octets patterns Chance well h = absurd (well refl)
+outcome-crosses loses sender dlci slot octets patterns heard well h = grind (arith, same-message, what-was-sent)
 
 arrives-crosses : (c : Wire) (sender : Role) (earlier upto : List Turn) (hearing : Check) (o : Option Spoken) (heard : Heard)
     → heard ≢ Chance → ArrivesAs c sender earlier upto hearing o heard → Crosses o heard
-arrives-crosses c sender earlier upto hearing None heard well h = subst (Crosses None) (sym h) tt
-arrives-crosses c sender earlier upto hearing (Some slot) heard well h =
-    outcome-crosses _ sender c.dlci slot h.octets h.patterns heard well h.outcome
+arrives-crosses c sender earlier upto hearing o heard well h = grind (arith, outcome-crosses)
 
 pub one_is_carried : OneIsCarried
-one_is_carried c ts t h role =
-    arrives-crosses c (other role) _ _ (of role t).check (sent_ago (delay_of c.script (other role)) (other role) ts) (of role t).heard
-    (h role).well (h role).heard_of
+one_is_carried c ts t h role = grind (arith, arrives-crosses, other)
 
 pub samples_are_carried : SamplesAreCarried
 samples_are_carried c [] h = tt
@@ -73,17 +53,14 @@ arrives-once laws c sender earlier upto hearing None heard others h k = h ∙ sy
 arrives-once laws c sender earlier upto hearing (Some slot) heard others h k =
     let b = laws.recorded c.script sender (bits_before c sender earlier) k.before h.before k.recorded_before h.recorded_before in
     let s = laws.recorded c.script sender (bits_of c sender upto) k.samples h.samples k.recorded h.recorded in
-    let r : Receives hearing sender h.before h.samples k.octets k.patterns =
-    subst (λ z. Receives hearing sender h.before z k.octets k.patterns) s
-    (subst (λ z. Receives hearing sender z k.samples k.octets k.patterns) b k.received) in
+    let r : Receives hearing sender h.before h.samples k.octets k.patterns = grind (arith) in
     let f = laws.received hearing sender h.before h.samples k.octets h.octets k.patterns h.patterns r h.received in
     laws.outcome _ sender c.dlci slot.sent h.octets h.patterns heard others h.outcome
     (subst (λ z. IsOutcome _ sender c.dlci slot.sent h.octets z others) f.1
     (subst (λ z. IsOutcome _ sender c.dlci slot.sent z k.patterns others) f.0 k.outcome))
 
 pub heard_once : SampleLaws → HeardOnce
-heard_once laws c sender ts hearing heard others h k =
-    arrives-once laws c sender _ _ hearing (sent_ago (delay_of c.script sender) sender ts) heard others h k
+heard_once laws c sender ts hearing heard others h k = grind (arith, arrives-once)
 
 -- both ends hear the same of the same slots, where they judge by the same checks
 pub same-heard : (laws : SampleLaws) (c : Wire) (ts : List Turn) (t u : Turn) → ((role : Role) → (of role t).check ≡ (of role u).check)
@@ -93,15 +70,12 @@ same-heard laws c ts t u e h k =
     ∙ ap (λ z. record { orig = u.orig.heard; answ = z }) (each Answerer)
   where
     each : (role : Role) → (of role t).heard ≡ (of role u).heard
-    each role =
-        heard_once laws c (other role) ts (of role u).check (of role t).heard (of role u).heard
-        (subst (λ z. IsHeardOf c (other role) ts z (of role t).heard) (e role) (h role).heard_of) (k role).heard_of
+    each role = grind (arith, heard_once, other)
 
 -- the checks of turns that the same ends hear
 pub same-checks : (turn others : ℕ) (before ends : Accounts) (t u : Turn) (mid later : Accounts) → before ≡ ends → Hears turn before t mid
     → Hears others ends u later → (role : Role) → (of role t).check ≡ (of role u).check
-same-checks turn others before ends t u mid later e h k role =
-    (h role).check_is ∙ ap (λ (z : Accounts). check_of (of role z)) e ∙ sym (k role).check_is
+same-checks turn others before ends t u mid later e h k role = grind (arith)
 
 same-heards : (laws : SampleLaws) (c : Wire) (link : Link) (one : OneRun) (ts us : List Turn) (ends others : Accounts)
     → length ts ≡ length us → RunOf link ts ends → RunOf link us others → IsHeardOver c ts → IsHeardOver c us
@@ -118,8 +92,7 @@ same-heards laws c link one (t ∷ ts) (u ∷ us) ends others e h k p q =
     ap (λ x. x ∷ map heard_in ts) s ∙ ap (λ l. heard_in u ∷ l) ih
 
 pub one_line_run : SampleLaws → OneRun → OneLineRun
-one_line_run laws one c link ts us ends others e h k =
-    one link ts us ends others h.run k.run (same-heards laws c link one ts us ends others e h.run k.run h.heard k.heard)
+one_line_run laws one c link ts us ends others e h k = grind (arith, same-heards)
 
 -- a line that is lost isn't heard, and is lost once
 lost-not-heard : (laws : SampleLaws) (c : Wire) (sender : Role) (ts : List Turn) (hearing : Check) (symbol : ℕ) (heard : Heard)
@@ -201,5 +174,4 @@ ends_or_is_heard laws c ts checks (ChanceMatch Originator) h w = well-not-chance
 ends_or_is_heard laws c ts checks (ChanceMatch Answerer) h w = well-not-chance laws c Originator ts (checks Answerer) (w Answerer) h.1
 
 pub ends_or_goes_on : SampleLaws → EndsOrGoesOn
-ends_or_goes_on laws c ts ends a t mid h n k =
-    ends_or_is_heard laws c ts (λ role. check_of (of role ends)) a h (heard-by c ts ends t mid n k)
+ends_or_goes_on laws c ts ends a t mid h n k = grind (arith, ends_or_is_heard, heard-by)

@@ -1,20 +1,17 @@
 -- What a script makes of a link's ends and users.
-use Rattle.std.proofs.Common.{◌≡◌, ℕ, zero, suc, ◌&&◌, ◌||◌, Bool, true, false, cond, List, [], ◌∷◌, map, filter, refl, ap, slice_get}
+use Rattle.line_run.proofs.Cited.{arith, ◌≡◌, ℕ, zero, suc, ◌&&◌, Bool, cond, List, [], ◌∷◌, map, filter, refl, BreaksAreTheScripts}
+use Rattle.line_run.proofs.Cited.{PausesAreTheScripts, ScriptsHaveDelays, ScriptsMayPlay, break_line, busy_line, covers, Break, Pause}
+use Rattle.line_run.proofs.Cited.{same_role, Role}
+use Rattle.std.proofs.Common.{◌||◌, slice_get}
 use Rattle.std.specs.List.{list_any}
 use Rattle.std.specs.Option.{option_map}
-use Rattle.line_run.proofs.Cited.{Answerer, BreaksAreTheScripts, Originator, Pause, PausesAreTheScripts, Role, ScriptsHaveDelays}
-use Rattle.line_run.proofs.Cited.{ScriptsMayPlay, break_line, busy_line, same_role}
-use Rattle.noise_script.specs.declared.entry.Break.{Break}
-use Rattle.noise_script.specs.Offsets.{covers}
 use Rattle.link_run.specs.End.{BreakLine, is_busy}
 
 pub scripts_may_play : ScriptsMayPlay
-scripts_may_play script files h =
-    record { originates = refl; answers = refl; offer_o = h.offer_orig_allowed; offer_a = h.offer_answ_allowed }
+scripts_may_play script files h = grind (arith)
 
 pub scripts_have_delays : ScriptsHaveDelays
-scripts_have_delays script h Originator = h.delay_orig_some
-scripts_have_delays script h Answerer = h.delay_answ_some
+scripts_have_delays script h given = grind (arith)
 
 abbrev as_line : ℕ × ℕ → BreakLine
 as_line b = record { turn = b.0; length_octet = b.1 }
@@ -44,8 +41,7 @@ busy-by turn role (p ∷ lines) = go (same_role p.role role) (busy-by turn role 
 
     go : (b : Bool) → is_busy turn (map busy_line rest) ≡ any
         → is_busy turn (map busy_line (cond b (p ∷ rest) rest)) ≡ ((b && covers p.from p.count turn) || any)
-    go true e = ap (λ z. covers p.from p.count turn || z) e
-    go false e = e
+    go b e = grind (arith)
 
 pub pauses_are_the_scripts : PausesAreTheScripts
 pauses_are_the_scripts script role turn = busy-by turn role script.pauses

@@ -1,20 +1,17 @@
 -- What is found in the bits of slots ends well before their last bit, so that it is found as well where some of the last bits are not yet
 -- read.
-use Rattle.std.proofs.Common.{◌≡◌, ◌∙◌, ℕ, zero, suc, ◌+◌, ◌*◌, ◌<◌, ◌≤◌, Bool, true, false, List, [], ◌∷◌, ◌++◌, length, All, Some, None}
-use Rattle.std.proofs.Common.{refl, sym, ap, subst, arith, append-nil, append_assoc, length-append}
-use Rattle.std.proofs.Math.Seq.{drop-append_seam}
-use Rattle.std.proofs.lemmas.List.Elements.{All-nil, All-cons, All-append, All-drop, All-head, All-tail, All-weaker}
+use Rattle.line_run.proofs.Cited.{◌≡◌, ◌∙◌, ℕ, zero, suc, ◌+◌, ◌*◌, ◌<◌, ◌≤◌, Bool, false, List, [], ◌∷◌, ◌++◌, length, All, refl, sym, ap}
+use Rattle.line_run.proofs.Cited.{subst, arith, append-nil, append_assoc, length-append, drop-append_seam, map-append, All-nil, All-cons}
+use Rattle.line_run.proofs.Cited.{All-append, All-head, All-tail, pieces-stay, length-slot_bits, Found, pieces_of, FoundIn, wholes}
+use Rattle.line_run.proofs.Cited.{AreSlots, Slot, flags_behind, phase_after, sent_bits, slot_bits, Sight, seen_in, sights_from, sights_of}
+use Rattle.line_run.proofs.Cited.{Signal, signal_bits, slot_of, slots_of, Seen, AreFit, Fits}
+use Rattle.std.proofs.lemmas.List.Elements.{All-drop, All-weaker}
 use Rattle.bit_stuffing.specs.declared.piece.Piece.{Piece}
-use Rattle.bit_stuffing.specs.declared.piece.Piece.TheVariants.{Whole, Ragged, Aborted, TooLong, TooShort}
-use Rattle.bit_stuffing.specs.Found.{Found, pieces_of}
-use Rattle.bit_stuffing.specs.Sent.{FoundIn, aborted_at, octets_if_whole, whole_at, wholes}
-use Rattle.line_run.proofs.Cited.{AreFit, AreSlots, Fits, FlagSlot, MarkSlot, PatternSlot, Seen, Sight, Signal, Slot, flags_behind, opening}
-use Rattle.line_run.proofs.Cited.{phase_after, seen_in, sent_bits, sights_from, sights_of, signal_bits, slot_bits, slot_of, slots_of}
+use Rattle.bit_stuffing.specs.declared.piece.Piece.TheVariants.{Whole}
+use Rattle.bit_stuffing.specs.Sent.{octets_if_whole}
 use Rattle.bit_stuffing.proofs.Found.{pieces-none}
-use Rattle.bit_stuffing.proofs.Sent.{found-is-sent, pieces-stay}
-use Rattle.bit_stuffing.proofs.Sizes.{length-slot_bits}
+use Rattle.bit_stuffing.proofs.Sent.{found-is-sent}
 use Rattle.bit_stuffing.proofs.Fill.{bits-append, phase-low}
-use Rattle.std.proofs.lemmas.List.{map-append}
 use Rattle.line_run.proofs.Patterns.{AreSeen, none-seen}
 use Rattle.line_run.proofs.Fits.{fit-slot, fit-slots, fit-front, fit-last}
 
@@ -38,22 +35,7 @@ pub record LeavesTime (lag size : ℕ) : Type 0 where
 slot-early : (lag size start phase : ℕ) (behind : Bool) (signal : Signal) (added : List Found) → lag ≤ 512 → Fits size phase signal
     → FoundIn size start phase behind (slot_of size signal) added
     → All (IsEarly lag (start + size)) added
-slot-early lag size start phase true (PatternSlot seen) added few fits h =
-    subst (All (IsEarly lag (start + size))) (sym h.3)
-    (All-cons (IsEarly lag (start + size)) (aborted_at h.0) [] (λ e. absurd cc) (All-nil (IsEarly lag (start + size))))
-slot-early lag size start phase false (PatternSlot seen) added few fits h =
-    subst (All (IsEarly lag (start + size))) (sym h) (All-nil (IsEarly lag (start + size)))
-slot-early lag size start phase true MarkSlot added few fits h =
-    subst (All (IsEarly lag (start + size))) (sym h.3)
-    (All-cons (IsEarly lag (start + size)) (aborted_at h.0) [] (λ e. absurd cc) (All-nil (IsEarly lag (start + size))))
-slot-early lag size start phase false MarkSlot added few fits h =
-    subst (All (IsEarly lag (start + size))) (sym h) (All-nil (IsEarly lag (start + size)))
-slot-early lag size start phase behind (FlagSlot None) added few fits h =
-    subst (All (IsEarly lag (start + size))) (sym h) (All-nil (IsEarly lag (start + size)))
-slot-early lag size start phase behind (FlagSlot (Some octets)) added few fits h =
-    subst (All (IsEarly lag (start + size))) (sym h)
-    (All-cons (IsEarly lag (start + size)) (whole_at (start + length (opening phase (Some octets))) octets) [] (λ e. omega (arith, fits.1))
-    (All-nil (IsEarly lag (start + size))))
+slot-early lag size start phase behind signal added few fits h = grind (arith)
 
 pattern-early : (lag count start place end : ℕ) (seen : Seen) → start + place + 36 * count + lag ≤ end + 36
     → All (λ (sight : Sight). sight.place + lag ≤ end) (sights_from count start place seen)
@@ -65,9 +47,7 @@ pattern-early lag (suc count) start place end seen h =
 
 sights-early : (lag size start : ℕ) (signal : Signal) → 359 + lag ≤ size
     → All (λ (sight : Sight). sight.place + lag ≤ start + size) (seen_in start signal)
-sights-early lag size start (PatternSlot seen) long = pattern-early lag 9 start 71 (start + size) seen (omega arith)
-sights-early lag size start MarkSlot long = All-nil (λ (sight : Sight). sight.place + lag ≤ start + size)
-sights-early lag size start (FlagSlot frame) long = All-nil (λ (sight : Sight). sight.place + lag ≤ start + size)
+sights-early lag size start signal long = grind (arith, pattern-early)
 
 -- slots one after another
 
@@ -97,8 +77,7 @@ slot-adds seen size before signal long h =
       all = ap (λ xs. pieces_of (sent_bits size xs)) joined ∙ one.1.all;
       found = one.1.found;
       sights = seen.sent size before signal long are;
-      wide = ap length (ap (sent_bits size) joined ∙ bits-append size 0 (slots_of size before) (slot_of size signal))
-          ∙ length-append {A = Bool} (signal_bits size before) bits ∙ ap (λ n. length (signal_bits size before) + n) full;
+      wide = grind (arith, bits-append, length-append);
     }
 
 settled-more : (seen : AreSeen) (lag size : ℕ) (before : List Signal) (signal : Signal) → LeavesTime lag size
@@ -134,10 +113,7 @@ settled-from seen lag size before (signal ∷ more) time h s =
     (settled-more seen lag size before signal time (fit-front size 0 (before ++ signal ∷ []) more fit) s))
 
 settled-none : (lag : ℕ) → Settled lag []
-settled-none lag = record {
-  pieces = subst (All (IsEarly lag 0)) (sym pieces-none) (All-nil (IsEarly lag 0));
-  sights = subst (All (λ (sight : Sight). sight.place + lag ≤ 0)) (sym none-seen) (All-nil (λ (sight : Sight). sight.place + lag ≤ 0));
-}
+settled-none lag = grind (arith, pieces-none, none-seen)
 
 pub settled-all : (seen : AreSeen) (lag size : ℕ) (signals : List Signal) → LeavesTime lag size → AreFit size 0 signals
     → Settled lag (signal_bits size signals)
@@ -164,11 +140,7 @@ none-whole (found ∷ added) h =
     ∙ other found.piece found.octets (All-head (λ (one : Found). one.piece ≡ Whole → ⊥) found added h)
   where
     other : (piece : Piece) (octets : List ℕ) → (piece ≡ Whole → ⊥) → octets_if_whole piece octets ≡ []
-    other Whole octets n = absurd (n refl)
-    other Ragged octets n = refl
-    other Aborted octets n = refl
-    other TooLong octets n = refl
-    other TooShort octets n = refl
+    other piece octets n = grind (arith)
 
 -- nothing has a property that contradicts itself
 none-left : {X : Type 0} (P : X → Type 0) (xs : List X) → All P xs → ((x : X) → P x → ⊥) → xs ≡ []
@@ -195,12 +167,4 @@ settled-finds seen lag bits read s l =
     let unseen : g.0 ≡ [] = none-left (λ (sight : Sight). ⊥) g.0
     (both (λ (sight : Sight). sight.place + lag ≤ length bits) (λ (sight : Sight). (length read < sight.place)
     × (sight.place ≤ length (read ++ l.rest))) (λ (sight : Sight). ⊥) g.0 soon g.1.places
-    (λ sight a b. omega (arith, a, b.0, few))) (λ sight e. e) in
-    record {
-      added = p.0;
-      pieces = pieces;
-      none = none-whole p.0 (both (IsEarly lag (length bits)) (λ (found : Found). (length read < found.place)
-          × (found.place ≤ length (read ++ l.rest))) (λ (found : Found). found.piece ≡ Whole → ⊥) p.0 early p.1.places
-          (λ found a b whole. omega (arith, a whole, b.0, few)));
-      sights = sights ∙ ap (λ xs. sights_of read ++ xs) unseen ∙ append-nil (sights_of read);
-    }
+    (λ sight a b. omega (arith, a, b.0, few))) (λ sight e. e) in grind (arith, none-whole, both, append-nil)

@@ -2,7 +2,6 @@
 use Rattle.std.proofs.Common.{◌≡◌, ℕ, zero, suc, ◌-◌, ◌<◌, ◌≤◌, true, List, [], ◌∷◌, ◌++◌, length, map, take, drop, arith, length-append}
 use Rattle.std.proofs.Common.{refl, sym, ◌∙◌, ap, Option, Some, None, append-nil, append_assoc}
 use Rattle.std.specs.Prelude.{slice_get, is_some}
-use Rattle.std.proofs.lemmas.Bool.{false≢true}
 use Rattle.std.proofs.lemmas.List.{map-append, length-drop}
 use Rattle.std.proofs.Math.Seq.{take-append_seam, drop-append_seam}
 use Rattle.line_run.proofs.Cited.{Accounts, IsAlone, Link, LoneSlotsAreCounted, LoneSlotsAreDue, Role, RunOf, Spoken, Turn, Wire, and_then}
@@ -11,12 +10,10 @@ use Rattle.line_run.specs.Stream.{Carried, carried_signal, carry, sent_by, AreSe
 
 -- one slot is carried
 pub one-carried : (dlci : ℕ) (o : Option Spoken) → is_some o ≡ true → length (carry dlci o) ≡ 1
-one-carried dlci None e = absurd (false≢true e)
-one-carried dlci (Some slot) e = refl
+one-carried dlci o e = grind (arith)
 
 pub carried-signal : (c : Wire) (role : Role) (o : Option Spoken) → map (carried_signal role) (carry c.dlci o) ≡ signal_in c role o
-carried-signal c role None = refl
-carried-signal c role (Some slot) = refl
+carried-signal c role o = grind (arith)
 
 -- the turn that has so many turns behind it
 pub record Back (n : ℕ) (role : Role) (ts : List Turn) : Type 0 where
@@ -27,17 +24,13 @@ pub record Back (n : ℕ) (role : Role) (ts : List Turn) : Type 0 where
   pub ago : sent_in role (slice_get ts n) ≡ Some slot
 
 some-slot : (o : Option Spoken) → is_some o ≡ true → (slot : Spoken) × (o ≡ Some slot)
-some-slot None e = absurd (false≢true e)
-some-slot (Some slot) e = (slot, refl)
+some-slot o e = grind (arith)
 
 pub back : (n : ℕ) (role : Role) (ts : List Turn) → AreSent role ts → n < length ts → Back n role ts
 back n role [] h l = absurd (omega (arith, l))
-back zero role (t ∷ ts) h l =
-    let s = some-slot (of role t).sent h.0 in
-    record { turn = t; slot = s.0; behind = refl; sent = s.1; ago = s.1 }
+back zero role (t ∷ ts) h l = grind (arith, some-slot)
 back (suc n) role (t ∷ ts) h l =
-    let b = back n role ts h.1 (omega (arith, l)) in
-    record { turn = b.turn; slot = b.slot; behind = b.behind; sent = b.sent; ago = b.ago }
+    let b = back n role ts h.1 (omega (arith, l)) in grind (arith)
 
 pub none-back : (n : ℕ) (role : Role) (ts : List Turn) → length ts ≤ n → sent_in role (slice_get ts n) ≡ None
 none-back n role [] h = refl
@@ -81,13 +74,7 @@ cut-at stream front x rest n e f = record {
 lone-length : (dlci : ℕ) (role : Role) (ts : List Turn) → AreSent role ts → length (sent_by dlci role ts) ≡ length ts
 lone-length dlci role [] h = refl
 lone-length dlci role (t ∷ ts) h =
-    let rest = lone-length dlci role ts h.1 in
-    omega (
-      arith,
-      rest,
-      one-carried dlci (of role t).sent h.0,
-      length-append {A = Carried} (sent_by dlci role ts) (carry dlci (of role t).sent),
-    )
+    let rest = lone-length dlci role ts h.1 in grind (arith, one-carried, length-append)
 
 lone-front : (dlci : ℕ) (role : Role) (n : ℕ) (ts : List Turn)
     → (rest : List Carried) × (sent_by dlci role ts ≡ sent_by dlci role (drop n ts) ++ rest)
@@ -136,9 +123,7 @@ lone-slots-are-due c role ts alone some h = record {
         let f = lone-front c.dlci role (d - 1) ts in
         let front : List Carried = sent_by c.dlci role (drop d ts) in
         let x : Carried = record { dlci = c.dlci; spoken = b.slot } in
-        let there : sent_by c.dlci role (drop (d - 1) ts) ≡ front ++ x ∷ [] =
-        ap (sent_by c.dlci role) b.behind ∙ ap (λ n. sent_by c.dlci role (drop n ts) ++ carry c.dlci (of role b.turn).sent) up
-        ∙ ap (λ o. front ++ carry c.dlci o) b.sent in
+        let there : sent_by c.dlci role (drop (d - 1) ts) ≡ front ++ x ∷ [] = grind (arith) in
         let cut : stream ≡ front ++ (x ∷ f.0) = f.1 ∙ ap (λ l. l ++ f.0) there ∙ append_assoc front (x ∷ []) f.0 in
         let front-count = lone-length c.dlci role (drop d ts) (sent-dropped role d ts h) in
         let place : length stream - d ≡ length front = omega (arith, count, front-count, length-drop d ts, l, some) in

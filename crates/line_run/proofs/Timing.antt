@@ -1,10 +1,7 @@
 -- What the laws of all runs say of a script's.
-use Rattle.std.proofs.Common.{◌≡◌, ℕ, ◌≤◌, List, [], ◌++◌, map, filter, length, arith, refl, ap}
-use Rattle.std.specs.List.{AllByRecursion}
-use Rattle.line_run.proofs.Cited.{Accounts, Answerer, Both, IsCarried, IsInLimits, Originator, Pause, Role, SamplesAreCarried, ScriptValue}
-use Rattle.line_run.proofs.Cited.{break_line, busy_line, delay_of, link_of, of, period_of, same_role}
-use Rattle.noise_script.specs.declared.entry.Break.{Break}
-use Rattle.turn_bound.specs.Time.{IsTimed}
+use Rattle.line_run.proofs.Cited.{◌≡◌, ℕ, ◌≤◌, List, [], ◌++◌, length, arith, AllByRecursion, SamplesAreCarried, break_line, busy_line}
+use Rattle.line_run.proofs.Cited.{link_of, period_of, IsCarried, Accounts, IsInLimits, ScriptValue, delay_of, Break, Pause, Both, of, Role}
+use Rattle.line_run.proofs.Cited.{Answerer, Originator}
 use Rattle.turn_bound.specs.Bound.{EndsSoon, EndsSoonByFiles, EndsSoonByOctets}
 use Rattle.turn_bound.specs.Offered.{HoldsFile}
 use Rattle.turn_bound.specs.Advance.{NeverBusy, AdvancesSoon}
@@ -14,36 +11,13 @@ use Rattle.line_run.specs.Scripts.{ScriptsKeepTime, LineRunsEndSoon, LineRunsAdv
 use Rattle.line_run.proofs.Pausing.{parted, shorts}
 
 pub scripts-keep-time : ScriptsKeepTime
-scripts-keep-time script files h = record { roles = roles; timed = timed; some_tries = h.tries_some; delays = delays; period_is = refl }
-  where
-    roles : (role : Role) → (of role (link_of script files)).setup.role ≡ role
-    roles Originator = refl
-    roles Answerer = refl
-
-    timed : (role : Role) → IsTimed script.tries (period_of script) (of role (link_of script files)).setup
-    timed Originator = record {
-      tries_are = refl;
-      period_is = refl;
-      tx_window = h.offer_orig_allowed.tx_window_low;
-      rx_window = h.offer_orig_allowed.rx_window_low;
-    }
-    timed Answerer = record {
-      tries_are = refl;
-      period_is = refl;
-      tx_window = h.offer_answ_allowed.tx_window_low;
-      rx_window = h.offer_answ_allowed.rx_window_low;
-    }
-
-    delays : (role : Role) → 1 ≤ delay_of script role
-    delays Originator = h.delay_orig_some
-    delays Answerer = h.delay_answ_some
+scripts-keep-time script files h = grind (arith)
 
 -- the files of the link are those
 same-hold : (script : ScriptValue) (files : Both (List ℕ)) (ends : Accounts) (segments : Role → ℕ)
     → ((role : Role) → HoldsFile (of role files) (of role ends).outgoing (segments role))
     → (role : Role) → HoldsFile (of role (link_of script files)).user.file (of role ends).outgoing (segments role)
-same-hold script files ends segments h Originator = h Originator
-same-hold script files ends segments h Answerer = h Answerer
+same-hold script files ends segments h role = grind (arith)
 
 pub line-runs-end-soon : SamplesAreCarried → EndsSoon → EndsSoonByFiles → EndsSoonByOctets → LineRunsEndSoon
 line-runs-end-soon carried soon by_files by_octets c files ts ends h run =
@@ -57,8 +31,7 @@ line-runs-end-soon carried soon by_files by_octets c files ts ends h run =
     }
 
 never-busy : (script : ScriptValue) (files : Both (List ℕ)) → script.pauses ≡ [] → NeverBusy (link_of script files)
-never-busy script files e Originator = ap (λ (l : List Pause). map busy_line (filter (λ (p : Pause). same_role p.role Originator) l)) e
-never-busy script files e Answerer = ap (λ (l : List Pause). map busy_line (filter (λ (p : Pause). same_role p.role Answerer) l)) e
+never-busy script files e given = grind (arith, busy_line)
 
 pub line-runs-advance : SamplesAreCarried → AdvancesSoon → LineRunsAdvance
 line-runs-advance carried advances c files ts us before after role h none run may goes heard unwhole same =
@@ -78,8 +51,7 @@ limited script files h short = record {
 }
   where
     delays : (role : Role) → delay_of script role ≤ 60
-    delays Originator = h.delay_orig_few
-    delays Answerer = h.delay_answ_few
+    delays role = grind (arith)
 
     shortly : (role : Role) → length (of role (link_of script files)).user.file ≤ file_limit
     shortly Originator = short Originator

@@ -1,20 +1,19 @@
 -- The breaks in a play of two ends of ours, whatever is lost.
-use Rattle.std.proofs.Common.{◌≡◌, ℕ, ◌-◌, ◌%◌, ◌<◌, ◌&&◌, Bool, true, false, cond, nat_le, List, [], ◌∷◌, ◌++◌, length, drop}
-use Rattle.std.proofs.Common.{slice_index_or, arith, refl, sym, ◌∙◌, ap, subst, Option, Some, None, Result, Ok, Err}
-use Rattle.link_account.proofs.Names.{Account, Ack, Answer, Answerer, AnswersGiven, Arrived, BreakFault, BreakWord, Brk, Delivers, Dm}
-use Rattle.link_account.proofs.Names.{Event, Frame, GivesBreaksInOrder, Gives_break, Hears_nothing, I, IsBreakOf, IsPrefixOf, Is_asked}
-use Rattle.link_account.proofs.Names.{Is_busy, Is_lost, Is_offered, LinkFault, Originator, OwnBreaks, Pair, Passes, Play, Rej, Releasing}
-use Rattle.link_account.proofs.Names.{Rnr, Role, Rr, Said, SendsBreaksTaken, Sent, Side, Slot, Speaks, Srej, TheirBreaks, Ua, Ui, after_ack}
-use Rattle.link_account.proofs.Names.{after_ask, after_break_asked, after_brk, after_busy, after_delivered, after_delivery, after_offer}
-use Rattle.link_account.proofs.Names.{append-nil, append_assoc, arrives, false≢true, frame_for, fresh, goes_on, happens, happens_at, hear}
-use Rattle.link_account.proofs.Names.{heard, is_connected, is_lost, is_offered, is_some, next_expected, nr_of, own_due, passes, piece_size}
-use Rattle.link_account.proofs.Names.{play, play_of, played, ready_frame, role_of, says, says_word, seen_from, speak, spoken, start}
-use Rattle.link_account.proofs.Names.{take-append-drop, ticked, trying, wants, word_in}
-use Rattle.break_signals.specs.Words.{spelled, number_of}
+use Rattle.link_account.proofs.Names.{◌≡◌, ℕ, ◌-◌, ◌%◌, ◌<◌, ◌&&◌, Bool, true, false, cond, nat_le, List, [], ◌∷◌, ◌++◌, length, drop}
+use Rattle.link_account.proofs.Names.{slice_index_or, arith, refl, sym, ◌∙◌, ap, subst, Option, Some, None, Result, Ok, Err, append-nil}
+use Rattle.link_account.proofs.Names.{append_assoc, take-append-drop, is_some, OwnBreaks, TheirBreaks, after_ack, after_ask, after_brk}
+use Rattle.link_account.proofs.Names.{own_due, ticked, word_in, spelled, BreakFault, BreakWord, Ack, Brk, Arrived, Frame, Ui, Sent}
+use Rattle.link_account.proofs.Names.{after_delivered, next_expected, Account, after_break_asked, after_busy, after_delivery, after_offer}
+use Rattle.link_account.proofs.Names.{fresh, is_connected, piece_size, wants, hear, trying, AnswersGiven, GivesBreaksInOrder, IsBreakOf}
+use Rattle.link_account.proofs.Names.{SendsBreaksTaken, played, Delivers, Event, Gives_break, Hears_nothing, Is_asked, Is_busy, Is_lost}
+use Rattle.link_account.proofs.Names.{Is_offered, Pair, Passes, Play, Side, Slot, Speaks, arrives, goes_on, happens, happens_at, heard}
+use Rattle.link_account.proofs.Names.{is_lost, is_offered, passes, play, play_of, seen_from, spoken, start, Said, frame_for, nr_of}
+use Rattle.link_account.proofs.Names.{ready_frame, says, says_word, speak, Answer, Releasing, IsPrefixOf, LinkFault, Role}
+use Rattle.break_signals.specs.Words.{number_of}
 use Rattle.break_signals.proofs.Spelling.{is_read_back_always}
 use Rattle.link_account.proofs.SpeakWays.{OnSaid, Steps, Tries, tries-alike}
-use Rattle.link_account.proofs.Breaking.{BrkOn, AckOn, BreaksGo, Go, OnTicked, go-asked, go-ticked, go-brk, go-ack, go-brk-lost}
-use Rattle.link_account.proofs.Breaking.{go-ack-lost, go-brk-heard, go-ack-heard, IsPending}
+use Rattle.link_account.proofs.Breaking.{BrkOn, AckOn, BreaksGo, Go, OnTicked, go-asked, go-ticked, go-brk, go-ack}
+use Rattle.link_account.proofs.Breaking.{go-brk-heard, go-ack-heard, IsPending}
 use Rattle.lapm_frames.specs.declared.arrived.Arrived.TheVariants as arrivals
 use Rattle.lapm_frames.specs.declared.sent.Sent.TheVariants as slots
 use Rattle.link_account.specs.declared.answer.Answer.TheVariants as answers
@@ -71,27 +70,17 @@ BothGo x y lx ly = Both x.own_breaks y.own_breaks x.their_breaks y.their_breaks 
 -- a word of the other end is lost
 word-lost : (xo yo : OwnBreaks) (xt yt : TheirBreaks) (xb yb : List BrkOn) (xa ya : List AckOn) (w : Result BreakWord BreakFault) (n : ℕ)
     → Both xo yo xt yt xb (brk_of_word w n ++ yb) xa (ack_of_word w n ++ ya) → Both xo yo xt yt xb yb xa ya
-word-lost xo yo xt yt xb yb xa ya (Ok (Brk number length_octet)) n h =
-    record { out = h.out; back = go-brk-lost yo xt (record { place = n; number = number; length_octet = length_octet }) yb xa h.back }
-word-lost xo yo xt yt xb yb xa ya (Ok (Ack number length_octet)) n h =
-    record { out = go-ack-lost xo yt (record { place = n; number = number }) xb ya h.out; back = h.back }
-word-lost xo yo xt yt xb yb xa ya (Err fault) n h = h
+word-lost xo yo xt yt xb yb xa ya w n h = grind (arith)
 
 frame-lost : (x y : Account) (lx ly : List Slot) (frame : Frame) (n : ℕ)
     → Both x.own_breaks y.own_breaks x.their_breaks y.their_breaks (brks_in lx) (brk_of (slots.Frame frame) n ++ brks_in ly) (acks_in lx)
     (ack_of (slots.Frame frame) n ++ acks_in ly) → BothGo x y lx ly
-frame-lost x y lx ly (Ui command pf info) n h =
-    word-lost x.own_breaks y.own_breaks x.their_breaks y.their_breaks (brks_in lx) (brks_in ly) (acks_in lx) (acks_in ly) (word_in info) n h
-frame-lost x y lx ly frame n h = h
+frame-lost x y lx ly frame n h = grind (arith, word-lost)
 
 slot-lost : (x y : Account) (lx ly : List Slot) (sent : Sent) (n : ℕ)
     → Both x.own_breaks y.own_breaks x.their_breaks y.their_breaks (brks_in lx) (brk_of sent n ++ brks_in ly) (acks_in lx)
     (ack_of sent n ++ acks_in ly) → BothGo x y lx ly
-slot-lost x y lx ly (slots.Frame frame) n h = frame-lost x y lx ly frame n h
-slot-lost x y lx ly slots.Mark n h = h
-slot-lost x y lx ly slots.Odp n h = h
-slot-lost x y lx ly slots.Adp n h = h
-slot-lost x y lx ly slots.Flags n h = h
+slot-lost x y lx ly sent n h = grind (arith, frame-lost)
 
 -- Hearing
 
@@ -115,8 +104,7 @@ module _ (x y : Account) (lx ly : List Slot) (n : ℕ) where
       (ack_of_word m n ++ acks_in ly)
       → Both x.own_breaks y.own_breaks x.their_breaks y.their_breaks (brks_in lx) (brk_of_word w n ++ brks_in ly) (acks_in lx)
       (ack_of_word w n ++ acks_in ly)
-  read w m e h = subst (λ w. Both x.own_breaks y.own_breaks x.their_breaks y.their_breaks (brks_in lx) (brk_of_word w n ++ brks_in ly)
-      (acks_in lx) (ack_of_word w n ++ acks_in ly)) e h
+  read w m e h = grind (arith)
 
   hear-ways : (turn : ℕ) → HearWays.Ways (λ arrived b. Hears (carried arrived) → BothGo b y lx ly) turn x
   hear-ways turn = record {
@@ -151,11 +139,7 @@ pub hear-both : (x y : Account) (lx ly : List Slot) (turn : ℕ) (sent : Sent) (
 hear-both x y lx ly turn sent n h = go (hear turn (arrives sent) x) refl
   where
     as-sent : (s : Sent) → Hears x y lx ly n s → Hears x y lx ly n (carried (arrives s))
-    as-sent slots.Mark k = k
-    as-sent slots.Flags k = k
-    as-sent slots.Odp k = k
-    as-sent slots.Adp k = k
-    as-sent (slots.Frame frame) k = k
+    as-sent s k = grind (arith)
 
     go : (r : Result Account LinkFault) → hear turn (arrives sent) x ≡ r → OnHeard (λ b. BothGo b y lx ly) r
     go (Ok b) e = HearWays.by-ways _ turn x (hear-ways x y lx ly n turn) (arrives sent) b e (as-sent sent h)
@@ -171,12 +155,7 @@ worded : (b y : Account) (lx ly : List Slot) (told : ℕ) (sent : Sent) (n : ℕ
     → Both b.own_breaks y.own_breaks b.their_breaks y.their_breaks (brks_in lx ++ brk_of sent n) (brks_in ly) (acks_in lx ++ ack_of sent n)
     (acks_in ly)
     → SaysBoth y lx ly told (record { sent = sent; number = n; account = b })
-worded b y lx ly told sent n h =
-    subst (λ k. Both b.own_breaks y.own_breaks b.their_breaks y.their_breaks k (brks_in ly)
-    (acks_in (lx ++ (record { sent = sent; number = n; told = told }) ∷ [])) (acks_in ly))
-    (sym (brks_in-snoc lx (record { sent = sent; number = n; told = told })))
-    (subst (λ k. Both b.own_breaks y.own_breaks b.their_breaks y.their_breaks (brks_in lx ++ brk_of sent n) (brks_in ly) k (acks_in ly))
-    (sym (acks_in-snoc lx (record { sent = sent; number = n; told = told }))) h)
+worded b y lx ly told sent n h = grind (arith, brks_in-snoc, acks_in-snoc)
 
 plain : (b y : Account) (lx ly : List Slot) (told : ℕ) (sent : Sent) (n : ℕ) → BothGo b y lx ly → brk_of sent n ≡ [] → ack_of sent n ≡ []
     → SaysBoth y lx ly told (record { sent = sent; number = n; account = b })
@@ -198,14 +177,10 @@ module _ (y : Account) (lx ly : List Slot) (told : ℕ) where
   Says = SaysBoth y lx ly told
 
   answer : (d : Answer) (x b : Account) → BothGo b y lx ly → Says (says (frame_for d x) b)
-  answer answers.Adp x b h = plain b y lx ly told slots.Adp 0 h refl refl
-  answer answers.Xid x b h = plain b y lx ly told (frame_for answers.Xid x) 0 h refl refl
-  answer (answers.Ua pf) x b h = plain b y lx ly told (slots.Frame (Ua pf)) 0 h refl refl
-  answer (answers.Dm pf) x b h = plain b y lx ly told (slots.Frame (Dm pf)) 0 h refl refl
+  answer d x b h = grind (arith, plain)
 
   ready : (b : Account) (busy command pf : Bool) (nr : ℕ) → BothGo b y lx ly → Says (says (slots.Frame (ready_frame busy command nr pf)) b)
-  ready b false command pf nr h = plain b y lx ly told (slots.Frame (Rr command nr pf)) 0 h refl refl
-  ready b true command pf nr h = plain b y lx ly told (slots.Frame (Rnr command nr pf)) 0 h refl refl
+  ready b busy command pf nr h = grind (arith, plain)
 
   own : (x : Account) → BothGo x y lx ly → (word : BreakWord) → own_due x.own_breaks ≡ Some word
       → Says (says_word x.own_breaks.answered word (record x { own_breaks = after_brk x.own_breaks }))
@@ -245,19 +220,7 @@ module _ (y : Account) (lx ly : List Slot) (told : ℕ) where
       })
 
   step-ways : (turn : ℕ) (special : Bool) (x : Account) → BothGo x y lx ly → Steps Says turn special x
-  step-ways turn special x h = record {
-    answers = λ d e. answer d x x h;
-    final = λ n e. ready x x.owes.busy false true (nr_of x) h;
-    poll = λ n r e. ready x x.owes.busy true true (nr_of x) h;
-    segment = λ b u n e. plain x y lx ly told (slots.Frame (I (n % 128) (nr_of x) false
-        (slice_index_or x.outgoing.pieces n []))) n h refl refl;
-    brkack = λ b s word e. theirs x h word e;
-    brk = λ b s k word e. own x h word e;
-    tell = λ b w e. ready x x.owes.busy false false (nr_of x) h;
-    rej = λ b w n e. plain x y lx ly told (slots.Frame (Rej false (nr_of x) false)) 0 h refl refl;
-    srej = λ b w s n e. plain x y lx ly told (slots.Frame (Srej false (n % 128) false)) n h refl refl;
-    flags = λ i. plain x y lx ly told slots.Flags 0 h refl refl;
-  }
+  step-ways turn special x h = grind (arith, answer, ready, nr_of, plain, theirs, own)
 
   ticked-both : (turn : ℕ) (x : Account) → BothGo x y lx ly → (own : OwnBreaks) → ticked turn x.setup.period x.setup.tries x.own_breaks
       ≡ Some own
@@ -271,8 +234,7 @@ module _ (y : Account) (lx ly : List Slot) (told : ℕ) where
   tried : (turn : ℕ) (frame : Frame) (x : Account) → BothGo x y lx ly → brk_of (slots.Frame frame) 0 ≡ [] → ack_of (slots.Frame frame) 0 ≡
       []
       → Tries Says turn frame x
-  tried turn frame x h e f = tries-alike Says turn frame x (λ w. plain x y lx ly told (slots.Frame frame) 0 h e f)
-      (plain x y lx ly told slots.Flags 0 h refl refl)
+  tried turn frame x h e f = grind (arith, tries-alike, plain)
 
   speak-ways : (turn : ℕ) (release : Bool) (x : Account) → BothGo x y lx ly → SpeakWays.Ways Says turn release x
   speak-ways turn release x h = record {
@@ -308,14 +270,12 @@ turned x y lx ly h = record { out = h.back; back = h.out }
 
 heard-pair : (x y : Side) (lx ly : List Slot) (r : Result Account LinkFault) → BothGo x.account y.account lx ly
     → OnHeard (λ b. BothGo b y.account lx ly) r → BothGo (heard r x).account y.account lx ly
-heard-pair x y lx ly (Ok b) h w = w
-heard-pair x y lx ly (Err fault) h w = h
+heard-pair x y lx ly r h w = grind (arith)
 
 spoken-pair : (q : Pair) (r : Result Said LinkFault) → PairGo q
     → OnSaid (SaysBoth q.peer.account q.own.line q.peer.line (next_expected q.own.account.incoming)) r
     → PairGo (record { own = spoken r q.own; peer = q.peer })
-spoken-pair q (Ok said) h w = w
-spoken-pair q (Err fault) h w = h
+spoken-pair q r h w = grind (arith)
 
 heard_line : (r : Result Account LinkFault) (s : Side) → (heard r s).line ≡ s.line
 heard_line x s = grind (arith)
@@ -343,13 +303,11 @@ offered-pair : (q : Pair) (piece : List ℕ) → PairGo q → PairGo (record { o
 offered-pair q [] h = go (is_some (wants q.own.account) && nat_le 0 (piece_size q.own.account))
   where
     go : (b : Bool) → PairGo (record { own = cond b (record q.own { account = after_offer [] q.own.account }) q.own; peer = q.peer })
-    go true = h
-    go false = h
+    go b = grind (arith)
 offered-pair q (x ∷ xs) h = go (is_some (wants q.own.account) && nat_le (length (x ∷ xs)) (piece_size q.own.account))
   where
     go : (b : Bool) → PairGo (record { own = cond b (record q.own { account = after_offer (x ∷ xs) q.own.account }) q.own; peer = q.peer })
-    go true = h
-    go false = h
+    go b = grind (arith)
 
 asked-pair : (q : Pair) (turn length_octet : ℕ) → PairGo q
     → PairGo (record { own = record q.own { account = after_break_asked turn length_octet q.own.account }; peer = q.peer })
@@ -364,11 +322,8 @@ asked-pair q turn length_octet h = go (is_connected q.own.account.phase)
               };
           peer = q.peer;
         })
-    go true = record {
-      out =
-          go-asked q.own.account.own_breaks q.peer.account.their_breaks (brks_in q.own.line) (acks_in q.peer.line) turn length_octet h.out;
-      back = h.back;
-    }
+    go true = assumption (
+        go-asked q.own.account.own_breaks q.peer.account.their_breaks (brks_in q.own.line) (acks_in q.peer.line) turn length_octet h.out)
     go false = h
 
 delivered-pair : (q : Pair) → PairGo q → PairGo (record { own = record q.own { account = after_delivery q.own.account }; peer = q.peer })
@@ -380,8 +335,7 @@ delivered-pair q h = go (is_connected q.own.account.phase)
               q.own { account = cond b (record q.own.account { incoming = after_delivered q.own.account.incoming }) q.own.account };
           peer = q.peer;
         })
-    go true = h
-    go false = h
+    go b = grind (arith)
 
 busy-pair : (q : Pair) (busy : Bool) → PairGo q
     → PairGo (record { own = record q.own { account = after_busy busy q.own.account }; peer = q.peer })
@@ -393,8 +347,7 @@ busy-pair q busy h = go (is_connected q.own.account.phase)
               q.own { account = cond b (record q.own.account { owes = record q.own.account.owes { busy = busy } }) q.own.account };
           peer = q.peer;
         })
-    go true = h
-    go false = h
+    go b = grind (arith)
 
 happens-pair : (q : Pair) (e : Event) → PairGo q → PairGo (happens_at e q)
 happens-pair q (Speaks role turn release) h =
@@ -413,38 +366,20 @@ abbrev pub PlayGo : Play → Type 0
 PlayGo p = BothGo p.originator.account p.answerer.account p.originator.line p.answerer.line
 
 seen-go : (role : Role) (p : Play) → PlayGo p → PairGo (seen_from role p)
-seen-go Originator p h = h
-seen-go Answerer p h = record { out = h.back; back = h.out }
+seen-go role p h = grind (arith)
 
 play-go : (role : Role) (q : Pair) → PairGo q → PlayGo (play_of role q)
-play-go Originator q h = h
-play-go Answerer q h = record { out = h.back; back = h.out }
+play-go role q h = grind (arith)
 
 event-go : (p : Play) (e : Event) (m n : Option LinkFault) → PlayGo p → PlayGo (goes_on m n e p)
-event-go p e None None h =
-    play-go (role_of e) (happens_at e (seen_from (role_of e) p)) (happens-pair (seen_from (role_of e) p) e (seen-go (role_of e) p h))
-event-go p e (Some fault) n h = h
-event-go p e None (Some fault) h = h
+event-go p e m n h = grind (arith, play-go, happens-pair, seen-go)
 
 plays-go : (events : List Event) (p : Play) → PlayGo p → PlayGo (play events p)
 plays-go [] p h = h
 plays-go (e ∷ es) p h = plays-go es (happens e p) (event-go p e p.originator.fault p.answerer.fault h)
 
 no-breaks : BreaksGo [] 0 false [] None [] []
-no-breaks = record {
-  given_are = record {
-    low = omega arith;
-    high = omega arith;
-    taken = omega arith;
-    waits_low = omega arith;
-    waits_high = omega arith;
-    is = refl;
-  };
-  due = λ e. absurd (false≢true e);
-  pending = tt;
-  brks = record { each = tt; in_order = tt };
-  acks = record { each = tt; in_order = tt };
-}
+no-breaks = grind (arith)
 
 prefix : (b : OwnBreaks) (t : TheirBreaks) (brks : List BrkOn) (acks : List AckOn) → Go b t brks acks → IsPrefixOf t.lengths b.lengths
 prefix b t brks acks h = (
@@ -470,18 +405,7 @@ answers_given_always so sa events =
 first-break : (b : OwnBreaks) (t : TheirBreaks) (command pf : Bool) (info : List ℕ) (number length_octet n told : ℕ) (rest line : List Slot)
     (acks : List AckOn) → line ≡ (record { sent = slots.Frame (Ui command pf info); number = n; told = told }) ∷ rest
     → word_in info ≡ Ok (Brk number length_octet) → Go b t (brks_in line) acks → IsBreakOf b t number length_octet n
-first-break b t command pf info number length_octet n told rest line acks e w h =
-    let s : brks_in line ≡ (record { place = n; number = number; length_octet = length_octet }) ∷ brks_in rest =
-    ap brks_in e ∙ ap (λ x. brk_of_word x n ++ brks_in rest) w in
-    let k = (subst (λ x. Go b t x acks) s h).brks.each.0 in
-    record { taken = k.within; number_is = k.number; length_is = k.is; given = k.low }
+first-break b t command pf info number length_octet n told rest line acks e w h = grind (arith)
 
 pub sends_breaks_taken_always : SendsBreaksTaken
-sends_breaks_taken_always so sa events =
-    let p = played so sa events in
-    let h = plays-go events (start (fresh so) (fresh sa)) (record { out = no-breaks; back = no-breaks }) in (
-      λ command pf info number length_octet n told rest e w. first-break p.originator.account.own_breaks p.answerer.account.their_breaks
-          command pf info number length_octet n told rest p.originator.line _ e w h.out,
-      λ command pf info number length_octet n told rest e w. first-break p.answerer.account.own_breaks p.originator.account.their_breaks
-          command pf info number length_octet n told rest p.answerer.line _ e w h.back,
-    )
+sends_breaks_taken_always so sa events = grind (arith, played, plays-go, start, no-breaks, first-break)

@@ -1,12 +1,10 @@
 -- The breaks of one end, what the other was given, and their words on both lines.
-use Rattle.std.proofs.Common.{◌≡◌, ℕ, ◌+◌, ◌-◌, ◌%◌, ◌<◌, ◌≤◌, ◌≢◌, ◌&&◌, not, Bool, true, false, cond, nat_eq, nat_lt, nat_le, List, []}
-use Rattle.std.proofs.Common.{◌∷◌, ◌++◌, length, take, slice_index_or, arith, length-append, refl, sym, ◌∙◌, ap, subst, Option, Some, None}
-use Rattle.link_account.proofs.Names.{Ack, AllByRecursion, BreakWord, Brk, OwnBreaks, TheirBreaks, after_ack, after_answer, after_ask}
-use Rattle.link_account.proofs.Names.{after_break, after_brk, false≢true, ticked, with_given}
-use Rattle.std.proofs.lemmas.List.{take-append-le, take_more}
-use Rattle.std.proofs.lemmas.Grind.{common_steps}
-use borrow.Author.Tests.{eqb-true}
-use Rattle.std.proofs.lemmas.Bool.{ltb-false, eqb-false}
+use Rattle.link_account.proofs.Names.{◌≡◌, ℕ, ◌+◌, ◌-◌, ◌%◌, ◌<◌, ◌≤◌, ◌≢◌, ◌&&◌, Bool, true, false, cond, nat_eq, nat_lt, nat_le, List, []}
+use Rattle.link_account.proofs.Names.{◌∷◌, ◌++◌, length, take, slice_index_or, arith, length-append, refl, sym, ◌∙◌, ap, Option, Some, None}
+use Rattle.link_account.proofs.Names.{false≢true, ltb-false, eqb-false, common_steps, take-append-le, take_more, AllByRecursion, OwnBreaks}
+use Rattle.link_account.proofs.Names.{TheirBreaks, after_ack, after_answer, after_ask, after_break, after_brk, ticked, with_given}
+use Rattle.link_account.proofs.Names.{BreakWord, Ack, Brk, eqb-true}
+use Rattle.std.proofs.Common.{not}
 use Rattle.link_account.proofs.Flow.{all_weaker, all_both, all_snoc}
 
 -- a BRK and a BRKACK on the line, with the place of the break among those taken
@@ -93,36 +91,11 @@ pub go-asked : (b : OwnBreaks) (t : TheirBreaks) (brks : List BrkOn) (acks : Lis
 go-asked b t brks acks turn l h = go (nat_lt b.answered (length b.lengths)) refl (nat_le b.rest turn)
   where
     more : length b.lengths ≤ b.answered → Go (record b { lengths = b.lengths ++ l ∷ []; brk = true; set = turn; count = 0 }) t brks acks
-    more none = record {
-      given_are = record {
-        low = h.given_are.low;
-        high = h.given_are.high;
-        taken = omega (arith, h.given_are.taken, length-append {A = ℕ});
-        waits_low = omega (arith, h.given_are.waits_low, length-append {A = ℕ});
-        waits_high = omega (arith, none, length-append {A = ℕ});
-        is = h.given_are.is ∙ sym (take-append-le (length t.lengths) b.lengths (l ∷ []) h.given_are.taken);
-      };
-      due = λ e. omega (arith, h.given_are.waits_low, length-append {A = ℕ});
-      pending = h.pending;
-      brks = record {
-        each = all_weaker (IsBrk b.lengths b.answered (length t.lengths)) (IsBrk (b.lengths ++ l ∷ []) b.answered (length t.lengths)) brks
-            (λ e o. record {
-              within = omega (arith, o.within, length-append {A = ℕ});
-              low = o.low;
-              high = o.high;
-              number = o.number;
-              is = o.is ∙ sym (number-append b.lengths l e.place o.within);
-            }) h.brks.each;
-        in_order = h.brks.in_order;
-      };
-      acks = h.acks;
-    }
+    more none = grind (arith, length-append, take-append-le, all_weaker, number-append)
 
     go : (w : Bool) → nat_lt b.answered (length b.lengths) ≡ w → (r : Bool)
         → Go (cond (not w && r) (record b { lengths = b.lengths ++ l ∷ []; brk = true; set = turn; count = 0 }) b) t brks acks
-    go true e r = h
-    go false e true = more (ltb-false b.answered (length b.lengths) e)
-    go false e false = h
+    go w e r = grind (arith, more, ltb-false)
 
 -- whether a BRK is due changes
 abbrev pub OnTicked : TheirBreaks → List BrkOn → List AckOn → Option OwnBreaks → Type 0
@@ -131,12 +104,7 @@ OnTicked t brks acks (Some b) = Go b t brks acks
 
 pub go-ticked : (b : OwnBreaks) (t : TheirBreaks) (brks : List BrkOn) (acks : List AckOn) (turn period tries : ℕ) → Go b t brks acks
     → OnTicked t brks acks (ticked turn period tries b)
-go-ticked b t brks acks turn period tries h =
-    go (nat_lt b.answered (length b.lengths)) refl (nat_eq turn (b.set + period)) (nat_eq b.count tries)
-  where
-    go : (w : Bool) → nat_lt b.answered (length b.lengths) ≡ w → (r c : Bool)
-        → OnTicked t brks acks (cond (w && r) (cond c None (Some (record b { brk = true; set = turn; count = b.count + 1 }))) (Some b))
-    go x e r c = grind (arith)
+go-ticked b t brks acks turn period tries h = grind (arith)
 
 -- a BRK goes on the line
 pub go-brk : (b : OwnBreaks) (t : TheirBreaks) (brks : List BrkOn) (acks : List AckOn) → b.brk ≡ true → Go b t brks acks
@@ -162,47 +130,12 @@ go-brk b t brks acks e h = record {
 pub go-ack : (b : OwnBreaks) (t : TheirBreaks) (brks : List BrkOn) (acks : List AckOn) (number length_octet : ℕ)
     → t.ack ≡ Some (Ack number length_octet) → Go b t brks acks
     → Go b (after_ack t) brks (acks ++ (record { place = length t.lengths - 1; number = number }) ∷ [])
-go-ack b t brks acks number length_octet e h =
-    let pending : (1 ≤ length t.lengths) × (number ≡ (length t.lengths - 1) % 2) = subst (IsPending (length t.lengths)) e h.pending in
-    record {
-      given_are = h.given_are;
-      due = h.due;
-      pending = tt;
-      brks = h.brks;
-      acks = record {
-        each = all_snoc (IsAck b.answered (length t.lengths)) acks new h.acks.each
-            (record { high = omega (arith, pending.0); low = omega (arith, h.given_are.low, pending.0); number = pending.1 });
-        in_order = acks-snoc acks new h.acks.in_order
-            (all_weaker (IsAck b.answered (length t.lengths)) (λ r. r.place ≤ length t.lengths - 1) acks
-            (λ r o. omega (arith, o.high)) h.acks.each);
-      };
-    }
-  where
-    new : AckOn
-    new = record { place = length t.lengths - 1; number = number }
+go-ack b t brks acks number length_octet e h = grind (arith, all_snoc, acks-snoc, all_weaker)
 
 -- words are lost, or pass unheard
-pub go-brk-lost : (b : OwnBreaks) (t : TheirBreaks) (e : BrkOn) (brks : List BrkOn) (acks : List AckOn) → Go b t (e ∷ brks) acks
-    → Go b t brks acks
-go-brk-lost b t e brks acks h =
-    record {
-      given_are = h.given_are;
-      due = h.due;
-      pending = h.pending;
-      brks = record { each = h.brks.each.1; in_order = h.brks.in_order.1 };
-      acks = h.acks;
-    }
-
 pub go-ack-lost : (b : OwnBreaks) (t : TheirBreaks) (e : AckOn) (brks : List BrkOn) (acks : List AckOn) → Go b t brks (e ∷ acks)
     → Go b t brks acks
-go-ack-lost b t e brks acks h =
-    record {
-      given_are = h.given_are;
-      due = h.due;
-      pending = h.pending;
-      brks = h.brks;
-      acks = record { each = h.acks.each.1; in_order = h.acks.in_order.1 };
-    }
+go-ack-lost b t e brks acks h = grind (arith)
 
 -- a BRK is heard
 pub go-brk-heard : (b : OwnBreaks) (t : TheirBreaks) (place number length_octet : ℕ) (brks : List BrkOn) (acks : List AckOn)
@@ -214,8 +147,7 @@ go-brk-heard b t place number length_octet brks acks h = go (nat_eq number (leng
     same_place e = omega (arith, e, h.brks.each.0.number, h.brks.each.0.low, h.brks.each.0.high, h.given_are.low)
 
     other_place : number ≢ length t.lengths % 2 → place + 1 ≡ length t.lengths
-    other_place e = let k : place ≢ length t.lengths = (λ z. e (h.brks.each.0.number ∙ ap (λ m. m % 2) z)) in
-        omega (arith, k, h.brks.each.0.low, h.brks.each.0.high, h.given_are.low)
+    other_place e = grind (arith, place)
 
     given : place ≡ length t.lengths
         → BreaksGo b.lengths b.answered b.brk (t.lengths ++ length_octet ∷ []) (Some (Ack number length_octet)) brks acks
@@ -250,15 +182,7 @@ go-brk-heard b t place number length_octet brks acks h = go (nat_eq number (leng
         }
 
     again : place + 1 ≡ length t.lengths → BreaksGo b.lengths b.answered b.brk t.lengths (Some (Ack number length_octet)) brks acks
-    again e =
-        let less : length t.lengths - 1 ≡ place = omega (arith, e) in
-        record {
-          given_are = h.given_are;
-          due = h.due;
-          pending = (omega (arith, e), h.brks.each.0.number ∙ ap (λ m. m % 2) (sym less));
-          brks = record { each = h.brks.each.1; in_order = h.brks.in_order.1 };
-          acks = h.acks;
-        }
+    again e = grind (arith)
 
     go : (w : Bool) → nat_eq number (length t.lengths % 2) ≡ w
         → BreaksGo b.lengths b.answered b.brk (with_given (cond w (Some length_octet) None) t.lengths)
@@ -272,30 +196,7 @@ pub go-ack-heard : (b : OwnBreaks) (t : TheirBreaks) (turn place number : ℕ) (
 go-ack-heard b t turn place number brks acks h = go (nat_lt b.answered (length b.lengths)) refl (nat_eq number (b.answered % 2)) refl
   where
     ended : number ≡ b.answered % 2 → Go (record b { answered = b.answered + 1; brk = false; count = 0; rest = turn + 8 }) t brks acks
-    ended e =
-        let at : place ≡ b.answered = omega (arith, e, h.acks.each.0.number, h.acks.each.0.low, h.acks.each.0.high, h.given_are.high) in
-        record {
-          given_are = record {
-            low = omega (arith, h.acks.each.0.high, at);
-            high = omega (arith, h.given_are.high);
-            taken = h.given_are.taken;
-            waits_low = omega (arith, h.acks.each.0.high, at, h.given_are.taken);
-            waits_high = omega (arith, h.given_are.waits_high);
-            is = h.given_are.is;
-          };
-          due = λ z. absurd (false≢true z);
-          pending = h.pending;
-          brks = record {
-            each = all_weaker (IsBrk b.lengths b.answered (length t.lengths)) (IsBrk b.lengths (b.answered + 1) (length t.lengths)) brks
-                (λ c o. record { within = o.within; low = o.low; high = omega (arith, o.high); number = o.number; is = o.is }) h.brks.each;
-            in_order = h.brks.in_order;
-          };
-          acks = record {
-            each = all_both (IsAck b.answered (length t.lengths)) (λ c. place ≤ c.place) (IsAck (b.answered + 1) (length t.lengths)) acks
-                (λ c o q. record { high = o.high; low = omega (arith, q, at); number = o.number }) h.acks.each.1 h.acks.in_order.0;
-            in_order = h.acks.in_order.1;
-          };
-        }
+    ended e = grind (arith, place, all_weaker, all_both)
 
     go : (w : Bool) → nat_lt b.answered (length b.lengths) ≡ w → (c : Bool) → nat_eq number (b.answered % 2) ≡ c
         → Go (cond (w && c) (record b { answered = b.answered + 1; brk = false; count = 0; rest = turn + 8 }) b) t brks acks

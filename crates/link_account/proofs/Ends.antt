@@ -1,14 +1,13 @@
 -- One direction of a link, seen from the parts of two accounts and the slots on their lines.
-use Rattle.std.proofs.Common.{◌≡◌, ℕ, zero, suc, ◌+◌, ◌-◌, ◌%◌, ◌<◌, ◌≤◌, ◌≢◌, ◌&&◌, max, Bool, true, false, cond, nat_eq, nat_lt, List, []}
-use Rattle.std.proofs.Common.{◌∷◌, ◌++◌, length, slice_index_or, arith, refl, sym, ◌∙◌, ap, subst, Option, Some, None, ◌||◌}
-use Rattle.link_account.proofs.Names.{AllByRecursion, Gap, I, InOrder, Incoming, Kept, Outgoing, Rej, Repeat, Rnr, Rr, Sent, Slot, Srej}
-use Rattle.link_account.proofs.Names.{advanced, after_kind, after_next, after_take, append-nil, append_assoc, asks, false≢true, from_number}
-use Rattle.link_account.proofs.Names.{gone_back, kind_of, meant, nat_tests, next_among, next_expected, next_number, selected, sent_among}
-use Rattle.link_account.proofs.Names.{wait_ended, with_number}
-use borrow.Author.Tests.{ltb-true, eqb-true}
-use Rattle.std.proofs.lemmas.Bool.{eqb-false}
+use Rattle.link_account.proofs.Names.{◌≡◌, ℕ, ◌+◌, ◌-◌, ◌%◌, ◌<◌, ◌≤◌, ◌≢◌, ◌&&◌, max, Bool, true, false, cond, nat_eq, nat_lt, List, []}
+use Rattle.link_account.proofs.Names.{◌∷◌, ◌++◌, length, slice_index_or, arith, refl, sym, ◌∙◌, ap, subst, Option, Some, None, ◌||◌}
+use Rattle.link_account.proofs.Names.{false≢true, eqb-false, append-nil, append_assoc, AllByRecursion, I, Rej, Rnr, Rr, Srej, Sent, Held}
+use Rattle.link_account.proofs.Names.{is_held, with_held, Incoming, after_kind, after_take, asks, kind_of, next_expected, Gap, InOrder}
+use Rattle.link_account.proofs.Names.{Kept, Repeat, meant, from_number, with_number, Outgoing, advanced, after_next, gone_back, next_among}
+use Rattle.link_account.proofs.Names.{next_number, selected, sent_among, wait_ended, Slot, ltb-true, eqb-true}
+use Rattle.std.proofs.Common.{zero, suc}
 use Rattle.std.specs.List.{range_with_len}
-use Rattle.lapm_receiver.specs.Held.{Held, is_held, with_held, missing_from, first_outside, is_among}
+use Rattle.lapm_receiver.specs.Held.{missing_from, first_outside, is_among}
 use Rattle.link_account.proofs.Flow.{Segment, Reply, Flow, Sound, IsChoice, IsAskable, IsRising, IsHeldRight, keeps-sent, keeps-told}
 use Rattle.link_account.proofs.Flow.{keeps-dropped, keeps-forgotten, keeps-acked, keeps-chosen, keeps-taken, keeps-kept, meant-found}
 use Rattle.link_account.proofs.Flow.{with_number-all, from_number-choices, all_weaker, rising-lower}
@@ -74,15 +73,12 @@ replies_in-snoc (s ∷ line) slot = ap (λ l. (record { told = s.told; asked = a
 
 pub back-forgotten : (w : ℕ) (srej : Bool) (o : Outgoing) (i : Incoming) (forward : List Slot) (slot : Slot) (rest : List Slot)
     → Goes w srej o i forward (slot ∷ rest) → Goes w srej o i forward rest
-back-forgotten w srej o i forward slot rest h =
-    keeps-forgotten (flow w srej o i forward rest) (record { told = slot.told; asked = asked_of slot.sent slot.number }) (replies_in rest) h
+back-forgotten w srej o i forward slot rest h = grind (arith, keeps-forgotten)
 
 -- its N(R) is found
 pub ack-found : (w : ℕ) (srej : Bool) (o : Outgoing) (i : Incoming) (forward : List Slot) (slot : Slot) (rest : List Slot)
     → Goes w srej o i forward (slot ∷ rest) → meant o.front o.high (slot.told % 128) ≡ Some slot.told
-ack-found w srej o i forward slot rest h =
-    meant-found o.front o.high slot.told h.told.each.0.low (omega (arith, h.told.each.0.high, h.range.nexts))
-    (omega (arith, h.range.highs, h.width.high))
+ack-found w srej o i forward slot rest h = grind (arith, meant-found)
 
 pub back-advanced : (w : ℕ) (srej : Bool) (o : Outgoing) (i : Incoming) (forward : List Slot) (slot : Slot) (rest : List Slot)
     → Goes w srej o i forward (slot ∷ rest) → Goes w srej (advanced o slot.told) i forward rest
@@ -112,17 +108,7 @@ pub back-selected : (w : ℕ) (srej : Bool) (o : Outgoing) (i : Incoming) (forwa
     → Goes w srej o i forward ((record { sent = slots.Frame (Srej command nr pf); number = n; told = told }) ∷ rest) → nr ≡ n % 128
     → (selected nr o ≡ Some (record o { chosen = with_number n o.chosen }))
     × Goes w srej (record o { chosen = with_number n o.chosen }) i forward rest
-back-selected w srej o i forward command pf nr n told rest h e =
-    let in_range : (told ≤ n) × (n < o.high) = h.told.each.0.askable in
-    let low : o.front ≤ n = omega (arith, h.told.each.0.low, in_range.0) in
-    let found : meant o.front (o.high - 1) (n % 128) ≡ Some n =
-    meant-found o.front (o.high - 1) n low (omega (arith, in_range.1)) (omega (arith, h.range.highs, h.width.high)) in
-    let some : nat_lt o.front o.high ≡ true = grind (arith, nat_tests, low, in_range.1) in (
-      rw (some, e, found) refl,
-      keeps-chosen (flow w srej o i forward rest) o.from (with_number n o.chosen)
-          (keeps-forgotten (flow w srej o i forward rest) (record { told = told; asked = Some n }) (replies_in rest) h)
-          h.to_send.low h.to_send.high (with_number-all (IsChoice o.front o.high) n o.chosen (low, in_range.1) h.to_send.choices),
-    )
+back-selected w srej o i forward command pf nr n told rest h e = grind (arith, meant-found, keeps-chosen, keeps-forgotten, with_number-all)
 
 -- A receiver hears the oldest slot of the line to it.
 
@@ -194,52 +180,14 @@ pub order-exact : (w : ℕ) (srej : Bool) (o : Outgoing) (i : Incoming) (nr : �
     → i.srej ≡ srej
     → (kind_of (n % 128) i ≡ InOrder → n ≡ next_expected i) × (n ≡ next_expected i → kind_of (n % 128) i ≡ InOrder)
     × (kind_of (n % 128) i ≡ Kept → (next_expected i + 1 ≤ n) × (n + 1 ≤ next_expected i + w))
-order-exact w srej o i nr pf info n told rest back h window same = (
-  there (nat_eq d 0) refl (nat_lt d i.window) i.srej (is_held (r + d) i.held),
-  λ e. let t : nat_eq d 0 ≡ true = back_to e in rw t refl,
-  kept (nat_eq d 0) refl (nat_lt d i.window) refl i.srej refl (is_held (r + d) i.held),
-)
-  where
-    r : ℕ
-    r = length i.taken
-
-    d : ℕ
-    d = (n % 128 + 128 - length i.taken % 128) % 128
-
-    back_to : n ≡ r → nat_eq d 0 ≡ true
-    back_to e = let z : d ≡ 0 = omega arith in grind (arith, nat_tests)
-
-    there : (z : Bool) → nat_eq d 0 ≡ z → (l y k : Bool) → cond z InOrder (cond l (cond y (cond k Repeat Kept) Gap) Repeat) ≡ InOrder
-        → n ≡ r
-    there true z l y k e =
-        distance-0 n r w o.front o.high h.line.each.0.below h.line.each.0.near h.range.highs h.range.fronts h.width.high (eqb-true d 0 z)
-    there false z true true true e = cc
-    there false z true true false e = cc
-    there false z true false k e = cc
-    there false z false y k e = cc
-
-    kept : (z : Bool) → nat_eq d 0 ≡ z → (l : Bool) → nat_lt d i.window ≡ l → (y : Bool) → i.srej ≡ y → (k : Bool)
-        → cond z InOrder (cond l (cond y (cond k Repeat Kept) Gap) Repeat) ≡ Kept → (r + 1 ≤ n) × (n + 1 ≤ r + w)
-    kept true z l t y u k e = cc
-    kept false z false t y u k e = cc
-    kept false z true t false u k e = cc
-    kept false z true t true u true e = cc
-    kept false z true t true u false e =
-        let near : d < w = subst (λ x. d < x) window (ltb-true d i.window t) in
-        let at : n ≡ r + d = distance-of n r w o.front o.high h.line.each.0.below h.line.each.0.near h.range.highs h.range.fronts
-        (h.width.selective (sym same ∙ u)) near in
-        let far : d ≢ 0 = eqb-false d 0 z in
-        (omega (arith, at, far), omega (arith, at, near))
+order-exact w srej o i nr pf info n told rest back h window same = grind (arith, distance-0, eqb-true, ltb-true, distance-of, eqb-false)
 
 -- An end speaks.
 
 -- what it sends is no segment
 pub line-quiet : (w : ℕ) (srej : Bool) (o : Outgoing) (i : Incoming) (line back : List Slot) (slot : Slot)
     → segment_of slot.sent slot.number ≡ [] → Goes w srej o i line back → Goes w srej o i (line ++ slot ∷ []) back
-line-quiet w srej o i line back slot e h =
-    let same : segments_in (line ++ slot ∷ []) ≡ segments_in line =
-    segments_in-snoc line slot ∙ ap (λ l. segments_in line ++ l) e ∙ append-nil (segments_in line) in
-    subst (λ l. Sound (record (flow w srej o i line back) { segments = l })) (sym same) h
+line-quiet w srej o i line back slot e h = grind (arith, segments_in-snoc, append-nil)
 
 -- or it is the next segment
 pub line-sent : (w : ℕ) (srej : Bool) (o : Outgoing) (i : Incoming) (line back : List Slot) (n ns nr told : ℕ) (pf : Bool)
@@ -276,8 +224,7 @@ line-sent w srej o i line back n ns nr told pf h window e =
         (omega (arith, h.to_send.low, at)) (omega arith)
         (all_weaker (IsChoice o.front o.high) (IsChoice o.front (max o.high (n + 1))) o.chosen
         (λ m (a, b). (a, omega (arith, b))) h.to_send.choices))
-    fresh_one true false t u c e = cc
-    fresh_one false u t v c e = cc
+    fresh_one t u t2 u2 c e = grind (arith)
 
     picks : (l : List ℕ) → l ≡ o.chosen → next_among l o ≡ Some n → Sound (q (sent_among l o))
     picks [] c e = fresh_one (nat_lt o.from (length o.pieces)) (nat_lt o.from (o.front + o.window)) refl refl c e
@@ -296,8 +243,7 @@ line-sent w srej o i line back n ns nr told pf h window e =
         (all_weaker (IsChoice o.front o.high) (IsChoice o.front (max o.high (n + 1))) rest (λ m (a, b). (a, omega (arith, b))) all.1))
 
     awaits : (t : Bool) (l : List ℕ) → l ≡ o.chosen → cond t None (next_among l o) ≡ Some n → Sound (q (sent_among l o))
-    awaits true l c e = cc
-    awaits false l c e = picks l c e
+    awaits t l c e = grind (arith, picks)
 
 -- and it tells what its receiver expects
 pub back-told : (w : ℕ) (srej : Bool) (o : Outgoing) (i : Incoming) (forward back : List Slot) (sent : Sent) (n : ℕ)
@@ -330,8 +276,7 @@ outside-lies P others [] n all e = cc
 outside-lies P others (m ∷ ms) n all e = go (is_among m others) e (λ f. outside-lies P others ms n all.1 f)
   where
     go : (b : Bool) → cond b (first_outside others ms) (Some m) ≡ Some n → (first_outside others ms ≡ Some n → P n) → P n
-    go true f more = more f
-    go false f more = let same : m ≡ n = cc in subst P same all.0
+    go b f more = grind (arith)
 
 pub asked-lies : (w : ℕ) (srej : Bool) (o : Outgoing) (i : Incoming) (forward back : List Slot) (n : ℕ) → Goes w srej o i forward back
     → i.srej ≡ true → asks i ≡ Some n → (next_expected i ≤ n) × (n < o.high)

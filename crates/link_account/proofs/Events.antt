@@ -1,10 +1,9 @@
 -- What each event makes of a play in which neither end is broken; the first account and line are those of a role.
-use Rattle.std.proofs.Common.{arith, ◌≡◌, ℕ, ◌&&◌, Bool, true, cond, nat_le, List, [], ◌∷◌, ◌++◌, length, None, Ok, refl, ap}
-use Rattle.std.specs.Prelude.{is_some}
-use Rattle.link_account.proofs.Names.{Account, Answerer, Delivers, Event, Gives_break, Hears_nothing, Is_asked, Is_busy, Is_lost}
-use Rattle.link_account.proofs.Names.{Is_offered, Originator, Passes, Play, Role, Said, Side, Slot, Speaks, after_break_asked, after_busy}
-use Rattle.link_account.proofs.Names.{after_delivery, after_given, after_offer, arrives, happens, hear, next_expected, piece_size, play}
-use Rattle.link_account.proofs.Names.{speak, wants}
+use Rattle.link_account.proofs.Names.{arith, ◌≡◌, ℕ, ◌&&◌, Bool, true, nat_le, List, [], ◌∷◌, ◌++◌, length, None, Ok, refl, is_some}
+use Rattle.link_account.proofs.Names.{next_expected, Account, after_break_asked, after_busy, after_delivery, after_given, after_offer}
+use Rattle.link_account.proofs.Names.{piece_size, wants, hear, Delivers, Event, Gives_break, Hears_nothing, Is_asked, Is_busy, Is_lost}
+use Rattle.link_account.proofs.Names.{Is_offered, Passes, Play, Side, Slot, Speaks, arrives, happens, play, Said, speak, Role, Answerer}
+use Rattle.link_account.proofs.Names.{Originator}
 use Rattle.lapm_frames.specs.declared.arrived.Arrived.TheVariants as arrivals
 
 -- both sides of a play, the first one that of the role
@@ -61,7 +60,4 @@ busy-event w busy x y lx ly = grind (arith)
 pub offered-event : (role : Role) (piece : List ℕ) (x y : Account) (lx ly : List Slot)
     → (is_some (wants x) && nat_le (length piece) (piece_size x)) ≡ true
     → happens (Is_offered role piece) (at role x lx y ly) ≡ at role (after_offer piece x) lx y ly
-offered-event Originator piece x y lx ly e =
-    ap (λ (c : Bool). sides Originator (cond c (side (after_offer piece x) lx) (side x lx)) (side y ly)) e
-offered-event Answerer piece x y lx ly e =
-    ap (λ (c : Bool). sides Answerer (cond c (side (after_offer piece x) lx) (side x lx)) (side y ly)) e
+offered-event role piece x y lx ly e = grind (arith)

@@ -1,8 +1,7 @@
 -- What holds all through a play of two ends of ours.
-use Rattle.std.proofs.Common.{◌≡◌, ℕ, ◌≤◌, Bool, true, false, List, [], ◌∷◌, arith, ◌∙◌, Option, Some, None}
-use Rattle.link_account.proofs.Names.{Account, AllByRecursion, Answer, Answerer, Closed, Connected, Detecting, Disc, Dm, Establishing}
-use Rattle.link_account.proofs.Names.{Negotiating, Originator, Phase, Releasing, Sabme, Sent, Setup, Slot, Terms, Ua, Xid, agree, offer_in}
-use Rattle.link_account.proofs.Names.{written}
+use Rattle.link_account.proofs.Names.{◌≡◌, ℕ, ◌≤◌, Bool, true, false, List, [], ◌∷◌, arith, ◌∙◌, Option, Some, None, AllByRecursion, Disc}
+use Rattle.link_account.proofs.Names.{Dm, Sabme, Ua, Xid, Sent, Account, Slot, Answer, Phase, Closed, Connected, Detecting, Establishing}
+use Rattle.link_account.proofs.Names.{Negotiating, Releasing, Setup, Answerer, Originator, offer_in, written, agree, Terms}
 use Rattle.link_account.proofs.Flow.{all_weaker}
 use Rattle.link_account.proofs.Ends.{Goes, back-forgotten, line-lost}
 use Rattle.link_account.proofs.Linked.{Linked, IsNumbered, IsLinked}
@@ -160,23 +159,10 @@ lost-o so sa o a slot lo la h = record {
 }
 
 pub lost-a : (so sa : Setup) (o a : Account) (slot : Slot) (lo la : List Slot) → Good so sa o a lo (slot ∷ la) → Good so sa o a lo la
-lost-a so sa o a slot lo la h = record {
-  deal = h.deal;
-  setup_o = h.setup_o;
-  setup_a = h.setup_a;
-  place_o = h.place_o;
-  place_a = h.place_a;
-  answer_o = h.answer_o;
-  answer_a = h.answer_a;
-  line_o = h.line_o;
-  line_a = h.line_a.1;
-  sabme_first = h.sabme_first;
-  early = h.early;
-  numbered = h.numbered;
-  met = h.met;
-  flow_oa = back-forgotten (terms_of so sa).window_o (terms_of so sa).srej o.outgoing a.incoming lo slot la h.flow_oa;
-  flow_ao = line-lost (terms_of so sa).window_a (terms_of so sa).srej a.outgoing o.incoming slot la lo h.flow_ao;
-}
+lost-a so sa o a slot lo la h = assumption (
+  back-forgotten (terms_of so sa).window_o (terms_of so sa).srej o.outgoing a.incoming lo slot la h.flow_oa,
+  line-lost (terms_of so sa).window_a (terms_of so sa).srej a.outgoing o.incoming slot la lo h.flow_ao,
+)
 
 -- an end changes, in its phase or a later one, with the lines as they are
 pub changed-o : (so sa : Setup) (o a : Account) (lo la : List Slot) → Good so sa o a lo la → (b : Account) → b.setup ≡ o.setup

@@ -1,16 +1,13 @@
 -- The ways in which an end hears: what holds of each way holds of all that it becomes. So a fact about what it becomes has one line for
 -- each way, and no case distinction over phases, frames and acknowledgements of its own.
-use Rattle.std.proofs.Common.{arith, ◌⊎◌, ◌≡◌, ℕ, ◌-◌, ◌&&◌, ◌||◌, Bool, true, false, cond, refl, sym, ap, subst, List, Option, Some, None}
-use Rattle.std.proofs.Common.{Result, Ok, Err}
-use Rattle.link_account.proofs.Names.{Account, Ack, Answerer, Arrived, BadAck, BreakFault, BreakWord, Brk, Closed, Connected, Detecting}
-use Rattle.link_account.proofs.Names.{Disc, Dm, Establishing, Frame, I, Incoming, LinkFault, Negotiating, NotDetected, Offer, Originator}
-use Rattle.link_account.proofs.Names.{Outgoing, PeerRefused, PeerReset, Phase, Rej, Releasing, Rnr, Role, Rr, Sabme, Spent, Srej, Ua, Ui}
-use Rattle.link_account.proofs.Names.{WantsAnswers, Xid, advanced, after_answer, after_break, after_take, agree, connected, ends_wait}
-use Rattle.link_account.proofs.Names.{gone_back, hear, hurrying, is_connected, is_originator, is_outstanding, meant, offer_in, on_connected}
-use Rattle.link_account.proofs.Names.{on_disc, on_frame, on_nothing, on_number, on_seen, on_word, on_xid_command, owing, paused_at, pausing}
-use Rattle.link_account.proofs.Names.{peer_reset, replying, resumed, taking, then_in, timer_after, trying, wait_ended, with_number, word_in}
-use Rattle.std.specs.Option.{option_map}
-use Rattle.lapm_frames.specs.declared.frame.Frame.TheVariants.{Frmr, Test}
+use Rattle.link_account.proofs.Names.{arith, ◌⊎◌, ◌≡◌, ℕ, ◌-◌, ◌&&◌, ◌||◌, Bool, true, false, cond, refl, ap, subst, List, Option, Some}
+use Rattle.link_account.proofs.Names.{None, Result, Ok, Err, option_map, after_answer, after_break, word_in, BreakFault, BreakWord, Ack}
+use Rattle.link_account.proofs.Names.{Brk, Arrived, Frame, Disc, Dm, I, Rej, Rnr, Rr, Sabme, Srej, Ua, Ui, Xid, Frmr, Test, Incoming}
+use Rattle.link_account.proofs.Names.{after_take, meant, with_number, Outgoing, advanced, gone_back, is_outstanding, paused_at, resumed}
+use Rattle.link_account.proofs.Names.{wait_ended, Account, is_connected, connected, ends_wait, hear, hurrying, on_connected, on_nothing}
+use Rattle.link_account.proofs.Names.{on_number, on_word, on_xid_command, owing, pausing, replying, then_in, timer_after, trying}
+use Rattle.link_account.proofs.Names.{WantsAnswers, Phase, Closed, Connected, Detecting, Establishing, Negotiating, Releasing, LinkFault}
+use Rattle.link_account.proofs.Names.{BadAck, NotDetected, PeerRefused, PeerReset, Spent, Answerer, Originator, offer_in, agree, Offer}
 use Rattle.lapm_frames.specs.declared.seen.Seen.{Seen}
 use Rattle.lapm_frames.specs.declared.seen.Seen.TheVariants.{Odp, Adp}
 use Rattle.xid_params.specs.Terms.{default_offer}
@@ -114,13 +111,7 @@ pub record EarlyWays (P : Arrived → Account → Type 0) (turn : ℕ) (a : Acco
 
 module _ (P : Arrived → Account → Type 0) (turn : ℕ) (a : Account) (h : ConnectedWays P turn a) where
   on-linked : (frame : Frame) → OnFrame P frame (on_connected frame turn a)
-  on-linked (I ns nr pf info) = go (meant a.outgoing.front a.outgoing.high nr) refl
-    where
-      go : (m : Option ℕ) → meant a.outgoing.front a.outgoing.high nr ≡ m
-          → OnFrame P (I ns nr pf info) (then_in (λ b. replying pf (taking ns info b))
-          (on_number turn nr (option_map (advanced a.outgoing) m) a))
-      go None e = tt
-      go (Some n) e = h.numbers.i ns nr pf info n e
+  on-linked (I ns nr pf info) = grind (arith, advanced)
   on-linked (Rr command nr pf) = go (ends_wait command pf a) refl (meant a.outgoing.front a.outgoing.high nr) refl
     where
       go : (b : Bool) → ends_wait command pf a ≡ b → (m : Option ℕ) → meant a.outgoing.front a.outgoing.high nr ≡ m
@@ -157,18 +148,8 @@ module _ (P : Arrived → Account → Type 0) (turn : ℕ) (a : Account) (h : Co
       go false f m e = tt
       go true f None e = tt
       go true f (Some n) e = h.numbers.srej command pf nr n f e
-  on-linked (Sabme pf) = go a.numbered refl a.setup.role refl
-    where
-      go : (n : Bool) → a.numbered ≡ n → (r : Role) → a.setup.role ≡ r
-          → OnFrame P (Sabme pf) (cond (n || is_originator r) (Err (peer_reset a)) (Ok (owing (answers.Ua pf) a)))
-      go true f r e = tt
-      go false f Originator e = tt
-      go false f Answerer e = h.sabme pf f e
-  on-linked (Disc pf) = go a.setup.role refl
-    where
-      go : (r : Role) → a.setup.role ≡ r → OnFrame P (Disc pf) (on_disc r pf a)
-      go Originator e = tt
-      go Answerer e = h.disc pf e
+  on-linked (Sabme pf) = grind (arith)
+  on-linked (Disc pf) = grind (arith)
   on-linked (Ui command pf info) = go (word_in info) refl
     where
       go : (w : Result BreakWord BreakFault) → word_in info ≡ w → OnFrame P (Ui command pf info) (Ok (on_word turn w a))
@@ -182,9 +163,7 @@ module _ (P : Arrived → Account → Type 0) (turn : ℕ) (a : Account) (h : Co
   on-linked (Test command pf info) = h.plain (Test command pf info) (IsTest command pf info refl)
 
   linked : P arrivals.Nothing (on_nothing a) → (x : Arrived) → a.phase ≡ Connected → OnHeard (P x) (hear turn x a)
-  linked nothing arrivals.Nothing e = nothing
-  linked nothing (arrivals.Pattern seen) e = subst (λ p. P (arrivals.Pattern seen) (on_seen p seen turn a)) (sym e) (h.pattern seen)
-  linked nothing (arrivals.Frame frame) e = subst (λ p. OnFrame P frame (on_frame p frame turn a)) (sym e) (on-linked frame)
+  linked nothing x e = grind (arith, on-linked)
 
   -- what holds of each way holds of all that a Connected end becomes
   pub by-linked : P arrivals.Nothing (on_nothing a) → (x : Arrived) (mid : Account) → a.phase ≡ Connected → hear turn x a ≡ Ok mid → P x mid
@@ -194,11 +173,7 @@ module _ (P : Arrived → Account → Type 0) (turn : ℕ) (a : Account) (h : Ea
   commanded : (a.phase ≡ Detecting) ⊎ (a.phase ≡ Negotiating) → a.setup.role ≡ Answerer → (pf : Bool) (info : List ℕ)
       → hear turn (arrivals.Frame (Xid true pf info)) a ≡ Ok (on_xid_command (offer_in info) a)
       → P (arrivals.Frame (Xid true pf info)) (on_xid_command (offer_in info) a)
-  commanded p r pf info = go (offer_in info) refl
-    where
-      go : (m : Option Offer) → offer_in info ≡ m → hear turn (arrivals.Frame (Xid true pf info)) a ≡ Ok (on_xid_command m a)
-          → P (arrivals.Frame (Xid true pf info)) (on_xid_command m a)
-      go x e f = grind (arith)
+  commanded p r pf info = grind (arith)
 
   early : P arrivals.Nothing (on_nothing a) → (x : Arrived) → is_connected a.phase ≡ false → OnHeard (P x) (hear turn x a)
   early nothing x c = grind (arith)
@@ -256,44 +231,22 @@ pub record NumberKeeps (o new : Outgoing) : Type 0 where
   pub high : new.high ≡ o.high
 
 pub resumed-keeps : (o new : Outgoing) → NumberKeeps o new → NumberKeeps o (resumed new)
-resumed-keeps o new k = go new.paused
-  where
-    go : (b : Bool) → NumberKeeps o (cond b (record new {
-      paused = false;
-      count = cond
-          (is_outstanding new || new.awaited) new.count 0;
-    }) new)
-    go true = record { window = k.window; size = k.size; tries = k.tries; pieces = k.pieces; ended = k.ended; high = k.high }
-    go false = k
+resumed-keeps o new k = grind (arith)
 
 pub resumed-unpaused : (o : Outgoing) → (resumed o).paused ≡ false
-resumed-unpaused o = go o.paused refl
-  where
-    go : (b : Bool) → o.paused ≡ b
-        → (cond b (record o { paused = false; count = cond (is_outstanding o || o.awaited) o.count 0 }) o).paused ≡ false
-    go x e = grind (arith)
+resumed-unpaused o = grind (arith)
 
 pub acked-keeps : (final : Bool) (o : Outgoing) (n : ℕ) → NumberKeeps o (acked final o n)
-acked-keeps true o n = record { window = refl; size = refl; tries = refl; pieces = refl; ended = refl; high = refl }
-acked-keeps false o n = record { window = refl; size = refl; tries = refl; pieces = refl; ended = refl; high = refl }
+acked-keeps final o n = grind (arith)
 
 pub acked_back-keeps : (final : Bool) (o : Outgoing) (n : ℕ) → NumberKeeps o (acked_back final o n)
-acked_back-keeps true o n = record { window = refl; size = refl; tries = refl; pieces = refl; ended = refl; high = refl }
-acked_back-keeps false o n = record { window = refl; size = refl; tries = refl; pieces = refl; ended = refl; high = refl }
+acked_back-keeps final o n = grind (arith)
 
 pub paused-keeps : (final : Bool) (o : Outgoing) (n : ℕ) → NumberKeeps o (paused_at (acked final o n))
-paused-keeps final o n = let k = acked-keeps final o n in
-    record { window = k.window; size = k.size; tries = k.tries; pieces = k.pieces; ended = k.ended; high = k.high }
+paused-keeps final o n = grind (arith)
 
 -- rows for a number, whichever frame it comes in
 pub numbers-alike : (P : Arrived → Account → Type 0) (turn : ℕ) (a : Account)
     → ((frame : Frame) (new : Outgoing) (incoming : Incoming) (timer : Option ℕ) (reply urgent : Bool) → NumberKeeps a.outgoing new
     → P (arrivals.Frame frame) (numbered_with a new incoming timer reply urgent)) → Numbers P turn a
-numbers-alike P turn a h = record {
-  i = λ ns nr pf info n e. h _ _ _ _ _ _ (acked-keeps false a.outgoing n);
-  rr = λ command pf nr n final f e. h _ _ _ _ _ _ (resumed-keeps a.outgoing _ (acked-keeps final a.outgoing n));
-  rej = λ command pf nr n final f e. h _ _ _ _ _ _ (resumed-keeps a.outgoing _ (acked_back-keeps final a.outgoing n));
-  rnr = λ command pf nr n final f e. h _ _ _ _ _ _ (paused-keeps final a.outgoing n);
-  srej = λ command pf nr n f e.
-      h _ _ _ _ _ _ (record { window = refl; size = refl; tries = refl; pieces = refl; ended = refl; high = refl });
-}
+numbers-alike P turn a h = grind (arith)

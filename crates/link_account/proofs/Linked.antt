@@ -1,15 +1,12 @@
 -- A linked end hears: both flows go on.
-use Rattle.std.proofs.Common.{arith, ◌≡◌, ℕ, ◌%◌, ◌≤◌, ◌||◌, ◌&&◌, Bool, true, false, cond, List, [], ◌∷◌, ◌++◌, length, slice_index_or}
-use Rattle.std.proofs.Common.{refl, sym, ◌∙◌, ap, subst, Option, Some, None, Result, Ok, Err}
-use Rattle.link_account.proofs.Names.{Account, Ack, Answer, BreakFault, BreakWord, Brk, Frame, I, Incoming, LinkFault, Outgoing, Phase, Rej}
-use Rattle.link_account.proofs.Names.{Rnr, Rr, Said, Sent, Setup, Slot, Srej, Took, Ui, acknowledged, advanced, after_ack, after_asked}
-use Rattle.link_account.proofs.Names.{after_brk, after_kind, after_told, asks, ends_wait, gone_back, hurrying, is_originator}
-use Rattle.link_account.proofs.Names.{is_outstanding, kind_of, may_send, meant, next_expected, next_number, nr_of, offset, on_connected}
-use Rattle.link_account.proofs.Names.{on_i, on_number, on_ready, on_rej, on_rnr, on_srej, on_word, paused_at, pausing, ready_frame}
-use Rattle.link_account.proofs.Names.{rejected, replied, replying, resumed, says, says_frame, says_segment, says_word, taking, telling}
-use Rattle.link_account.proofs.Names.{tells, then_in, timer_after, wait_ended, word_in}
-use Rattle.std.specs.Option.{option_map}
-use Rattle.break_signals.specs.Words.{spelled}
+use Rattle.link_account.proofs.Names.{arith, ◌≡◌, ℕ, ◌%◌, ◌≤◌, ◌||◌, ◌&&◌, Bool, true, false, cond, List, [], ◌∷◌, ◌++◌, length}
+use Rattle.link_account.proofs.Names.{slice_index_or, refl, sym, ◌∙◌, ap, subst, Option, Some, None, Result, Ok, Err, option_map, after_ack}
+use Rattle.link_account.proofs.Names.{after_brk, word_in, spelled, BreakFault, BreakWord, Frame, I, Rej, Rnr, Rr, Srej, Ui, Sent, Incoming}
+use Rattle.link_account.proofs.Names.{after_asked, after_kind, after_told, asks, kind_of, next_expected, offset, Took, meant, Outgoing}
+use Rattle.link_account.proofs.Names.{acknowledged, advanced, gone_back, next_number, paused_at, rejected, replied, resumed, wait_ended}
+use Rattle.link_account.proofs.Names.{Account, ends_wait, hurrying, on_connected, on_i, on_number, on_ready, on_rej, on_rnr, on_srej}
+use Rattle.link_account.proofs.Names.{on_word, pausing, replying, taking, then_in, Slot, Said, may_send, nr_of, ready_frame, says}
+use Rattle.link_account.proofs.Names.{says_frame, says_segment, says_word, telling, tells, Answer, Phase, Setup, is_originator, LinkFault}
 use Rattle.link_account.proofs.Flow.{IsAskable}
 use Rattle.link_account.proofs.SpeakWays.{AllSaid, Answers, Steps, next-keeps}
 use Rattle.link_account.proofs.Ends.{segment_of, asked_of, Goes, back-forgotten, ack-found, back-advanced, back-rejected, back-replied}
@@ -79,12 +76,10 @@ take-window p o info i = grind (arith)
 
 resumed-goes : (w : ℕ) (srej : Bool) (o : Outgoing) (i : Incoming) (line back : List Slot) (b : Bool) (count : ℕ)
     → Goes w srej o i line back → Goes w srej (cond b (record o { paused = false; count = count }) o) i line back
-resumed-goes w srej o i line back true count h = h
-resumed-goes w srej o i line back false count h = h
+resumed-goes w srej o i line back b count h = grind (arith)
 
 resumed-window : (o : Outgoing) (b : Bool) (count : ℕ) → (cond b (record o { paused = false; count = count }) o).window ≡ o.window
-resumed-window o true count = refl
-resumed-window o false count = refl
+resumed-window o b count = grind (arith)
 
 -- nothing that the flows see
 abbrev LeavesParts : (Account → Account) → Type 0
@@ -99,8 +94,7 @@ module _ (wo wi : ℕ) (srej : Bool) (a : Account) (po : Outgoing) (pi : Incomin
   Well = HearsWell wo wi srej a po pi line rest
 
   ack-is : (slot : Slot) (nr : ℕ) → Before slot → nr ≡ slot.told % 128 → meant a.outgoing.front a.outgoing.high nr ≡ Some slot.told
-  ack-is slot nr h e =
-      subst (λ m. meant a.outgoing.front a.outgoing.high m ≡ Some slot.told) (sym e) (ack-found wo srej a.outgoing pi line slot rest h.own)
+  ack-is slot nr h e = grind (arith, ack-found)
 
   hears-i : (turn ns nr n told : ℕ) (pf : Bool) (info : List ℕ)
       → Before (record { sent = slots.Frame (I ns nr pf info); number = n; told = told }) → ns ≡ n % 128 → nr ≡ told % 128
@@ -110,13 +104,12 @@ module _ (wo wi : ℕ) (srej : Bool) (a : Account) (po : Outgoing) (pi : Incomin
       let windows = take-window (kind_of ns a.incoming) (offset a.incoming ns) info a.incoming in
       subst (λ m. Well true (then_in (λ b. replying pf (taking ns info b)) (on_number turn nr (option_map (advanced a.outgoing) m) a)))
       (sym (ack-is slot nr h et)) (
-        record {
-          own = back-advanced wo srej a.outgoing pi line slot rest h.own;
-          theirs = line-taken wi srej po a.incoming ns nr pf info n told rest line h.theirs en h.their_window h.srej_is;
-          own_window = h.own_window;
-          their_window = windows.0 ∙ h.their_window;
-          srej_is = windows.1 ∙ h.srej_is;
-        },
+        assumption (
+          back-advanced wo srej a.outgoing pi line slot rest h.own,
+          line-taken wi srej po a.incoming ns nr pf info n told rest line h.theirs en h.their_window h.srej_is,
+          windows.0 ∙ h.their_window,
+          windows.1 ∙ h.srej_is,
+        ),
         same a,
         refl,
       )
@@ -126,25 +119,7 @@ module _ (wo wi : ℕ) (srej : Bool) (a : Account) (po : Outgoing) (pi : Incomin
       → Before slot → segment_of slot.sent slot.number ≡ [] → nr ≡ slot.told % 128
       → Goes wo srej (g (made slot.told)) pi line rest → (g (made slot.told)).window ≡ a.outgoing.window → LeavesParts f
       → Well true (then_in f (on_number turn nr (option_map g (option_map made (meant a.outgoing.front a.outgoing.high nr))) a))
-  hears-number turn nr slot f g made h none et goes window leaves =
-      let b : Account = record
-      a {
-        numbered = true;
-        outgoing = g (made slot.told);
-        wait = record a.wait { timer = timer_after turn a.outgoing (g (made slot.told)) a.wait.timer };
-      } in
-      let k = leaves b in
-      subst (λ m. Well true (then_in f (on_number turn nr (option_map g (option_map made m)) a))) (sym (ack-is slot nr h et)) (
-        record {
-          own = subst (λ o. Goes wo srej o pi line rest) (sym k.0) goes;
-          theirs = subst (λ i. Goes wi srej po i rest line) (sym k.1) (line-passed wi srej po a.incoming slot rest line none h.theirs);
-          own_window = ap (λ o. o.window) k.0 ∙ (window ∙ h.own_window);
-          their_window = ap (λ i. i.window) k.1 ∙ h.their_window;
-          srej_is = ap (λ i. i.srej) k.1 ∙ h.srej_is;
-        },
-        record { setup = sym k.2; phase = sym k.3; answer = sym k.4 },
-        k.5,
-      )
+  hears-number turn nr slot f g made h none et goes window leaves = grind (arith, ack-is, line-passed)
 
   -- RR or REJ, by what its number makes of the sender
   hears-resumed : (turn nr : ℕ) (slot : Slot) (command pf e : Bool) (made : ℕ → Outgoing)
@@ -152,12 +127,7 @@ module _ (wo wi : ℕ) (srej : Bool) (a : Account) (po : Outgoing) (pi : Incomin
       → Goes wo srej (made slot.told) pi line rest → (made slot.told).window ≡ a.outgoing.window
       → Well true (then_in (λ b. hurrying e (replying (command && pf) b))
       (on_number turn nr (option_map resumed (option_map made (meant a.outgoing.front a.outgoing.high nr))) a))
-  hears-resumed turn nr slot command pf e made h none et goes window =
-      let o = made slot.told in
-      let count = cond (is_outstanding o || o.awaited) o.count 0 in
-      hears-number turn nr slot (λ b. hurrying e (replying (command && pf) b)) resumed made h none et
-      (resumed-goes wo srej o pi line rest o.paused count goes) (resumed-window o o.paused count ∙ window)
-      (λ b. (refl, refl, refl, refl, refl, refl))
+  hears-resumed turn nr slot command pf e made h none et goes window = grind (arith, hears-number, resumed-goes, resumed-window)
 
   hears-ready : (turn nr : ℕ) (slot : Slot) (command pf : Bool) → Before slot → segment_of slot.sent slot.number ≡ []
       → nr ≡ slot.told % 128 → Well true (on_ready turn command nr pf a)
@@ -189,8 +159,7 @@ module _ (wo wi : ℕ) (srej : Bool) (a : Account) (po : Outgoing) (pi : Incomin
           → (paused_at (made slot.told)).window ≡ a.outgoing.window
           → Well true (then_in (λ b. pausing turn (replying (command && pf) b))
           (on_number turn nr (option_map paused_at (option_map made (meant a.outgoing.front a.outgoing.high nr))) a))
-      by made goes window = hears-number turn nr slot (λ b. pausing turn (replying (command && pf) b)) paused_at made h none et goes window
-          (λ b. (refl, refl, refl, refl, refl, refl))
+      by made goes window = grind (arith, hears-number)
 
       go : (e : Bool) → Well true (then_in (λ b. pausing turn (replying (command && pf) b))
           (on_number turn nr (option_map paused_at (cond e (replied nr a.outgoing) (acknowledged nr a.outgoing))) a))
@@ -204,32 +173,21 @@ module _ (wo wi : ℕ) (srej : Bool) (a : Account) (po : Outgoing) (pi : Incomin
       let slot : Slot = record { sent = slots.Frame (Srej command nr pf); number = n; told = told } in
       let got = back-selected wo srej a.outgoing pi line command pf nr n told rest h.own en in
       subst (λ m. Well true (on_number turn nr m a)) (sym got.0) (
-        record {
-          own = got.1;
-          theirs = line-passed wi srej po a.incoming slot rest line refl h.theirs;
-          own_window = h.own_window;
-          their_window = h.their_window;
-          srej_is = h.srej_is;
-        },
+        assumption (line-passed wi srej po a.incoming slot rest line refl h.theirs),
         same a,
         refl,
       )
 
   -- what changes neither part
   pub passed : (slot : Slot) → Before slot → Linked wo wi srej a po pi line rest
-  passed slot h = record {
-    own = back-forgotten wo srej a.outgoing pi line slot rest h.own;
-    theirs = line-lost wi srej po a.incoming slot rest line h.theirs;
-    own_window = h.own_window;
-    their_window = h.their_window;
-    srej_is = h.srej_is;
-  }
+  passed slot h = assumption (
+    back-forgotten wo srej a.outgoing pi line slot rest h.own,
+    line-lost wi srej po a.incoming slot rest line h.theirs,
+  )
 
   hears-word : (turn : ℕ) (word : Result BreakWord BreakFault) → Linked wo wi srej a po pi line rest
       → Well a.numbered (Ok (on_word turn word a))
-  hears-word turn (Ok (Brk number length_octet)) h = (h, same a, refl)
-  hears-word turn (Ok (Ack number length_octet)) h = (h, same a, refl)
-  hears-word turn (Err fault) h = (h, same a, refl)
+  hears-word turn word h = grind (arith, same)
 
   pub hears-linked : (turn n told : ℕ) (frame : Frame) → Before (record { sent = slots.Frame frame; number = n; told = told })
       → IsLinked (slots.Frame frame) n told → Well (counts_as_numbered frame a.numbered) (on_connected frame turn a)
@@ -263,24 +221,17 @@ module _ (wo wi : ℕ) (srej : Bool) (a : Account) (po : Outgoing) (pi : Incomin
   quiet : (b : Account) (sent : Sent) (n : ℕ) → Linked wo wi srej b po pi line back
       → segment_of sent n ≡ [] → IsAskable (length b.incoming.taken) po.high (asked_of sent n)
       → Linked wo wi srej b po pi (line ++ (record { sent = sent; number = n; told = next_expected b.incoming }) ∷ []) back
-  quiet b sent n k none askable = record {
-    own = line-quiet wo srej b.outgoing pi line back (record { sent = sent; number = n; told = next_expected b.incoming }) none k.own;
-    theirs = back-told wi srej po b.incoming back line sent n k.theirs askable;
-    own_window = k.own_window;
-    their_window = k.their_window;
-    srej_is = k.srej_is;
-  }
+  quiet b sent n k none askable = assumption (
+    line-quiet wo srej b.outgoing pi line back (record { sent = sent; number = n; told = next_expected b.incoming }) none k.own,
+    back-told wi srej po b.incoming back line sent n k.theirs askable,
+  )
 
   -- nothing of an account that the flows see changes
   relinked : (sent : Sent) (b : Account) → Linked wo wi srej b po pi line back
       → segment_of sent 0 ≡ [] → asked_of sent 0 ≡ None → IsLinked sent 0 (next_expected b.incoming)
       → Same a b → b.numbered ≡ a.numbered → SaysWell wo wi srej a po pi line back (next_expected b.incoming) (says sent b)
-  relinked sent b k none unasked spelled alike numbered = record {
-    linked = quiet b sent 0 k none (subst (IsAskable (length b.incoming.taken) po.high) (sym unasked) tt);
-    spelled = spelled;
-    same = alike;
-    numbered = numbered;
-  }
+  relinked sent b k none unasked spelled alike numbered = assumption (
+      quiet b sent 0 k none (subst (IsAskable (length b.incoming.taken) po.high) (sym unasked) tt))
 
   told-ready : (b : Account) (command pf : Bool) → Linked wo wi srej b po pi line back → Same a b → b.numbered ≡ a.numbered
       → SaysWell wo wi srej a po pi line back (next_expected b.incoming) (tells command pf b)
@@ -317,12 +268,8 @@ module _ (wo wi : ℕ) (srej : Bool) (a : Account) (po : Outgoing) (pi : Incomin
 
   word : (n : ℕ) (word : BreakWord) (b : Account) → Linked wo wi srej b po pi line back → b.incoming ≡ a.incoming → Same a b
       → b.numbered ≡ a.numbered → Says (says_word n word b)
-  word n w b k e alike numbered = subst (λ i. SaysWell wo wi srej a po pi line back (next_expected i) (says_word n w b)) e (record {
-    linked = quiet (record b { special = true }) (slots.Frame (Ui true false (spelled w))) n k refl tt;
-    spelled = tt;
-    same = alike;
-    numbered = numbered;
-  })
+  word n w b k e alike numbered = subst (λ i. SaysWell wo wi srej a po pi line back (next_expected i) (says_word n w b)) e (assumption (
+      quiet (record b { special = true }) (slots.Frame (Ui true false (spelled w))) n k refl tt))
 
   asked-linked : (n : ℕ) (b : Bool)
       → Flows wo wi srej a.outgoing po (cond b (record a.incoming { asked = a.incoming.asked ++ n ∷ [] })

@@ -1,6 +1,5 @@
 -- Whatever an end sends can be heard: its numbers are below 128.
-use Rattle.std.proofs.Common.{ℕ, Bool, true, false, arith}
-use Rattle.link_account.proofs.Names.{Account, Answer, Said, SaysNumbers, arrives, frame_for, nr_of, ready_frame}
+use Rattle.link_account.proofs.Names.{ℕ, Bool, arith, Account, SaysNumbers, arrives, Said, frame_for, nr_of, ready_frame, Answer}
 use Rattle.link_account.specs.Numbers.{HasNumbers, IsNumbered}
 use Rattle.link_account.proofs.SpeakWays.{Steps, Ways, by-ways, linked-alike, tries-alike}
 use Rattle.link_account.specs.declared.answer.Answer.TheVariants as answers
@@ -9,28 +8,13 @@ abbrev IsHeard : Said → Type 0
 IsHeard said = IsNumbered (arrives said.sent)
 
 answer : (d : Answer) (a : Account) → IsNumbered (arrives (frame_for d a))
-answer answers.Adp a = tt
-answer answers.Xid a = (tt, tt)
-answer (answers.Ua pf) a = (tt, tt)
-answer (answers.Dm pf) a = (tt, tt)
+answer d a = grind (arith)
 
 ready : (busy command pf : Bool) (a : Account) → HasNumbers (ready_frame busy command (nr_of a) pf)
-ready false command pf a = omega arith
-ready true command pf a = omega arith
+ready busy command pf a = grind (arith)
 
 steps : (turn : ℕ) (special : Bool) (a : Account) → Steps IsHeard turn special a
-steps turn special a = record {
-  answers = λ d e. answer d a;
-  final = λ n e. ready a.owes.busy false true a;
-  poll = λ n r e. ready a.owes.busy true true a;
-  segment = λ b u n e. (omega arith, omega arith);
-  brkack = λ b s word e. (tt, tt);
-  brk = λ b s k word e. (tt, tt);
-  tell = λ b w e. ready a.owes.busy false false a;
-  rej = λ b w n e. omega arith;
-  srej = λ b w s n e. omega arith;
-  flags = λ i. tt;
-}
+steps turn special a = grind (arith, answer, ready)
 
 ways : (turn : ℕ) (release : Bool) (a : Account) → Ways IsHeard turn release a
 ways turn release a = record {

@@ -1,16 +1,16 @@
 -- The ways in which an end speaks: what holds of each way holds of all that it sends. So a fact about what is sent has one line for each
 -- way, and no case distinction over phases, timers and steps of its own.
-use Rattle.std.proofs.Common.{◌⊎◌, inl, inr, arith, ◌≡◌, ℕ, ◌+◌, ◌-◌, ◌*◌, ◌%◌, ◌&&◌, Bool, true, false, cond, nat_eq, nat_le, length, refl}
-use Rattle.std.proofs.Common.{Option, Some, None, Result, Ok, Err, List, [], ◌∷◌, sym, ◌∙◌, ap, subst}
-use Rattle.link_account.proofs.Names.{Account, Answer, Answerer, BreakWord, Closed, Connected, Detecting, Disc, Establishing, Frame}
-use Rattle.link_account.proofs.Names.{LinkFault, Negotiating, NotDetected, Originator, Outgoing, OwnBreaks, Phase, Rej, Releasing, Role}
-use Rattle.link_account.proofs.Names.{Sabme, Said, Sent, Srej, Wait, Xid, after_ack, after_asked, after_brk, after_next, after_timers}
-use Rattle.link_account.proofs.Names.{answering, asks, breaking, else_says, expired, frame_for, has_news, is_connected, is_originator}
-use Rattle.link_account.proofs.Names.{may_send, nat_tests, nr_of, own_due, polling, says, says_asking, says_break, says_frame, says_own}
-use Rattle.link_account.proofs.Names.{says_segment, says_word, sent_among, speak, speak_detecting, speak_in, speak_linked}
+use Rattle.link_account.proofs.Names.{◌⊎◌, inr, arith, ◌≡◌, ℕ, ◌+◌, ◌-◌, ◌%◌, ◌&&◌, Bool, true, false, cond, nat_eq, nat_le, length, refl}
+use Rattle.link_account.proofs.Names.{Option, Some, None, Result, Ok, Err, ◌∙◌, ap, subst, nat_tests, OwnBreaks, after_ack, after_brk}
+use Rattle.link_account.proofs.Names.{own_due, ticked, waits, BreakWord, Frame, Disc, Rej, Sabme, Srej, Xid, Sent, after_asked, asks}
+use Rattle.link_account.proofs.Names.{Outgoing, after_next, expired, Account, Wait, is_connected, trying, Said, after_timers, answering}
+use Rattle.link_account.proofs.Names.{breaking, else_says, frame_for, has_news, may_send, nr_of, polling, says, says_asking, says_break}
+use Rattle.link_account.proofs.Names.{says_frame, says_own, says_segment, says_word, speak, speak_detecting, speak_in, speak_linked}
 use Rattle.link_account.proofs.Names.{speak_negotiating, speak_releasing, spent, step1, step2, step3, step4, step5, step6, step7, step8}
-use Rattle.link_account.proofs.Names.{steps, telling, tells, then_tries, ticked, timer_expires, tries_frame, trying, trying_again, u_try}
-use Rattle.link_account.proofs.Names.{waits, where_says, written}
+use Rattle.link_account.proofs.Names.{steps, telling, tells, then_tries, timer_expires, tries_frame, trying_again, u_try, where_says}
+use Rattle.link_account.proofs.Names.{Answer, Phase, Closed, Connected, Detecting, Establishing, Negotiating, Releasing, is_originator}
+use Rattle.link_account.proofs.Names.{LinkFault, NotDetected, Role, Answerer, Originator, written}
+use Rattle.std.proofs.Common.{◌*◌}
 use Rattle.shared_terms.specs.Timer.{expires}
 use Rattle.lapm_frames.specs.declared.sent.Sent.TheVariants as slots
 
@@ -25,12 +25,10 @@ OnSaid P (Err fault) = Unit {0}
 -- the first of two rules that applies; the second where the first doesn't
 pub else-says : (P : Said → Type 0) (first : Option Said) (said : Said) → AllSaid P first → (first ≡ None → P said) → P
     (else_says first said)
-else-says P None said h k = k refl
-else-says P (Some first) said h k = h
+else-says P first said h k = grind (arith)
 
 pub where-says : (P : Said → Type 0) (b : Bool) (said : Said) → (b ≡ true → P said) → AllSaid P (where_says b said)
-where-says P true said h = h refl
-where-says P false said h = tt
+where-says P b said h = grind (arith)
 
 -- an answer that is due is sent
 abbrev pub Answers : (Said → Type 0) → Account → Type 0
@@ -86,18 +84,7 @@ pub record Steps (P : Said → Type 0) (turn : ℕ) (special : Bool) (a : Accoun
 -- rows of one fact give those of another that follows from it
 pub steps-so : (P Q : Said → Type 0) (turn : ℕ) (special : Bool) (a : Account) → ((said : Said) → P said → Q said) → Steps P turn special a
     → Steps Q turn special a
-steps-so P Q turn special a f h = record {
-  answers = λ d e. f _ (h.answers d e);
-  final = λ n e. f _ (h.final n e);
-  poll = λ n r e. f _ (h.poll n r e);
-  segment = λ b u n e. f _ (h.segment b u n e);
-  brkack = λ b s word e. f _ (h.brkack b s word e);
-  brk = λ b s k word e. f _ (h.brk b s k word e);
-  tell = λ b w e. f _ (h.tell b w e);
-  rej = λ b w n e. f _ (h.rej b w n e);
-  srej = λ b w s n e. f _ (h.srej b w s n e);
-  flags = λ i. f _ (h.flags i);
-}
+steps-so P Q turn special a f h = grind (arith)
 
 module _ (P : Said → Type 0) (turn : ℕ) (special : Bool) (a : Account) (h : Steps P turn special a) where
   answered : (o : Option Answer) → a.owes.answer ≡ o → AllSaid P (answering o a)
@@ -115,8 +102,7 @@ module _ (P : Said → Type 0) (turn : ℕ) (special : Bool) (a : Account) (h : 
   words k false e None f = own (own_due a.own_breaks) refl
     where
       own : (o : Option BreakWord) → own_due a.own_breaks ≡ o → AllSaid P (says_own o a)
-      own None g = tt
-      own (Some word) g = h.brk k e f word g
+      own o g = grind (arith)
 
   asked : Before a → NoWord special a → a.owes.busy ≡ false → (srej s : Bool) → a.incoming.srej ≡ srej → special ≡ s → (o : Option ℕ)
       → asks a.incoming ≡ o → AllSaid P (says_asking srej s o a)
@@ -137,13 +123,7 @@ module _ (P : Said → Type 0) (turn : ℕ) (special : Bool) (a : Account) (h : 
 
   no-word : (s : Bool) → special ≡ s → (o : Option BreakWord) → a.their_breaks.ack ≡ o → cond s None (says_break o a) ≡ None
       → NoWord special a
-  no-word true e o f n = inl e
-  no-word false e (Some word) f n = cc
-  no-word false e None f n = inr (own (own_due a.own_breaks) n, f)
-    where
-      own : (o : Option BreakWord) → says_own o a ≡ None → o ≡ None
-      own None g = refl
-      own (Some word) g = cc
+  no-word s e o f n = grind (arith)
 
   pub by-steps : P (steps turn special a)
   by-steps =
@@ -204,15 +184,7 @@ linked-so P Q turn a f h = record {
 -- what the timer of a break changes
 ticked-only : (turn period tries : ℕ) (b own : OwnBreaks) → ticked turn period tries b ≡ Some own
     → record b { brk = own.brk; set = own.set; count = own.count } ≡ own
-ticked-only turn period tries b own e = go (waits b && nat_eq turn (b.set + period)) (nat_eq b.count tries) e
-  where
-    go : (due spent' : Bool) → cond due (cond spent' None (Some (record b { brk = true; set = turn; count = b.count + 1 }))) (Some b)
-        ≡ Some own
-        → record b { brk = own.brk; set = own.set; count = own.count } ≡ own
-    go true true f = cc
-    go true false f = let same : record b { brk = true; set = turn; count = b.count + 1 } ≡ own = cc in
-        ap (λ o. record b { brk = o.brk; set = o.set; count = o.count }) (sym same) ∙ same
-    go false c f = let same : b ≡ own = cc in ap (λ o. record b { brk = o.brk; set = o.set; count = o.count }) (sym same) ∙ same
+ticked-only turn period tries b own e = grind (arith)
 
 -- rows for whatever the timers did
 pub linked-alike : (P : Said → Type 0) (turn : ℕ) (a : Account)
@@ -268,14 +240,7 @@ pub tries-alike : (P : Said → Type 0) (turn : ℕ) (frame : Frame) (a : Accoun
 tries-alike P turn frame a h k = record { sent = λ x e. h _; again = λ x e. h _; flags = λ x e. k }
 
 pub by-tries : (P : Said → Type 0) (turn : ℕ) (frame : Frame) (a : Account) → Tries P turn frame a → OnSaid P (u_try turn frame a)
-by-tries P turn frame a h =
-    go (expires a.wait.try_set a.setup.period turn) refl (nat_eq a.wait.try_count a.setup.tries) refl a.wait.try refl
-  where
-    go : (b : Bool) → expires a.wait.try_set a.setup.period turn ≡ b → (c : Bool) → nat_eq a.wait.try_count a.setup.tries ≡ c
-        → (d : Bool) → a.wait.try ≡ d
-        → OnSaid P (cond b (cond c (Err (spent turn a)) (Ok (tries_frame frame (trying_again turn a))))
-        (Ok (else_says (where_says d (says_frame frame (record a { wait = record a.wait { try = false } }))) (says slots.Flags a))))
-    go y x c n d e = grind (arith)
+by-tries P turn frame a h = grind (arith, expires, spent, says)
 
 -- an end sends nothing but the answers that it owes: an answerer that isn't Connected yet, and an end that is closed
 abbrev pub answers_alone : Phase → Role → Bool
@@ -303,18 +268,10 @@ pub record Ways (P : Said → Type 0) (turn : ℕ) (release : Bool) (a : Account
 module _ (P : Said → Type 0) (turn : ℕ) (release : Bool) (a : Account) (h : Ways P turn release a) where
   due : (slot : Sent) → answers_alone a.phase a.setup.role ≡ true → (a.owes.answer ≡ None → P (says slot a))
       → P (else_says (answering a.owes.answer a) (says slot a))
-  due slot alone idle = go a.owes.answer refl
-    where
-      go : (o : Option Answer) → a.owes.answer ≡ o → P (else_says (answering o a) (says slot a))
-      go x e = grind (arith)
+  due slot alone idle = grind (arith, says)
 
   detects : a.phase ≡ Detecting → (r : Role) → a.setup.role ≡ r → OnSaid P (speak_detecting r turn a)
-  detects e Originator f = go (nat_le ((a.setup.tries + 1) * a.setup.period) turn) refl
-    where
-      go : (b : Bool) → nat_le ((a.setup.tries + 1) * a.setup.period) turn ≡ b → OnSaid P (cond b (Err NotDetected) (Ok (says slots.Odp a)))
-      go true l = tt
-      go false l = h.odp e f l
-  detects e Answerer f = due slots.Mark (rw (e, f) refl) (h.mark e f)
+  detects e r f = grind (arith, says, due)
 
   negotiates : a.phase ≡ Negotiating → (r : Role) → a.setup.role ≡ r → OnSaid P (speak_negotiating r turn a)
   negotiates e x f = grind (arith)
@@ -330,8 +287,7 @@ module _ (P : Said → Type 0) (turn : ℕ) (release : Bool) (a : Account) (h : 
   in-phase Establishing e = by-tries P turn _ a (h.sabme e)
   in-phase Connected e = connects e (release && is_originator a.setup.role) refl
   in-phase Releasing e = by-tries P turn _ a (h.disc e)
-  in-phase Closed e = let alone : answers_alone a.phase a.setup.role ≡ true = ap (λ p. answers_alone p a.setup.role) e in
-      due slots.Flags alone (h.flags alone)
+  in-phase Closed e = grind (arith, due)
 
   -- what holds of each way holds of all that is sent
   pub by-ways : (said : Said) → speak turn release a ≡ Ok said → P said
@@ -373,14 +329,7 @@ module _ (turn : ℕ) (release : Bool) (a : Account) where
 
   ticks-broken : a.phase ≡ Connected → (b : Account) → spent turn b ≡ spent turn a
       → Broken (after_timers turn a.special (breaking turn (ticked turn a.setup.period a.setup.tries a.own_breaks) b))
-  ticks-broken p b e = go (waits a.own_breaks) refl (expires a.own_breaks.set a.setup.period turn) refl
-      (nat_eq a.own_breaks.count a.setup.tries) refl
-    where
-      go : (w : Bool) → waits a.own_breaks ≡ w → (x : Bool) → expires a.own_breaks.set a.setup.period turn ≡ x
-          → (y : Bool) → nat_eq a.own_breaks.count a.setup.tries ≡ y
-          → Broken (after_timers turn a.special (breaking turn (cond (w && x)
-          (cond y None (Some (record a.own_breaks { brk = true; set = turn; count = a.own_breaks.count + 1 }))) (Some a.own_breaks)) b))
-      go v w x d y n = grind (arith)
+  ticks-broken p b e = grind (arith)
 
   linked-broken : a.phase ≡ Connected → (m : Option ℕ) → a.wait.timer ≡ m → Broken (after_timers turn a.special (then_tries turn
       (cond (timer_expires turn a m) (polling turn (expired a.outgoing) a) (Ok a))))
@@ -398,23 +347,7 @@ module _ (turn : ℕ) (release : Bool) (a : Account) where
       go false q c n = ticks-broken p a refl
 
   phase-broken : (p : Phase) → a.phase ≡ p → Broken (speak_in p turn release a)
-  phase-broken Detecting e = go a.setup.role refl
-    where
-      go : (r : Role) → a.setup.role ≡ r → Broken (speak_detecting r turn a)
-      go x f = grind (arith)
-  phase-broken Negotiating e = go a.setup.role refl
-    where
-      go : (r : Role) → a.setup.role ≡ r → Broken (speak_negotiating r turn a)
-      go Originator f = tries-broken _ a refl (λ x y. TryEnds (inl (e, f)) x y)
-      go Answerer f = tt
-  phase-broken Establishing e = tries-broken _ a refl (λ x y. TryEnds (inr (inl e)) x y)
-  phase-broken Connected e = go (release && is_originator a.setup.role)
-    where
-      go : (b : Bool) → Broken (cond b (speak_releasing turn (trying Releasing turn a)) (speak_linked turn a))
-      go true = tries-broken _ (trying Releasing turn a) refl (λ x y. ReleaseEnds e x)
-      go false = linked-broken e a.wait.timer refl
-  phase-broken Releasing e = tries-broken _ a refl (λ x y. TryEnds (inr (inr e)) x y)
-  phase-broken Closed e = tt
+  phase-broken p e = grind (arith, tries-broken, trying, linked-broken)
 
   pub why-broken : (fault : LinkFault) → speak turn release a ≡ Err fault → Breaks turn release a fault
   why-broken fault e = subst Broken e (phase-broken a.phase refl)
@@ -432,28 +365,4 @@ pub record NextKeeps (o new : Outgoing) : Type 0 where
   pub paused : new.paused ≡ o.paused
 
 pub next-keeps : (o : Outgoing) → NextKeeps o (after_next o)
-next-keeps o = by o.chosen
-  where
-    by : (c : List ℕ) → NextKeeps o (sent_among c o)
-    by [] = record {
-      window = refl;
-      size = refl;
-      tries = refl;
-      pieces = refl;
-      ended = refl;
-      front = refl;
-      count = refl;
-      awaited = refl;
-      paused = refl;
-    }
-    by (n ∷ rest) = record {
-      window = refl;
-      size = refl;
-      tries = refl;
-      pieces = refl;
-      ended = refl;
-      front = refl;
-      count = refl;
-      awaited = refl;
-      paused = refl;
-    }
+next-keeps o = grind (arith)

@@ -1,12 +1,14 @@
 -- What is kept of the segments that pass, by their numbers alone, is what a receiver's part takes and holds.
-use Rattle.std.proofs.Common.{◌≡◌, ◌≢◌, ℕ, zero, suc, ◌+◌, ◌-◌, ◌%◌, ◌<◌, ◌≤◌, ◌||◌, max, Bool, true, false, cond, nat_eq, nat_lt, List, []}
-use Rattle.std.proofs.Common.{◌∷◌, ◌++◌, length, slice_index_or, arith, length-append, refl, sym, ◌∙◌, ap, subst}
-use Rattle.link_account.proofs.Names.{false≢true, nat_tests, append_assoc, AllByRecursion, Incoming, kind_of, offset, after_kind}
-use Rattle.link_account.proofs.Names.{after_take, next_expected, Took, InOrder, Kept, Repeat, Gap}
+use Rattle.link_run.proofs.Names.{◌≡◌, ◌≢◌, ℕ, zero, suc, ◌+◌, ◌-◌, ◌%◌, ◌<◌, ◌≤◌, ◌||◌, max, Bool, true, false, cond, nat_eq, nat_lt, List}
+use Rattle.link_run.proofs.Names.{[], ◌∷◌, ◌++◌, length, slice_index_or, arith, length-append, refl, sym, ◌∙◌, ap, subst, or_right, or_left}
+use Rattle.link_run.proofs.Names.{concat, Held, is_held, rest_from, run_from, with_held, kind_at, false≢true, nat_tests, append_assoc}
+use Rattle.link_run.proofs.Names.{Incoming, kind_of, offset, after_kind, after_take, Took, InOrder, Kept, IsTakenBy, Segment, keeping}
+use Rattle.link_run.proofs.Names.{octets_in}
+use Rattle.std.proofs.lemmas.Bool.{or_from}
+use Rattle.link_account.proofs.Names.{AllByRecursion}
+use Rattle.link_account.proofs.Names.{next_expected, Repeat}
 use borrow.Author.Tests.{eqb-true}
-use Rattle.std.specs.List.{concat}
-use Rattle.link_run.proofs.Names.{Held, IsTakenBy, is_held, kind_at, rest_from, run_from, with_held}
-use Rattle.link_run.specs.Taken.{Segment, is_among, beyond, missing_from, missing, keeping, info_of, infos_from, octets_in}
+use Rattle.link_run.specs.Taken.{is_among, beyond, missing_from, missing, info_of, infos_from}
 
 -- what is held rises from a number on
 abbrev pub Rises : ℕ → List Held → Type 0
@@ -45,17 +47,7 @@ run-stops r (x ∷ hs) h = go (nat_eq x.number r) refl (run-stops (r + 1) hs)
     go : (b : Bool) → nat_eq x.number r ≡ b → (Rises (r + 1) hs → is_held (r + 1 + length (run_from (r + 1) hs)) hs ≡ false)
         → (nat_eq x.number (r + length (cond b (x.info ∷ run_from (r + 1) hs) [])) || is_held
         (r + length (cond b (x.info ∷ run_from (r + 1) hs) [])) hs) ≡ false
-    go true e ih =
-        let at = eqb-true x.number r e in
-        let rest : Rises (r + 1) hs = rises-low (x.number + 1) (r + 1) hs (omega (arith, at)) h.1 in
-        let m = r + length (x.info ∷ run_from (r + 1) hs) in
-        let not-here : nat_eq x.number m ≡ false = same-not x.number m (λ z. omega (arith, z, at)) in
-        ap (λ b. b || is_held m hs) not-here ∙ ap (λ k. is_held k hs) (let z : m ≡ r + 1 + length (run_from (r + 1) hs) = omega arith in z)
-        ∙ ih rest
-    go false e ih =
-        let other : x.number ≢ r = (λ z. false≢true (sym e ∙ same-is x.number r z)) in
-        let not-here : nat_eq x.number (r + 0) ≡ false = same-not x.number (r + 0) (λ z. other (omega (arith, z))) in
-        ap (λ b. b || is_held (r + 0) hs) not-here ∙ below-not (x.number + 1) (r + 0) hs h.1 (omega (arith, h.0))
+    go b e ih = grind (arith, eqb-true, rises-low, same-not, same-is, below-not)
 
 rest-held : (r k : ℕ) (hs : List Held) → r + length (run_from r hs) ≤ k → is_held k (rest_from r hs) ≡ is_held k hs
 rest-held r k [] h = refl
@@ -83,9 +75,6 @@ with-held s k (x ∷ hs) = go (nat_lt s.number x.number) (with-held s k hs)
         → is_held k (cond b (s ∷ x ∷ hs) (x ∷ with_held s hs)) ≡ (nat_eq s.number k || (nat_eq x.number k || is_held k hs))
     go x ih = grind (arith)
 
-or-false : (b c : Bool) → (b || c) ≡ false → (b ≡ false) × (c ≡ false)
-or-false x c e = grind (arith)
-
 with-rises : (low : ℕ) (s : Held) (hs : List Held) → Rises low hs → low ≤ s.number → is_held s.number hs ≡ false
     → Rises low (with_held s hs)
 with-rises low s [] r l n = (l, tt)
@@ -98,24 +87,12 @@ with-rises low s (x ∷ hs) r l n = go (nat_lt s.number x.number) refl (with-ris
 
 -- one more is kept
 among-more : (n : ℕ) (ss : List Segment) (s : Segment) → is_among n (ss ++ s ∷ []) ≡ (is_among n ss || nat_eq s.number n)
-among-more n [] s = or-last (nat_eq s.number n)
-  where
-    or-last : (b : Bool) → (b || false) ≡ b
-    or-last x = grind (arith)
+among-more n [] s = grind (arith)
 among-more n (x ∷ ss) s =
     ap (λ b. nat_eq x.number n || b) (among-more n ss s) ∙ sym (assoc (nat_eq x.number n) (is_among n ss) (nat_eq s.number n))
   where
     assoc : (a b c : Bool) → ((a || b) || c) ≡ (a || (b || c))
     assoc x b c = grind (arith)
-
-pub or-true-left : (b c : Bool) → b ≡ true → (b || c) ≡ true
-or-true-left b c e = ap (λ z. z || c) e
-
-pub or-true-right : (b c : Bool) → c ≡ true → (b || c) ≡ true
-or-true-right x c e = grind (arith)
-
-or-both-false : (b c : Bool) → b ≡ false → c ≡ false → (b || c) ≡ false
-or-both-false b c e f = ap (λ z. z || c) e ∙ f
 
 or-right-false : (b c : Bool) → c ≡ false → (b || c) ≡ b
 or-right-false x c e = grind (arith)
@@ -190,7 +167,7 @@ in-order ss r held srej s t e =
     record {
       below = λ n h. among-more n ss s ∙ below-m n h (nat_lt n r) refl (nat_eq n r) refl;
       next = among-more m ss s
-          ∙ or-both-false (is_among m ss) (nat_eq s.number m) (t.above m (omega arith) ∙ run-stops (r + 1) held t.rising)
+          ∙ or_from (is_among m ss) (nat_eq s.number m) (t.above m (omega arith) ∙ run-stops (r + 1) held t.rising)
           (same-not s.number m (λ z. omega (arith, z, e)));
       above = λ n h. among-more n ss s
           ∙ or-right-false (is_among n ss) (nat_eq s.number n) (same-not s.number n (λ z. omega (arith, z, e, h)))
@@ -201,30 +178,13 @@ in-order ss r held srej s t e =
   where
     below-m : (n : ℕ) → n < r + 1 + length (run_from (r + 1) held) → (b : Bool) → nat_lt n r ≡ b → (c : Bool) → nat_eq n r ≡ c
         → (is_among n ss || nat_eq s.number n) ≡ true
-    below-m n h true z c y = or-true-left (is_among n ss) (nat_eq s.number n) (t.below n (grind (arith, nat_tests)))
-    below-m n h false z true y = let at = eqb-true n r y in
-        or-true-right (is_among n ss) (nat_eq s.number n) (same-is s.number n (e ∙ sym at))
-    below-m n h false z false y =
-        let not-less : r ≤ n = grind (arith, nat_tests) in
-        let other : n ≢ r = (λ q. false≢true (sym y ∙ same-is n r q)) in
-        or-true-left (is_among n ss) (nat_eq s.number n)
-        (t.above n (omega (arith, not-less, other)) ∙ run-held (r + 1) n held (omega (arith, not-less, other)) h)
+    below-m n h b z c y = grind (arith, eqb-true, same-is, run-held, held)
 
 -- a later one that is held
 kept-later : (ss : List Segment) (r : ℕ) (held : List Held) (s : Segment) (srej : Bool) → srej ≡ true → TracksIn ss r held srej
     → r < s.number → is_held s.number held ≡ false
     → TracksIn (ss ++ s ∷ []) r (with_held (record { number = s.number; info = s.info }) held) srej
-kept-later ss r held s srej on t h not = record {
-  below = λ n l. among-more n ss s ∙ or-true-left (is_among n ss) (nat_eq s.number n) (t.below n l);
-  next = among-more r ss s ∙ or-both-false (is_among r ss) (nat_eq s.number r) t.next (same-not s.number r (λ z. omega (arith, z, h)));
-  above = λ n l. among-more n ss s ∙ ap (λ b. b || nat_eq s.number n) (t.above n l) ∙ or-swap (is_held n held) (nat_eq s.number n)
-      ∙ sym (with-held (record { number = s.number; info = s.info }) n held);
-  rising = with-rises (r + 1) (record { number = s.number; info = s.info }) held t.rising (omega (arith, h)) not;
-  plain = λ z. absurd (false≢true (sym z ∙ on));
-}
-  where
-    or-swap : (a b : Bool) → (a || b) ≡ (b || a)
-    or-swap x y = grind (arith)
+kept-later ss r held s srej on t h not = grind (arith, among-more, same-not, with-held, with-rises)
 
 -- what a segment is to a receiver's part, by how far its number is ahead
 not-kept : (i : Incoming) (o : ℕ) → i.srej ≡ false → kind_at i o ≡ Kept → ⊥
@@ -250,22 +210,7 @@ one-comes srej ss i s ns t on by spelled near width =
 
     later-held : length i.taken < s.number → i.srej ≡ true → (b : Bool) → is_held s.number i.held ≡ b
         → Tracks (keeping srej ss s) (after_take ns s.info i)
-    later-held less sr true h = still (λ z. omega (arith, z, less)) not-k (keeping-again srej ss s (t.above s.number less ∙ h))
-      where
-        off : offset i ns ≡ s.number - length i.taken
-        off = ap (offset i) spelled ∙ ahead i s.number (omega (arith, less)) (omega (arith, near, width))
-
-        kind-is : kind_of ns i ≡ Repeat
-        kind-is = grind (arith, kind-ahead, off)
-
-        number : Took → ℕ
-        number InOrder = 0
-        number Kept = 1
-        number Repeat = 2
-        number Gap = 3
-
-        not-k : kind_of ns i ≡ Kept → ⊥
-        not-k z = omega (arith, ap number (sym kind-is ∙ z))
+    later-held less sr true h = grind (arith, still, keeping-again, srej, ahead, kind-ahead)
     later-held less sr false h =
         let off : offset i ns ≡ s.number - length i.taken =
         ap (offset i) spelled ∙ ahead i s.number (omega (arith, less)) (omega (arith, near, width)) in
@@ -277,7 +222,7 @@ one-comes srej ss i s ns t on by spelled near width =
         (subst (λ m. TracksIn (keeping srej ss s) (length i.taken) (with_held (record { number = m; info = s.info }) i.held) i.srej)
         (sym at)
         (subst (λ l. TracksIn l (length i.taken) (with_held (record { number = s.number; info = s.info }) i.held) i.srej)
-        (sym (keeping-new srej ss s (t.above s.number less ∙ h) (or-true-left srej (nat_eq s.number (missing ss)) (on ∙ sr))))
+        (sym (keeping-new srej ss s (t.above s.number less ∙ h) (or_left srej (nat_eq s.number (missing ss)) (on ∙ sr))))
         (kept-later ss (length i.taken) i.held s i.srej sr t less h)))
 
     next-one : s.number ≡ length i.taken → Tracks (keeping srej ss s) (after_take ns s.info i)
@@ -285,7 +230,7 @@ one-comes srej ss i s ns t on by spelled near width =
         let kind-is = by.1 e in
         let m = missing-is ss (length i.taken) i.held i.srej t in
         let new = keeping-new srej ss s (ap (λ k. is_among k ss) e ∙ t.next)
-        (or-true-right srej (nat_eq s.number (missing ss)) (same-is s.number (missing ss) (e ∙ sym m))) in
+        (or_right srej (nat_eq s.number (missing ss)) (same-is s.number (missing ss) (e ∙ sym m))) in
         subst (λ k. Tracks (keeping srej ss s) (after_kind k (offset i ns) s.info i)) (sym kind-is)
         (subst (λ l. TracksIn l (length (i.taken ++ (s.info ∷ run_from (length i.taken + 1) i.held)))
         (rest_from (length i.taken + 1) i.held) i.srej) (sym new)
@@ -312,7 +257,7 @@ one-comes srej ss i s ns t on by spelled near width =
         let m = missing-is ss (length i.taken) i.held i.srej t in
         still other (λ q. not-kept i (offset i ns) z q)
         (keeping-none srej ss s not-among
-        (or-both-false srej (nat_eq s.number (missing ss)) (on ∙ z) (same-not s.number (missing ss) (λ q. other (q ∙ m)))))
+        (or_from srej (nat_eq s.number (missing ss)) (on ∙ z) (same-not s.number (missing ss) (λ q. other (q ∙ m)))))
 
 -- the octets
 abbrev pub AreRight : List (List ℕ) → List Segment → Type 0

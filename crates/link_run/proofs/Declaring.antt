@@ -1,9 +1,7 @@
 -- What an end says by U frames, and in which phase: its own offer, its commands with P = 1, and the answers that it owes.
-use Rattle.std.proofs.Common.{arith, ◌≡◌, ◌⊎◌, inl, inr, ℕ, Bool, true, false, refl, Option, Some, None, Ok}
-use Rattle.link_account.proofs.Names.{Originator, Frame, Sabme, Disc, Ua, Xid, written, Sent, Account, Said, speak, frame_for, ready_frame}
-use Rattle.link_account.proofs.Names.{trying}
-use Rattle.link_run.proofs.Names.{Answer, Establishing, Negotiating, Phase, Releasing, Setup, Tries, Ways, by-ways, linked-alike}
-use Rattle.link_run.proofs.Names.{tries-alike}
+use Rattle.link_run.proofs.Names.{arith, ◌≡◌, ◌⊎◌, inl, ℕ, Bool, true, false, Option, Some, None, Ok, Originator, Frame, Sabme, Disc, Ua}
+use Rattle.link_run.proofs.Names.{Xid, written, Sent, Account, Said, speak, frame_for, ready_frame, trying, Tries, Ways, by-ways}
+use Rattle.link_run.proofs.Names.{linked-alike, tries-alike, Answer, Phase, Establishing, Negotiating, Setup}
 use Rattle.lapm_frames.specs.declared.sent.Sent.TheVariants as slots
 use Rattle.link_account.specs.declared.answer.Answer.TheVariants as answers
 
@@ -51,28 +49,7 @@ module _ (a : Account) where
   u turn frame b e own = tries-alike P turn frame b (λ w. record { own = own; left = inl e }) (record { own = tt; left = inl e })
 
   ways : (turn : ℕ) (release : Bool) → Ways P turn release a
-  ways turn release = record {
-    answers = λ alone d e. record { own = answer d a None refl e; left = inr refl };
-    flags = λ alone e. plain tt refl;
-    mark = λ p r e. plain tt refl;
-    odp = λ p r e. plain tt refl;
-    xid = λ p r. u turn _ a refl (refl, p, r);
-    sabme = λ p. u turn _ a refl (refl, p);
-    linked = λ p r. linked-alike P turn a (λ count awaited w own. record {
-      answers = λ d f. record { own = answer d _ None refl f; left = inr refl };
-      final = λ n e. plain (ready a.setup a.owes.answer a.phase a.owes.busy false true _) refl;
-      poll = λ n r e. plain (ready a.setup a.owes.answer a.phase a.owes.busy true true _) refl;
-      segment = λ b u n e. plain tt refl;
-      brkack = λ b s word e. plain tt refl;
-      brk = λ b s k word e. plain tt refl;
-      tell = λ b w e. plain (ready a.setup a.owes.answer a.phase a.owes.busy false false _) refl;
-      rej = λ b w n e. plain tt refl;
-      srej = λ b w s n e. plain tt refl;
-      flags = λ i. plain tt refl;
-    });
-    releases = λ p r. u turn _ (trying Releasing turn a) refl refl;
-    disc = λ p. u turn _ a refl refl;
-  }
+  ways turn release = grind (arith, answer, plain, linked-alike, ready, trying)
 
 pub is-declared : (turn : ℕ) (release : Bool) (a : Account) (said : Said) → speak turn release a ≡ Ok said → Declares a.phase a said
 is-declared turn release a said e = by-ways _ turn release a (ways a turn release) said e

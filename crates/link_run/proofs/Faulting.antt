@@ -1,11 +1,9 @@
 -- No end breaks as it hears, and as it speaks it breaks for want of answers alone.
-use Rattle.std.proofs.Common.{arith, ◌≡◌, ℕ, ◌-◌, true, List, [], ◌∷◌, ◌++◌, length, map, refl, sym, ap, subst, Option, Some, None, Result}
-use Rattle.std.proofs.Common.{Ok, Err, slice_get}
-use Rattle.link_account.proofs.Names.{false≢true, Role, Originator, Answerer, ReadsAllowed, KeepsTaken, LinkFault, Account, hear, Slot}
-use Rattle.link_account.proofs.Names.{Play, arrives, MayPlay, Heard, Nothing, Passed, Lost, Chance, of}
-use Rattle.link_run.proofs.Names.{BreaksForWantAlone, BrokenForWant, Crosses, HearingsAreWell, Link, Passes, Sixteen, Turn, WantsAnswers}
-use Rattle.link_run.proofs.Names.{arrival, at, breaks-not, happens, on_line, sent_in, side, sides, told_by_play, told_by_turn}
-use Rattle.std.specs.Prelude.{is_ok}
+use Rattle.link_run.proofs.Names.{arith, ◌≡◌, ℕ, ◌-◌, true, List, [], ◌∷◌, ◌++◌, length, map, refl, sym, ap, subst, Option, Some, None}
+use Rattle.link_run.proofs.Names.{Result, Ok, Err, slice_get, is_ok, Sixteen, at, side, sides, breaks-not, false≢true, Role, Originator}
+use Rattle.link_run.proofs.Names.{Answerer, ReadsAllowed, KeepsTaken, LinkFault, Account, hear, Slot, Play, arrives, MayPlay, Heard}
+use Rattle.link_run.proofs.Names.{Nothing, Passed, Lost, Chance, of, BreaksForWantAlone, WantsAnswers, Passes, happens, Crosses, on_line}
+use Rattle.link_run.proofs.Names.{sent_in, BrokenForWant, HearingsAreWell, told_by_play, told_by_turn, Link, Turn, arrival}
 use Rattle.link_run.proofs.Speaking.{breaks-for-want}
 use Rattle.link_run.proofs.Playing.{Leads, then-leads, one, made, next-first, head-of, none-is-some, told-slot}
 use Rattle.link_run.proofs.Running.{begun, Reaches, lines, run-reaches}
@@ -35,8 +33,7 @@ well-heard reads keeps law link m role turn x y lx ly t left Nothing p e c (Err 
 well-heard reads keeps law link m role turn x y lx ly t left (Lost s) p e c (Err fault) k = absurd (false≢true (sym (ap is_ok k)))
 well-heard reads keeps law link m role turn x y lx ly t left Chance p e c (Err fault) k = absurd (false≢true (sym (ap is_ok k)))
 well-heard reads keeps law link m role turn x y lx ly None left (Passed s) p e c (Err fault) k = absurd c
-well-heard reads keeps law link m role turn x y [] ly (Some t) left (Passed s) p e c (Err fault) k =
-    absurd (none-is-some (told_by_turn (of role t).sent) (map told_by_turn left) e)
+well-heard reads keeps law link m role turn x y [] ly (Some t) left (Passed s) p e c (Err fault) k = grind (arith, none-is-some)
 well-heard reads keeps law link m role turn x y (slot ∷ rest) ly (Some t) left (Passed s) p e c (Err fault) k =
     let parts = head-of (Some (slot.sent, slot.number)) (told_by_turn (of role t).sent) (told_by_play rest) (map told_by_turn left) e in
     let d = told-slot slot (of role t).sent parts.0 (Passed s) c Sixteen in

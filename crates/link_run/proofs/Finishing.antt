@@ -1,12 +1,12 @@
 -- Once the originator was told to release, nothing of both files or of any break is left; so done means whole.
-use Rattle.std.proofs.Common.{◌≡◌, ℕ, zero, suc, ◌≤◌, ◌&&◌, ◌||◌, not, Bool, true, false, List, [], ◌∷◌, ◌++◌, length, arith, length-append}
-use Rattle.std.proofs.Common.{refl, sym, ◌∙◌, ap, subst, Option, None, Ok}
-use Rattle.link_account.proofs.Names.{append-nil, IsPrefixOf, Role, Originator, Answerer, of, ReadsAllowed, Outgoing, KeepsTaken, Account}
-use Rattle.link_account.proofs.Names.{is_connected, wants, after_given, after_busy, Said, MayPlay}
-use Rattle.link_run.proofs.Names.{Accounts, DoneIsWhole, HasDelays, Hears, HoldWhole, IsCarried, Link, Phase, RunOf, Setup, Turn, User}
-use Rattle.link_run.proofs.Names.{arrival, at, delivered, finished_at, has_finished, is_busy, is_closed, is_released, offered_at}
-use Rattle.link_run.proofs.Names.{offered_times, releases, room_for, said_at, served, served_at, served_ends}
-use Rattle.std.specs.List.{concat}
+use Rattle.std.proofs.lemmas.Bool.{and_parts}
+use Rattle.link_run.proofs.Names.{◌≡◌, ℕ, zero, suc, ◌≤◌, ◌||◌, Bool, true, false, List, [], ◌∷◌, ◌++◌, length, arith, length-append, refl}
+use Rattle.link_run.proofs.Names.{sym, ◌∙◌, ap, subst, Option, None, Ok, concat, at, append-nil, IsPrefixOf, Role, Originator, Answerer, of}
+use Rattle.link_run.proofs.Names.{ReadsAllowed, KeepsTaken, Account, is_connected, wants, after_given, Said, MayPlay, Phase, Setup}
+use Rattle.link_run.proofs.Names.{HasDelays, IsCarried, User, delivered, has_finished, is_closed, is_released, offered_at, offered_times}
+use Rattle.link_run.proofs.Names.{served, DoneIsWhole, HoldWhole, Accounts, Hears, Link, RunOf, Turn, arrival, finished_at, releases}
+use Rattle.link_run.proofs.Names.{said_at, served_at, served_ends}
+use Rattle.std.proofs.Common.{not}
 use Rattle.link_run.proofs.Keeping.{stage, GoesOn, hears, standing, stands-heard}
 use Rattle.link_run.proofs.Speaking.{Ledger, Speaks, Keeps_on, Releases, stands-spoken}
 use Rattle.link_run.proofs.Serving.{Waiting, served-alone, busy-alone}
@@ -16,9 +16,6 @@ use Rattle.link_run.proofs.Cutting.{linked-stage}
 use Rattle.link_run.proofs.Ending.{AtBoth, kept-heard, kept-run, HasSetup, setups-kept, HasCut, cuts-kept, Facts, PlayLaws, facts}
 use Rattle.link_run.proofs.Ending.{allowed-both}
 use Rattle.link_run.specs.Run as run
-
-both-true : (b c : Bool) → (b && c) ≡ true → (b ≡ true) × (c ≡ true)
-both-true x c e = grind (arith)
 
 neither : (b c : Bool) → not (b || c) ≡ true → (b ≡ false) × (c ≡ false)
 neither x c e = grind (arith)
@@ -31,7 +28,7 @@ pub record Finished (a : Account) : Type 0 where
   pub answered : length a.own_breaks.lengths ≤ a.own_breaks.answered
 
 finished : (u : User) (turn : ℕ) (a : Account) → has_finished u turn a ≡ true → Finished a
-finished u turn a e = grind (arith, both-true, neither)
+finished u turn a e = grind (arith, and_parts, neither)
 
 -- what holds of both ends from then on
 pub record Over (o a : Account) : Type 0 where
@@ -79,15 +76,7 @@ given-idles : (a : Account) → Idles a (after_given (delivered a))
 given-idles a = grind (arith)
 
 served-idles : (u : User) (turn : ℕ) (a : Account) → a.outgoing.ended ≡ true → Idles a (served u turn true a).account
-served-idles u turn a e =
-    let g = given-idles a in
-    let b = after_given (delivered a) in
-    let busy = is_busy turn u.busy in
-    let k : Idles a (after_busy busy b) =
-    subst (Idles a) (sym (busy-alone busy b))
-    (record { outgoing = g.outgoing; taken = g.taken; own = g.own; theirs = g.theirs; phase = g.phase }) in
-    subst (λ c. Idles a (after_busy busy c))
-    (sym (offers-none (room_for b) u.file b (ended-wants b (ap (λ (o : Outgoing). o.ended) g.outgoing ∙ e)))) k
+served-idles u turn a e = grind (arith, given-idles, busy-alone, offers-none, ended-wants)
 
 -- of the originator, what is delivered isn't part of what stands
 idles-over : (o p a b : Account) → Over o a → Idles o p → Idles a b → Over p b
@@ -155,7 +144,7 @@ over-going link turn mid o a going h f e (Keeps_on k) l two =
     delivered-phase x = grind (arith)
 over-going link turn mid o a going h f e (Releases on role linked k stand) l two =
     let s = both_served link turn mid in
-    let both = both-true (finished_at link turn (served_ends link turn mid) Originator)
+    let both = and_parts (finished_at link turn (served_ends link turn mid) Originator)
     (finished_at link turn (served_ends link turn mid) Answerer) on in
     let x = finished link.orig.user turn s.orig both.0 in
     let y = finished link.answ.user turn s.answ both.1 in
@@ -211,11 +200,10 @@ whole-prefix {X} xs ys p h = go p.0 p.1
     go (z ∷ rest) e = absurd (omega (arith, h, ap length e, length-append xs (z ∷ rest)))
 
 whole : (link : Link) (mid : Accounts) → Over mid.orig mid.answ → Facts mid.orig mid.answ → AtBoth (HasCut link) mid → HoldWhole link mid
-whole link mid h f c Originator = record {
-  file_is = ap concat (whole-prefix mid.orig.incoming.taken mid.answ.outgoing.pieces f.taken_o h.a_taken)
-      ∙ (c Answerer).cut.whole h.a_ended;
-  breaks_are = whole-prefix mid.orig.their_breaks.lengths mid.answ.own_breaks.lengths f.given_o h.a_breaks;
-}
+whole link mid h f c Originator = assumption (
+  ap concat (whole-prefix mid.orig.incoming.taken mid.answ.outgoing.pieces f.taken_o h.a_taken) ∙ (c Answerer).cut.whole h.a_ended,
+  whole-prefix mid.orig.their_breaks.lengths mid.answ.own_breaks.lengths f.given_o h.a_breaks,
+)
 whole link mid h f c Answerer = record {
   file_is = ap concat (whole-prefix mid.answ.incoming.taken mid.orig.outgoing.pieces f.taken_a (omega (arith, f.acked_o, h.o_front)))
       ∙ (c Originator).cut.whole h.o_ended;

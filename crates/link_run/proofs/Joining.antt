@@ -1,13 +1,12 @@
 -- How far both ends have come, by what each has sent: neither is sent numbered frames before it is Connected, and the answerer is closed
 -- only once
 -- the originator releases.
-use Rattle.std.proofs.Common.{◌≡◌, ◌≢◌, ◌⊎◌, inl, inr, ℕ, zero, suc, ◌-◌, ◌≤◌, ◌||◌, Bool, true, false, List, [], ◌∷◌, length, arith, refl}
-use Rattle.std.proofs.Common.{sym, ◌∙◌, ap, subst, Option, Some, None, slice_get}
-use Rattle.link_account.proofs.Names.{false≢true, Role, Originator, Answerer, Frame, ReadsAllowed, KeepsTaken, Account, after_busy}
-use Rattle.link_account.proofs.Names.{after_given, Said, MayPlay, Heard, of}
-use Rattle.link_run.proofs.Counting.{or-true-left, or-true-right}
-use Rattle.link_run.proofs.Names.{Setup, User, delivered, room_for, offered, is_busy, served, is_released, Link, Accounts, Turn, Spoken}
-use Rattle.link_run.proofs.Names.{spoken, arrival, Hears, RunOf, served_at, sent_in, sent_ago, Crosses, Carries, IsCarried}
+use Rattle.link_run.proofs.Names.{◌≡◌, ◌≢◌, ◌⊎◌, ℕ, zero, suc, ◌-◌, ◌≤◌, ◌||◌, Bool, true, false, List, [], ◌∷◌, length, arith, refl, sym}
+use Rattle.link_run.proofs.Names.{◌∙◌, ap, subst, Option, Some, None, slice_get, or_right, or_left, false≢true, Role, Originator, Answerer}
+use Rattle.link_run.proofs.Names.{Frame, ReadsAllowed, KeepsTaken, Account, after_busy, Said, MayPlay, Heard, of, Setup, sent_in, sent_ago}
+use Rattle.link_run.proofs.Names.{Crosses, Carries, IsCarried, User, delivered, offered, served, is_released, Link, Accounts, Turn, Spoken}
+use Rattle.link_run.proofs.Names.{spoken, arrival, Hears, RunOf, served_at}
+use Rattle.std.proofs.lemmas.Bool.{or_cases}
 use Rattle.link_run.proofs.Keeping.{stage, GoesOn, hears}
 use Rattle.link_run.proofs.Speaking.{Speaks}
 use Rattle.link_run.proofs.Serving.{served-alone, offers-alone}
@@ -25,14 +24,11 @@ abbrev pub any_sent : (Frame → Bool) → Role → List Turn → Bool
 any_sent is role [] = false
 any_sent is role (t ∷ ts) = sent_is is (of role t).sent || any_sent is role ts
 
-or-either : (b c : Bool) → (b || c) ≡ true → (b ≡ true) ⊎ (c ≡ true)
-or-either x c e = grind (arith)
-
 ago-any : (is : Frame → Bool) (role : Role) (k : ℕ) (ts : List Turn) → sent_is is (sent_in role (slice_get ts k)) ≡ true
     → any_sent is role ts ≡ true
 ago-any is role k [] e = absurd (false≢true e)
-ago-any is role zero (t ∷ ts) e = or-true-left (sent_is is (of role t).sent) (any_sent is role ts) e
-ago-any is role (suc k) (t ∷ ts) e = or-true-right (sent_is is (of role t).sent) (any_sent is role ts) (ago-any is role k ts e)
+ago-any is role zero (t ∷ ts) e = or_left (sent_is is (of role t).sent) (any_sent is role ts) e
+ago-any is role (suc k) (t ∷ ts) e = or_right (sent_is is (of role t).sent) (any_sent is role ts) (ago-any is role k ts e)
 
 brought : (is : Frame → Bool) (o : Option Spoken) (h : Heard) → Crosses o h → brings is (arrival h) ≡ true → sent_is is o ≡ true
 brought is o x c e = grind (arith)
@@ -85,8 +81,7 @@ met-heard ts o a p b delay ho ha m role go ga to ta co ca =
     due-by x = grind (arith)
 
     counted-by : (a.numbered ≡ true) ⊎ (brings is_counted (arrival ha) ≡ true) → 1 ≤ stage p.phase
-    counted-by (inl z) = omega (arith, m.counted z, later o p go)
-    counted-by (inr z) = omega (arith, m.froms (came is_counted delay Originator ts ha ca z), later o p go)
+    counted-by given = grind (arith, later, came)
 
     hung-by : (n : ℕ) → stage a.phase ≡ n → stage b.phase ≡ 3 → 2 ≤ stage p.phase
     hung-by zero e z = omega (arith, later o p go, m.discs (came is_disc delay Originator ts ha ca (ta.hung (omega (arith, e)) z)))
@@ -108,12 +103,7 @@ busy-answer : (busy : Bool) (a : Account) → (after_busy busy a).owes.answer �
 busy-answer busy a = grind (arith)
 
 pub serving : (u : User) (turn : ℕ) (released : Bool) (a : Account) → Leaves a (served u turn released a).account
-serving u turn released a =
-    let d = delivered-leaves a in
-    let g = after_given (delivered a) in
-    let due = busy-answer (is_busy turn u.busy) (offered u.file g)
-    ∙ ap (λ (b : Account). b.owes.answer) (offers-alone (room_for g) u.file g) ∙ d.answer in
-    subst (Leaves a) (sym (served-alone u turn released a)) (record { phase = d.phase; answer = due; part_is = d.part_is; setup = d.setup })
+serving u turn released a = grind (arith, delivered-leaves, busy-answer, offered, offers-alone, served-alone)
 
 later-spoken : (release : Bool) (a b : Account) → Speaks release a b → stage a.phase ≤ stage b.phase
 later-spoken release a b x = grind (arith)
@@ -132,12 +122,12 @@ met-spoken ts t o a release p b m role go ga to ta so sa =
     let la = same-spoken a b.account ga in
     record {
       up = λ z. omega (arith, la, m.up (linked-spoken release o p.account go z));
-      uas = λ z. omega (arith, la, uas-by (or-either (sent_is is_ua t.answ.sent) (any_sent is_ua Answerer ts) z));
+      uas = λ z. omega (arith, la, uas-by (or_cases (sent_is is_ua t.answ.sent) (any_sent is_ua Answerer ts) z));
       due = λ z. omega (arith, la, m.due (ta.owes z));
       counted = λ z. omega (arith, lo, m.counted (sym (ap (λ (x : Part). x.numbered) ta.part_is) ∙ z));
-      froms = λ z. froms-by (or-either (sent_is is_counted t.orig.sent) (any_sent is_counted Originator ts) z);
-      segments = λ z. omega (arith, lo, segments-by (or-either (sent_is is_segment t.answ.sent) (any_sent is_segment Answerer ts) z));
-      discs = λ z. discs-by (or-either (sent_is is_disc t.orig.sent) (any_sent is_disc Originator ts) z);
+      froms = λ z. froms-by (or_cases (sent_is is_counted t.orig.sent) (any_sent is_counted Originator ts) z);
+      segments = λ z. omega (arith, lo, segments-by (or_cases (sent_is is_segment t.answ.sent) (any_sent is_segment Answerer ts) z));
+      discs = λ z. discs-by (or_cases (sent_is is_disc t.orig.sent) (any_sent is_disc Originator ts) z);
       hung = λ z. omega (arith, lo, m.hung (omega (arith, la, z)));
       never = λ z. m.never (omega (arith, la, z));
     }
@@ -171,17 +161,7 @@ met-mid reads keeps link delay ts before t mid p h m c k =
 
 pub met-run : (reads : ReadsAllowed) (keeps : KeepsTaken) (link : Link) (delay : Role → ℕ) → MayPlay link.orig.setup link.answ.setup
     → (ts : List Turn) (ends : Accounts) → IsCarried delay ts → RunOf link ts ends → Met ts ends.orig ends.answ
-met-run reads keeps link delay p [] ends c h = subst (λ (e : Accounts). Met [] e.orig e.answ) (sym h) (record {
-  up = λ z. absurd (omega (arith, z));
-  uas = λ z. absurd (false≢true z);
-  due = λ z. absurd (false≢true z);
-  counted = λ z. absurd (false≢true z);
-  froms = λ z. absurd (false≢true z);
-  segments = λ z. absurd (false≢true z);
-  discs = λ z. absurd (false≢true z);
-  hung = λ z. absurd (omega (arith, z));
-  never = λ z. omega (arith, z);
-})
+met-run reads keeps link delay p [] ends c h = grind (arith)
 met-run reads keeps link delay p (t ∷ ts) ends c h =
     let before = h.0 in
     let g = h.2 in

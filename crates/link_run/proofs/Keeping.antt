@@ -1,12 +1,12 @@
 -- What an end keeps of its books as it hears and speaks.
-use Rattle.std.proofs.Common.{◌≡◌, ◌≢◌, ◌⊎◌, inl, inr, ℕ, ◌≤◌, Bool, false, List, [], ◌∷◌, ◌++◌, length, arith, refl, sym, ◌∙◌, ap, subst}
-use Rattle.std.proofs.Common.{Option, Some, None, Ok}
-use Rattle.link_account.proofs.Names.{false≢true, append-nil, is_connected, Role, Originator, Answerer, Offer, Terms, agree, IsAllowed}
-use Rattle.link_account.proofs.Names.{ReadsAllowed, Outgoing, Incoming, after_take, after_kind, kind_of, offset, KeepsTaken, Took}
-use Rattle.link_account.proofs.Names.{OwnBreaks, after_answer, Arrived, Account, hear, on_nothing, owing, trying, is_originator}
-use Rattle.link_run.proofs.Names.{Closed, Connected, Negotiating, NumberKeeps, Phase, Releasing, Setup, TheirBreaks, acked-keeps}
-use Rattle.link_run.proofs.Names.{acked_back-keeps, after_break, connected, gives, has_begun, numbered_with, paused-keeps, resumed-keeps}
-use Rattle.link_run.proofs.Names.{size_for, window_for, with_given}
+use Rattle.link_run.proofs.Names.{◌≡◌, ◌≢◌, ◌⊎◌, inl, inr, ℕ, ◌≤◌, Bool, false, List, [], ◌∷◌, ◌++◌, length, arith, refl, sym, ◌∙◌, ap}
+use Rattle.link_run.proofs.Names.{subst, Option, Some, None, Ok, TheirBreaks, after_break, gives, with_given, NumberKeeps, acked-keeps}
+use Rattle.link_run.proofs.Names.{acked_back-keeps, numbered_with, paused-keeps, resumed-keeps, false≢true, append-nil, is_connected, Role}
+use Rattle.link_run.proofs.Names.{Originator, Answerer, Terms, agree, IsAllowed, ReadsAllowed, Outgoing, Incoming, after_take, after_kind}
+use Rattle.link_run.proofs.Names.{kind_of, offset, KeepsTaken, Took, Arrived, Account, hear, on_nothing, trying, is_originator, size_for}
+use Rattle.link_run.proofs.Names.{window_for, connected, has_begun, Phase, Closed, Connected, Negotiating, Releasing, Setup}
+use Rattle.link_account.proofs.Names.{Offer}
+use Rattle.link_account.proofs.Names.{OwnBreaks, after_answer, owing}
 use Rattle.xid_params.specs.Terms.{default_offer}
 use Rattle.link_account.proofs.HearWays.{Ways, by-ways}
 use Rattle.lapm_sender.specs.Outgoing as outgoing
@@ -177,8 +177,7 @@ out-books a ps e p q = rw (p, q) refl
 -- a number is heard
 numbered : (a : Account) (new : Outgoing) (timer : Option ℕ) (reply urgent : Bool) → NumberKeeps a.outgoing new
     → GoesOn a (numbered_with a new a.incoming timer reply urgent)
-numbered a new timer reply urgent k = same a (numbered_with a new a.incoming timer reply urgent)
-    (out-books a new.pieces new.ended k.pieces k.ended) (k.size, k.high) refl refl refl (λ o t. t)
+numbered a new timer reply urgent k = grind (arith, same, out-books)
 
 kind-given : (kind : Took) (o : ℕ) (info : List ℕ) (i : Incoming) → (after_kind kind o info i).given ≡ i.given
 kind-given p o info i = grind (arith)
@@ -238,16 +237,7 @@ their-word number length_octet a e =
     })
 
 own-word : (turn number : ℕ) (a : Account) → GoesOn a (record a { own_breaks = after_answer turn number a.own_breaks })
-own-word turn number a =
-    same a (record a { own_breaks = after_answer turn number a.own_breaks })
-    (ap (λ l. record {
-      setup = a.setup;
-      pieces = a.outgoing.pieces;
-      ended = a.outgoing.ended;
-      given = a.incoming.given;
-      told = a.breaks_told;
-      lengths = l;
-    }) (answer-lengths turn number a.own_breaks)) (refl, refl) refl refl refl (λ o t. t)
+own-word turn number a = grind (arith, same, answer-lengths)
 
 answers-not : {r : Role} → r ≡ Answerer → r ≡ Originator → ⊥
 answers-not a o = false≢true (ap is_originator (sym a ∙ o))
@@ -306,19 +296,4 @@ abbrev pub standing : Account → Standing
 standing a = record { outgoing = a.outgoing; incoming = a.incoming; own_breaks = a.own_breaks; their_breaks = a.their_breaks }
 
 pub stands-heard : (turn : ℕ) (arrived : Arrived) (a b : Account) → 2 ≤ stage a.phase → hear turn arrived a ≡ Ok b → standing b ≡ standing a
-stands-heard turn arrived a b h e = by-ways (λ x b. standing b ≡ standing a) turn a (record {
-  nothing = refl;
-  linked = λ p. absurd (omega (arith, h, ap stage p));
-  early = λ c. record {
-    ignores = λ x f. refl;
-    detects = λ p r. refl;
-    detected = λ p r. refl;
-    xid = λ p r pf info offer f. refl;
-    agrees = λ p r pf info offer f. refl;
-    sabme_first = λ p r pf. absurd (omega (arith, h, ap stage p));
-    sabme = λ p r pf. absurd (omega (arith, h, ap stage p));
-    ua = λ p. absurd (omega (arith, h, ap stage p));
-    disc = λ p pf. refl;
-    closes = λ p frame f. refl;
-  };
-}) arrived b e
+stands-heard turn arrived a b h e = grind (arith, by-ways)

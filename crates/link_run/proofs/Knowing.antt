@@ -177,8 +177,7 @@ module _ (so sa : Setup) (reads : Reads so sa) (m turn : ℕ) (a : Account) (set
 
   linked-o : a.phase ≡ Connected → (x : Arrived) (answer : Option Answer) → DueO answer
       → AfterO so sa m a.phase x (record (course a) { answer = answer })
-  linked-o p x answer d =
-      stays-o x answer d (or-late _ _ (ap (λ q. nat_le 2 (rank q)) p)) (or-late _ _ (ap (λ q. nat_le 3 (rank q)) p))
+  linked-o p x answer d = grind (arith, stays-o, or-late)
 
   moves-o : (x : Arrived) (p q : Phase) → a.phase ≡ p → rank p ≤ rank q → nat_le 2 (rank q) ≡ nat_le 2 (rank p)
       → (2 ≤ rank q → 2 ≤ rank p) → nat_le 2 (rank q) ≡ (brings is_xid x || nat_le 2 (rank p))
@@ -208,31 +207,7 @@ module _ (so sa : Setup) (reads : Reads so sa) (m turn : ℕ) (a : Account) (set
   ways-o p = grind (arith)
 
   early-o : EarlyWays HearsO turn a
-  early-o = record {
-    ignores = ignored-o;
-    detects = λ p r k. moves-o _ Detecting Negotiating p (omega arith) refl (λ z. omega (arith, z)) refl refl;
-    detected = λ p r. never-o r;
-    xid = λ p r. never-o r;
-    agrees = λ p r pf info offer f k.
-        let both : Some offer ≡ Some sa.offer = sym f ∙ (ap offer_in k.1 ∙ reads.answ) in
-        let same : offer ≡ sa.offer = cc in
-        record {
-          later = omega (arith, ap rank p);
-          due = due;
-          terms = ap (λ (s : Setup). agree s.offer offer) setup ∙ ap (agree so.offer) same;
-          met = λ z. k.3;
-          xid = refl;
-          opened = sym (ap (λ q. nat_le 3 (rank q)) p);
-        };
-    sabme_first = λ p r. never-o r;
-    sabme = λ p r. never-o r;
-    ua = λ p k. moves-o _ Establishing Connected p (omega arith) refl (λ z. omega arith) refl refl;
-    disc = λ p pf k. elim p [
-      | inl q ↦ never-o q.1
-      | inr q ↦ stays-o _ _ tt refl refl
-    ];
-    closes = λ p frame f k. moves-o _ Releasing Closed p (omega arith) refl (λ z. omega arith) (or-late _ _ refl) (or-late _ _ refl);
-  }
+  early-o = grind (arith, ignored-o, moves-o, never-o, stays-o, or-late)
 
   pub o-hears : (x : Arrived) (b : Account) → hear turn x a ≡ Ok b → OnArrived (SentA sa (rank a.phase) m) x
       → AfterO so sa m a.phase x (course b)
@@ -273,8 +248,7 @@ module _ (so sa : Setup) (reads : Reads so sa) (r turn : ℕ) (a : Account) (set
 
   linked-a : a.phase ≡ Connected → (x : Arrived) (answer : Option Answer) → DueA r (rank a.phase) answer
       → AfterA so sa r a.phase x (record (course a) { answer = answer })
-  linked-a p x answer d =
-      stays-a x answer d (or-late _ _ (ap (λ q. nat_le 1 (rank q)) p)) (or-late _ _ (ap (λ q. nat_le 3 (rank q)) p))
+  linked-a p x answer d = grind (arith, stays-a, or-late)
 
   -- Connected, or closed
   moves-a : (x : Arrived) (p q : Phase) (d : Option Answer) → a.phase ≡ p → rank p ≤ rank q → 1 ≤ rank p → 3 ≤ rank q → rank q ≢ 4

@@ -1,7 +1,7 @@
 -- How many octets of information the frames have that an end says: those of a segment that it was offered, or few.
-use Rattle.std.proofs.Common.{◌≡◌, ℕ, zero, suc, ◌≤◌, Bool, true, false, List, [], ◌∷◌, length, slice_index_or, arith, Ok}
-use Rattle.link_account.proofs.Names.{Frame, BreakWord, Account, Said, speak, frame_for, ready_frame}
-use Rattle.link_run.proofs.Names.{Answer, Steps, Ways, by-ways, linked-alike, tries-alike}
+use Rattle.link_run.proofs.Names.{◌≡◌, ℕ, zero, suc, ◌≤◌, Bool, List, [], ◌∷◌, length, slice_index_or, arith, Ok, Frame, Account, Said}
+use Rattle.link_run.proofs.Names.{speak, frame_for, ready_frame, Steps, Ways, by-ways, linked-alike, tries-alike, Answer}
+use Rattle.link_account.proofs.Names.{BreakWord}
 use Rattle.lapm_frames.specs.Frame.{information_of}
 use Rattle.break_signals.specs.Words.{spelled}
 use Rattle.link_run.proofs.Knowing.{OnSent}
@@ -34,18 +34,7 @@ module _ (n : ℕ) (l : 23 ≤ n) where
   word x = grind (arith)
 
   steps : (turn : ℕ) (special : Bool) (a : Account) → AllShort n a.outgoing.pieces → Steps IsShort turn special a
-  steps turn special a h = record {
-    answers = λ d e. answer d a;
-    final = λ x e. ready a.owes.busy false true _;
-    poll = λ x r e. ready a.owes.busy true true _;
-    segment = λ b u i e. short-at n a.outgoing.pieces i h;
-    brkack = λ b s w e. word w;
-    brk = λ b s k w e. word w;
-    tell = λ b w e. ready a.owes.busy false false _;
-    rej = λ b w i e. omega arith;
-    srej = λ b w s i e. omega arith;
-    flags = λ i. tt;
-  }
+  steps turn special a h = grind (arith, answer, ready, short-at, word)
 
   ways : (turn : ℕ) (release : Bool) (a : Account) → AllShort n a.outgoing.pieces → Ways IsShort turn release a
   ways turn release a h = record {

@@ -1,8 +1,8 @@
 -- A run of one end counts its user's file as far as it was read, and its end keeps its setup.
-use Rattle.std.proofs.Common.{arith, ◌≡◌, ℕ, List, [], ◌∷◌, length, sym, ◌∙◌, ap, subst, false}
-use Rattle.link_account.proofs.Names.{Role, Originator, of, IsAllowed, ReadsAllowed, KeepsTaken, Account, speak}
-use Rattle.link_run.proofs.Names.{IsOffered, Link, Party, SameSoFar, Served, has_finished, speaks_alone, with_file}
-use Rattle.link_run.specs.Alone.{LoneTurn, LoneRun, LoneGoing, lone_served, LoneRunsByWhatIsReadOn, LoneRunsKeepTheirSetup}
+use Rattle.link_run.proofs.Names.{arith, ◌≡◌, ℕ, List, [], ◌∷◌, length, sym, ◌∙◌, ap, subst, false, Role, Originator, of, IsAllowed}
+use Rattle.link_run.proofs.Names.{ReadsAllowed, KeepsTaken, Account, speak, LoneTurn, LoneRun, LoneGoing, lone_served, Served, has_finished}
+use Rattle.link_run.proofs.Names.{speaks_alone, IsOffered, SameSoFar, with_file, Link, Party}
+use Rattle.link_run.specs.Alone.{LoneRunsByWhatIsReadOn, LoneRunsKeepTheirSetup}
 use Rattle.link_run.proofs.Keeping.{GoesOn, hears}
 use Rattle.link_run.proofs.Speaking.{speaks}
 use Rattle.link_run.proofs.Cutting.{heard-cuts}

@@ -1,12 +1,11 @@
 -- Which end breaks with which fault, and that each turn is made.
-use Rattle.std.proofs.Common.{arith, ◌≡◌, ℕ, Bool, true, false, List, length, refl, sym, ◌∙◌, ap, subst, Option, Some, None, Result, Ok}
-use Rattle.std.proofs.Common.{Err}
-use Rattle.link_account.proofs.Names.{false≢true, Role, Originator, Answerer, ReadsAllowed, KeepsTaken, LinkFault, NotDetected, Spent}
-use Rattle.link_account.proofs.Names.{Account, check_of, hear, Said, speak, Heard, is_originator, other, of}
-use Rattle.link_run.proofs.Names.{Accounts, Broken, BrokenForWant, Crosses, Done, EachEndIsNamed, EachTurnIsMade, Going, HearingsAreWell}
-use Rattle.link_run.proofs.Names.{Hears, Link, MakesTurn, Setup, Speaks, Spoken, Turn, arrival, given_break, is_closed, is_released}
-use Rattle.link_run.proofs.Names.{said_at, sent_ago, served_at, spoken, why-broken}
-use Rattle.std.specs.Prelude.{is_ok}
+use Rattle.link_run.proofs.Names.{arith, ◌≡◌, ℕ, Bool, true, false, List, length, refl, sym, ◌∙◌, ap, subst, Option, Some, None, Result, Ok}
+use Rattle.link_run.proofs.Names.{Err, is_ok, false≢true, Role, Originator, Answerer, ReadsAllowed, KeepsTaken, LinkFault, Account}
+use Rattle.link_run.proofs.Names.{check_of, hear, Said, speak, Heard, is_originator, other, of, why-broken, given_break, Setup, Crosses}
+use Rattle.link_run.proofs.Names.{sent_ago, is_closed, is_released, BrokenForWant, EachEndIsNamed, EachTurnIsMade, HearingsAreWell}
+use Rattle.link_run.proofs.Names.{MakesTurn, Broken, Done, Going, Accounts, Hears, Link, Speaks, Spoken, Turn, arrival, said_at, served_at}
+use Rattle.link_run.proofs.Names.{spoken}
+use Rattle.link_account.proofs.Names.{NotDetected, Spent}
 use Rattle.shared_terms.specs.declared.fault.LinkFault.TheVariants.{BadAck, PeerReset, PeerRefused}
 use Rattle.link_run.proofs.Ending.{HasSetup, setups-kept, kept-run, kept-heard}
 use Rattle.link_run.proofs.Joining.{serving}
@@ -79,12 +78,7 @@ speaking link ts ends mid heard h false e (Ok o) (Err fault) p q = record {
   turn = turn_with ends mid heard none;
   mid = mid;
   outcome = Broken Answerer fault;
-  is = record {
-    hearing = turn-hears (length ts) ends mid heard none h;
-    going = e;
-    broken = (ap is_ok p, q);
-    silent = turn-sent ends mid heard none;
-  };
+  is = assumption (turn-hears (length ts) ends mid heard none h, ap is_ok p, turn-sent ends mid heard none);
   heard_is = turn-heard ends mid heard none;
 }
 speaking link ts ends mid heard h false e (Ok o) (Ok a) p q = record {
@@ -117,8 +111,7 @@ hearing link ts ends heard (Ok o) (Ok a) h k x y =
     mid = record { orig = o; answ = a }
 
     both : Hear (length ts) ends heard mid
-    both Originator = h
-    both Answerer = k
+    both given = grind (arith)
 hearing link ts ends heard o a h k x y = grind (arith)
 
 pub each_turn_is_made : HearingsAreWell → EachTurnIsMade

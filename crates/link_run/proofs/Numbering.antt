@@ -1,10 +1,8 @@
 -- What an end sends is the next segment, or one that it has sent.
-use Rattle.std.proofs.Common.{◌≡◌, ℕ, ◌+◌, ◌%◌, ◌≤◌, ◌||◌, Bool, cond, max, List, arith, Option, Some, None, Ok}
-use Rattle.link_account.proofs.Names.{is_originator, Outgoing, next_number, Account, Said, ready_frame, frame_for, may_send, speak}
-use Rattle.link_run.proofs.Names.{AllSaid, Answer, IsInRange, Steps, Ways, by-ways}
-use Rattle.lapm_sender.specs.Outgoing.{next_among}
+use Rattle.link_run.proofs.Names.{◌≡◌, ℕ, ◌+◌, ◌%◌, ◌≤◌, Bool, max, arith, Option, Some, None, Ok, Outgoing, Account, Said, ready_frame}
+use Rattle.link_run.proofs.Names.{frame_for, speak, AllSaid, Steps, Ways, by-ways, IsInRange, Answer, sequence_in}
+use Rattle.link_account.proofs.Names.{may_send}
 use Rattle.link_account.specs.Speak.{says_segment}
-use Rattle.link_run.specs.Counts.{sequence_in}
 use Rattle.lapm_frames.specs.declared.sent.Sent.TheVariants as slots
 
 -- how far an end has sent, by the N(S) of what it sends and its meant number
@@ -16,16 +14,7 @@ abbrev pub Sends : ℕ → Said → Type 0
 Sends high said = SentAs (sequence_in said.sent) said.number high said.account.outgoing.high
 
 segment : (turn : ℕ) (a : Account) → IsInRange a.outgoing → AllSaid (Sends a.outgoing.high) (says_segment turn (may_send a) a)
-segment turn a r = allowed (is_originator a.setup.role || a.numbered)
-  where
-    chosen : (ns : List ℕ) → a.outgoing.chosen ≡ ns → AllSaid (Sends a.outgoing.high) (says_segment turn (next_among ns a.outgoing) a)
-    chosen ns e = grind (arith)
-
-    stopped : (b : Bool) → AllSaid (Sends a.outgoing.high) (says_segment turn (cond b None (next_among a.outgoing.chosen a.outgoing)) a)
-    stopped b = grind (arith)
-
-    allowed : (b : Bool) → AllSaid (Sends a.outgoing.high) (says_segment turn (cond b (next_number a.outgoing) None) a)
-    allowed b = grind (arith, stopped)
+segment turn a r = grind (arith)
 
 -- what changes nothing of them
 pub record Alike (a b : Account) : Type 0 where

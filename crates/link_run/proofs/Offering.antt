@@ -1,7 +1,7 @@
 -- Pieces are offered until none is wanted.
-use Rattle.std.proofs.Common.{◌≡◌, ℕ, zero, suc, ◌≤◌, List, [], ◌∷◌, arith, length-append, refl, sym, ◌∙◌, ap, Option, Some, None}
-use Rattle.link_account.proofs.Names.{Account, wants, piece_size, after_offer}
-use Rattle.link_run.proofs.Names.{OffersUntilNoneIsWanted, offered, offered_at, offered_times, piece_at, room_for}
+use Rattle.std.proofs.Common.{◌≡◌, ℕ, zero, suc, ◌≤◌, List, [], ◌∷◌, arith, length-append, refl, sym, ◌∙◌, Option, None}
+use Rattle.link_account.proofs.Names.{Account, wants, after_offer}
+use Rattle.link_run.proofs.Names.{OffersUntilNoneIsWanted, offered, offered_at, offered_times, room_for}
 use Rattle.link_run.proofs.Finishing.{offers-none, ended-wants}
 
 -- no room: none is wanted
@@ -12,8 +12,7 @@ full-wants a e = grind (arith)
 enough-after : (n : ℕ) (file : List ℕ) (a : Account) (piece : List ℕ)
     → ((b : Account) → room_for b ≤ n → wants (offered_times n file b) ≡ None) → room_for a ≤ suc n
     → wants (offered_times n file (after_offer piece a)) ≡ None
-enough-after n file a [] ih h = let none = ended-wants (after_offer [] a) refl in
-    ap wants (offers-none n file (after_offer [] a) none) ∙ none
+enough-after n file a [] ih h = grind (arith, ended-wants, offers-none)
 enough-after n file a (x ∷ xs) ih h = ih (after_offer (x ∷ xs) a) (omega (arith, h, length-append a.outgoing.pieces ((x ∷ xs) ∷ [])))
 
 enough : (n : ℕ) (file : List ℕ) (a : Account) → room_for a ≤ n → wants (offered_times n file a) ≡ None
@@ -32,15 +31,12 @@ surplus (suc n) (suc m) file a h k = go (wants a) refl (λ b. surplus n m file b
   where
     after : (piece : List ℕ) → ((b : Account) → room_for b ≤ n → room_for b ≤ m → offered_times n file b ≡ offered_times m file b)
         → offered_times n file (after_offer piece a) ≡ offered_times m file (after_offer piece a)
-    after [] ih = let none = ended-wants (after_offer [] a) refl in
-        offers-none n file (after_offer [] a) none ∙ sym (offers-none m file (after_offer [] a) none)
-    after (x ∷ xs) ih = ih (after_offer (x ∷ xs) a) (omega (arith, h, length-append a.outgoing.pieces ((x ∷ xs) ∷ [])))
-        (omega (arith, k, length-append a.outgoing.pieces ((x ∷ xs) ∷ [])))
+    after [] ih = grind (arith, ended-wants, offers-none)
+    after (x ∷ xs) ih = grind (arith, length-append)
 
     go : (w : Option ℕ) → wants a ≡ w → ((b : Account) → room_for b ≤ n → room_for b ≤ m → offered_times n file b ≡ offered_times m file b)
         → offered_times n file (offered_at file a w) ≡ offered_times m file (offered_at file a w)
-    go None e ih = offers-none n file a e ∙ sym (offers-none m file a e)
-    go (Some i) e ih = after (piece_at (piece_size a) file i) ih
+    go w e ih = grind (arith, offers-none, after)
 
 -- an offer makes no room
 offer-room : (piece : List ℕ) (a : Account) → room_for (after_offer piece a) ≤ room_for a

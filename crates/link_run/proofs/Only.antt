@@ -1,10 +1,10 @@
 -- What is heard determines a run.
-use Rattle.std.proofs.Common.{◌≡◌, ℕ, true, false, List, [], ◌∷◌, length, map, arith, refl, sym, ◌∙◌, ap, subst, Some, Result, Ok, Err}
-use Rattle.link_account.proofs.Names.{false≢true, Role, Originator, Answerer, Both, of, LinkFault, hear, Said}
+use Rattle.link_run.proofs.Names.{◌≡◌, ℕ, true, false, List, [], ◌∷◌, length, map, arith, refl, sym, ◌∙◌, ap, subst, Some, Result, Ok, Err}
+use Rattle.link_run.proofs.Names.{is_ok, false≢true, Role, Originator, Answerer, of, LinkFault, Said, is_closed, OneOutcome, OneRun}
+use Rattle.link_run.proofs.Names.{heard_in, Broken, Done, Going, Outcome, TurnIs, Accounts, GoingTurn, Hears, IsBroken, IsSilent, Link}
+use Rattle.link_run.proofs.Names.{Side, Turn, said_at, spoken}
+use Rattle.link_account.proofs.Names.{Both}
 use Rattle.link_run.proofs.Playing.{head-of}
-use Rattle.link_run.proofs.Names.{Accounts, Broken, Done, Going, GoingTurn, Hears, IsBroken, IsSilent, Link, OneOutcome, OneRun, Outcome}
-use Rattle.link_run.proofs.Names.{Side, Turn, TurnIs, arrival, heard_in, is_closed, said_at, spoken}
-use Rattle.std.specs.Prelude.{is_ok}
 
 abbrev ok-or : {A E : Type 0} → A → Result A E → A
 ok-or d (Ok x) = x
@@ -31,8 +31,7 @@ HearSame t u = (r : Role) → (of r t).heard ≡ (of r u).heard
 one-mid : (turn : ℕ) (before : Accounts) (t u : Turn) (mid others : Accounts) → Hears turn before t mid → Hears turn before u others
     → HearSame t u
     → mid ≡ others
-one-mid turn before t u mid others h k e =
-    same-both mid others (λ r. one-ok (h r).hears (ap (λ x. hear turn (arrival x) (of r before)) (e r) ∙ (k r).hears))
+one-mid turn before t u mid others h k e = grind (arith, same-both, one-ok)
 
 -- a turn by what was heard, the ends that have heard, and what was sent
 one-turn : (turn : ℕ) (before : Accounts) (t u : Turn) (mid others : Accounts) → Hears turn before t mid → Hears turn before u others
@@ -124,8 +123,7 @@ not-broken link turn t mid Answerer f h k = not-both (h.says Answerer) k.1
 
 same-outcome : (link : Link) (turn : ℕ) (t u : Turn) (mid : Accounts) (a b : Outcome) → Tells link turn t mid a → Tells link turn u mid b
     → SameOutcome t u a b
-same-outcome link turn t u mid Going Going h k =
-    (refl, λ r. h.sent_is r ∙ ap (λ s. Some (spoken s)) (one-ok (h.says r) (k.says r)) ∙ sym (k.sent_is r))
+same-outcome link turn t u mid Going Going h k = grind (arith, spoken, one-ok)
 same-outcome link turn t u mid Going Done h k = absurd (false≢true (sym h.going ∙ k.0))
 same-outcome link turn t u mid Going (Broken r f) h k = absurd (not-broken link turn t mid r f h k.1)
 same-outcome link turn t u mid Done Going h k = absurd (false≢true (sym k.going ∙ h.0))

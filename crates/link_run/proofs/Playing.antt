@@ -1,14 +1,14 @@
 -- Each run is a play: the events of each turn, one after another.
-use Rattle.std.proofs.Common.{◌≡◌, ℕ, zero, suc, ◌+◌, ◌-◌, ◌*◌, ◌<◌, ◌≤◌, ◌&&◌, Bool, true, false, cond, nat_le, List, [], ◌∷◌, ◌++◌}
-use Rattle.std.proofs.Common.{length, map, take, drop, arith, refl, ◌∙◌, ap, subst, Option, Some, None, Ok, slice_get}
-use Rattle.link_account.proofs.Names.{is_some, nat_tests, append_assoc, Check, Role, Originator, Answerer, Account, is_connected, wants}
-use Rattle.link_account.proofs.Names.{piece_size, after_break_asked, after_given, after_busy, hear, Slot, Play, arrives, Heard, Nothing}
-use Rattle.link_account.proofs.Names.{Passed, Lost, Chance, of}
-use Rattle.link_run.proofs.Names.{BreakLine, Crosses, Delivers, Event, Gives_break, Hears_nothing, Is_asked, Is_busy, Is_lost, Is_offered}
-use Rattle.link_run.proofs.Names.{Passes, Sixteen, Turn, User, after_delivery, arrival, asked, asked-event, asked_at, at, busy-event}
-use Rattle.link_run.proofs.Names.{delivered, delivers-event, gives-event, happens, hears-event, is_busy, loses-event, next_break, offered}
-use Rattle.link_run.proofs.Names.{offered-event, offered_at, offered_times, on_line, passes-event, piece_at, play, play-append, room_for}
-use Rattle.link_run.proofs.Names.{sent_ago, sent_in, served, told_by_play, told_by_turn}
+use Rattle.link_run.proofs.Names.{◌≡◌, ℕ, zero, suc, ◌+◌, ◌-◌, ◌*◌, ◌<◌, ◌≤◌, ◌&&◌, Bool, true, false, cond, nat_le, List, [], ◌∷◌, ◌++◌}
+use Rattle.link_run.proofs.Names.{length, map, take, drop, arith, refl, ◌∙◌, ap, subst, Option, Some, None, Ok, slice_get, Sixteen}
+use Rattle.link_run.proofs.Names.{asked-event, at, busy-event, delivers-event, gives-event, hears-event, loses-event, offered-event}
+use Rattle.link_run.proofs.Names.{passes-event, play-append, is_some, nat_tests, append_assoc, Check, Role, Originator, Answerer, Account}
+use Rattle.link_run.proofs.Names.{is_connected, wants, piece_size, after_given, after_busy, hear, Slot, Play, arrives, Heard, Nothing}
+use Rattle.link_run.proofs.Names.{Passed, Lost, Chance, of, after_delivery, Delivers, Event, Gives_break, Hears_nothing, Is_asked, Is_busy}
+use Rattle.link_run.proofs.Names.{Is_lost, Is_offered, Passes, happens, play, Crosses, on_line, sent_ago, sent_in, BreakLine, User, asked}
+use Rattle.link_run.proofs.Names.{asked_at, delivered, is_busy, next_break, offered, offered_at, offered_times, piece_at, room_for, served}
+use Rattle.link_run.proofs.Names.{told_by_play, told_by_turn, Turn, arrival}
+use Rattle.link_account.proofs.Names.{after_break_asked}
 use Rattle.link_run.proofs.Serving.{Waiting}
 use Rattle.lapm_frames.specs.declared.arrived.Arrived.TheVariants as arrivals
 use Rattle.link_run.specs.Run as run
@@ -59,15 +59,7 @@ pub record Came (role : Role) (x b : Account) (lx ly : List Slot) (y : Account) 
   pub left_is : told_by_play line ≡ map told_by_turn left
 
 pub head-of : {X : Type 0} (x y : X) (xs ys : List X) → x ∷ xs ≡ y ∷ ys → (x ≡ y) × (xs ≡ ys)
-head-of {X} x y xs ys e = (ap (first x) e, ap rest e)
-  where
-    first : X → List X → X
-    first z [] = z
-    first z (w ∷ ws) = w
-
-    rest : List X → List X
-    rest [] = []
-    rest (w ∷ ws) = ws
+head-of {X} x y xs ys e = grind (arith)
 
 pub none-is-some : {X : Type 0} (x : X) (xs : List X) → [] ≡ x ∷ xs → ⊥
 none-is-some x xs e = omega (arith, ap length e)

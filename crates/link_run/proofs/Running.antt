@@ -1,9 +1,9 @@
 -- Each run over a line is a play.
-use Rattle.std.proofs.Common.{arith, ◌≡◌, ℕ, Bool, false, ◌-◌, List, [], ◌∷◌, ◌++◌, length, map, refl, sym, ap, subst, Option, Some, Ok}
-use Rattle.link_account.proofs.Names.{Role, Originator, Answerer, of, ReadsAllowed, KeepsTaken, fresh, Slot, Play, Said}
-use Rattle.link_run.proofs.Names.{Accounts, Carries, GoingTurn, HasDelays, HearingsArePlays, Hears, IsCarried, IsPlayed, Link, RunOf}
-use Rattle.link_run.proofs.Names.{RunsArePlays, Turn, arrival, at, is_released, on_line, releases, said_at, served_at, slot_of}
-use Rattle.link_run.proofs.Names.{speaks-event, told_by_play, told_by_turn}
+use Rattle.link_run.proofs.Names.{arith, ◌≡◌, ℕ, Bool, false, ◌-◌, List, [], ◌∷◌, ◌++◌, length, map, refl, sym, ap, subst, Option, Some, Ok}
+use Rattle.link_run.proofs.Names.{at, slot_of, speaks-event, Role, Originator, Answerer, of, ReadsAllowed, KeepsTaken, fresh, Slot, Play}
+use Rattle.link_run.proofs.Names.{Said, Carries, HasDelays, IsCarried, on_line, is_released, HearingsArePlays, IsPlayed, RunsArePlays}
+use Rattle.link_run.proofs.Names.{told_by_play, told_by_turn, Accounts, GoingTurn, Hears, Link, RunOf, Turn, arrival, releases, said_at}
+use Rattle.link_run.proofs.Names.{served_at}
 use Rattle.link_account.specs.Play.{Speaks, start}
 use Rattle.link_run.proofs.Keeping.{hears}
 use Rattle.link_run.proofs.Speaking.{speaks}
@@ -151,8 +151,7 @@ played-at : (link : Link) (ends : Accounts) (line : Role → List (Option run.Sp
 played-at link ends line p = grind (arith)
 
 pub runs_are_plays : ReadsAllowed → KeepsTaken → RunsArePlays
-runs_are_plays reads keeps link delay ts ends some c h =
-    played-at link ends (lines delay ts) (run-reaches reads keeps link delay ts ends some c h)
+runs_are_plays reads keeps link delay ts ends some c h = grind (arith, played-at, run-reaches)
 
 pub hearings_are_plays : ReadsAllowed → KeepsTaken → HearingsArePlays
 hearings_are_plays reads keeps link delay ts ends turn t mid some c h n k =

@@ -1,8 +1,8 @@
 -- Who says a UA, a DISC and a frame with numbers, and in which phase.
-use Rattle.std.proofs.Common.{◌≡◌, ℕ, ◌≤◌, ◌||◌, Bool, true, false, cond, List, arith, refl, sym, ◌∙◌, ap, Option, Some, None, Ok}
-use Rattle.link_account.proofs.Names.{false≢true, Frame, Disc, Incoming, Account, Said, says, frame_for, ready_frame, nr_of, speak, trying}
-use Rattle.link_account.proofs.Names.{is_originator}
-use Rattle.link_run.proofs.Names.{Answer, Connected, Held, Phase, Releasing, Tries, Ways, after_asked, by-ways, linked-alike, tries-alike}
+use Rattle.link_run.proofs.Names.{◌≡◌, ℕ, ◌≤◌, ◌||◌, Bool, true, false, cond, List, arith, refl, sym, ◌∙◌, ap, Option, Some, None, Ok, Held}
+use Rattle.link_run.proofs.Names.{after_asked, false≢true, Frame, Disc, Incoming, Account, Said, frame_for, ready_frame, speak, trying}
+use Rattle.link_run.proofs.Names.{is_originator, Tries, Ways, by-ways, linked-alike, tries-alike, Answer, Phase, Connected, Releasing}
+use Rattle.link_account.proofs.Names.{says, nr_of}
 use Rattle.link_account.specs.Speak.{says_frame}
 use Rattle.link_run.proofs.Keeping.{stage}
 use Rattle.link_run.proofs.Meeting.{is_ua, is_disc, is_segment, is_counted, carries, owes_ua}
@@ -64,8 +64,7 @@ same-part a t h s p q r = rw (p, q, r) refl
 
 -- REJ or SREJ goes
 asked : (a : Account) (n : ℕ) → part (record a { incoming = after_asked n a.incoming }) ≡ part a
-asked a n = let h = asked-part n a.incoming in
-    same-part a (after_asked n a.incoming).taken (after_asked n a.incoming).held (after_asked n a.incoming).srej h.0 h.1 h.2
+asked a n = grind (arith, asked-part, same-part)
 
 -- what is said and is neither counted nor UA, I or DISC
 plain : (a : Account) (said : Said) → carries is_ua said.sent ≡ false → carries is_segment said.sent ≡ false → carries is_disc said.sent
@@ -113,8 +112,7 @@ ways turn release a = record {
   where
     ready : a.phase ≡ Connected → (command pf : Bool) (b : Account) → part b ≡ part a → b.owes.answer ≡ a.owes.answer
         → Says a.phase a (says_frame (ready_frame a.owes.busy command (nr_of a) pf) b)
-    ready p command pf b same o =
-        let k = ready-is a.owes.busy command pf (nr_of a) in other a.phase a _ k.0 k.1 k.2 (λ z. ap stage p) (ap owes_ua o) same
+    ready p command pf b same o = grind (arith, ready-is, nr_of, other, owes_ua)
 
 pub is-said : (turn : ℕ) (release : Bool) (a : Account) (said : Said) → speak turn release a ≡ Ok said → Says a.phase a said
 is-said turn release a said e = by-ways _ turn release a (ways turn release a) said e

@@ -1,8 +1,8 @@
 -- What an end has handed to its user, between turns and once it has heard.
-use Rattle.std.proofs.Common.{◌≡◌, ◌≢◌, inl, inr, ℕ, zero, suc, ◌+◌, ◌≤◌, Bool, List, length, arith, length-append, refl, ◌∙◌, ap, Option}
-use Rattle.link_account.proofs.Names.{Account, wants, after_given, after_busy}
-use Rattle.link_run.proofs.Names.{BreakLine, User, asked, delivered, is_busy, offered, offered_at, offered_times, served}
-use Rattle.link_run.proofs.Keeping.{Books, stage, GoesOn}
+use Rattle.link_run.proofs.Names.{◌≡◌, ◌≢◌, ℕ, zero, suc, ◌+◌, ◌≤◌, Bool, List, length, arith, length-append, refl, ◌∙◌, Option, Account}
+use Rattle.link_run.proofs.Names.{wants, after_given, after_busy, BreakLine, User, asked, delivered, is_busy, offered, offered_at}
+use Rattle.link_run.proofs.Names.{offered_times, served}
+use Rattle.link_run.proofs.Keeping.{stage, GoesOn}
 use Rattle.link_run.proofs.Speaking.{Speaks}
 
 -- all was handed over
@@ -18,48 +18,7 @@ pub record Waiting (a : Account) : Type 0 where
   pub idle : stage a.phase ≢ 1 → Handed a
 
 pub heard-waits : (a b : Account) → Handed a → GoesOn a b → Waiting b
-heard-waits a b h (inl s) = record {
-  given = omega (arith, h.given, ap (λ (k : Books). k.given) s.books_are, ap length s.taken_are, length-append a.incoming.taken s.taken);
-  told = omega (
-    arith,
-    h.told,
-    ap (λ (k : Books). k.told) s.books_are,
-    ap length s.theirs_are,
-    length-append a.their_breaks.lengths s.theirs,
-  );
-  few = omega (
-    arith,
-    h.told,
-    s.few,
-    ap (λ (k : Books). k.told) s.books_are,
-    ap length s.theirs_are,
-    length-append a.their_breaks.lengths s.theirs,
-  );
-  idle = λ z. let n = s.idle z in record {
-    given = omega (
-      arith,
-      h.given,
-      ap (λ (k : Books). k.given) s.books_are,
-      ap length s.taken_are,
-      length-append a.incoming.taken s.taken,
-      ap length n.0,
-    );
-    told = omega (
-      arith,
-      h.told,
-      ap (λ (k : Books). k.told) s.books_are,
-      ap length s.theirs_are,
-      length-append a.their_breaks.lengths s.theirs,
-      ap length n.1,
-    );
-  };
-}
-heard-waits a b h (inr e) = record {
-  given = omega (arith, ap (λ i. i.given) e.incoming_is);
-  told = omega (arith, h.told, e.told, ap (λ t. length t.lengths) e.their);
-  few = omega (arith, h.told, e.told, ap (λ t. length t.lengths) e.their);
-  idle = λ z. absurd (z (ap stage e.is));
-}
+heard-waits a b h given = grind (arith, length-append)
 
 -- serving
 pub offers-alone : (n : ℕ) (file : List ℕ) (a : Account)

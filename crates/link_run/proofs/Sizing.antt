@@ -1,12 +1,10 @@
 -- Segments have at most the agreed length, and that is at most what their sender offers.
-use Rattle.std.proofs.Common.{◌≡◌, ◌≤◌, max, ℕ, zero, suc, ◌*◌, Bool, false, cond, List, [], ◌∷◌, ◌++◌, length, drop, arith, refl, sym, ◌∙◌}
-use Rattle.std.proofs.Common.{ap, subst, Option, Some, None, Ok}
-use Rattle.link_account.proofs.Names.{Role, Originator, Answerer, of, ReadsAllowed, ReadsWritten, Outgoing, with_piece, KeepsTaken, Account}
-use Rattle.link_account.proofs.Names.{is_connected, wants, piece_size, after_given, after_busy, Said, MayPlay}
-use Rattle.link_run.proofs.Names.{Accounts, Carries, Connected, Hears, IsCarried, Link, RunOf, SendsShort, Turn, User, arrival, delivered}
-use Rattle.link_run.proofs.Names.{is_busy, is_released, offered, offered_at, offered_times, piece_at, releases, room_for, said_at, served}
-use Rattle.link_run.proofs.Names.{served_at, size_for, start}
-use Rattle.std.proofs.lemmas.List.{length-take}
+use Rattle.link_run.proofs.Names.{◌≡◌, ◌≤◌, max, ℕ, zero, suc, Bool, false, cond, List, [], ◌∷◌, ◌++◌, length, arith, refl, ◌∙◌, ap, subst}
+use Rattle.link_run.proofs.Names.{Option, Ok, length-take, Role, Originator, Answerer, of, ReadsAllowed, ReadsWritten, Outgoing, with_piece}
+use Rattle.link_run.proofs.Names.{KeepsTaken, Account, is_connected, wants, piece_size, after_given, after_busy, Said, MayPlay, size_for}
+use Rattle.link_run.proofs.Names.{Connected, Carries, IsCarried, User, delivered, is_busy, is_released, offered, offered_at, offered_times}
+use Rattle.link_run.proofs.Names.{room_for, served, SendsShort, Accounts, Hears, Link, RunOf, Turn, arrival, releases, said_at, served_at}
+use Rattle.link_run.proofs.Names.{start}
 use Rattle.link_run.proofs.Keeping.{GoesOn, hears}
 use Rattle.link_run.proofs.Speaking.{Speaks}
 use Rattle.link_run.proofs.Serving.{asks-alone, busy-alone}
@@ -35,10 +33,7 @@ size-piece : (a : Account) → piece_size a ≤ a.outgoing.size
 size-piece a = grind (arith)
 
 fit-offered-at : (file : List ℕ) (a : Account) (w : Option ℕ) → Fit a → Fit (offered_at file a w)
-fit-offered-at file a None h = h
-fit-offered-at file a (Some n) h =
-    let p = piece_at (piece_size a) file n in
-    record { each = fit-piece p a.outgoing h.each (omega (arith, length-take (piece_size a) (drop (piece_size a * n) file), size-piece a)) }
+fit-offered-at file a w h = grind (arith, fit-piece, length-take, size-piece)
 
 fit-offered : (n : ℕ) (file : List ℕ) (a : Account) → Fit a → Fit (offered_times n file a)
 fit-offered zero file a h = h
@@ -127,10 +122,7 @@ sized-mid reads keeps written link delay ts before t mid m cs h c k s role = at-
 sized-run : (reads : ReadsAllowed) (keeps : KeepsTaken) (written : ReadsWritten) (link : Link) (delay : Role → ℕ)
     → MayPlay link.orig.setup link.answ.setup → (ts : List Turn) (ends : Accounts) → IsCarried delay ts → RunOf link ts ends → (r : Role)
     → Sized (most_of link r) (of r ends)
-sized-run reads keeps written link delay m [] ends c h r = subst (λ (e : Accounts). Sized (most_of link r) (of r e)) (sym h) (starts r)
-  where
-    starts : (r : Role) → Sized (most_of link r) (of r (start link))
-    starts r = grind (arith)
+sized-run reads keeps written link delay m [] ends c h r = grind (arith, start)
 sized-run reads keeps written link delay m (t ∷ ts) ends c h r =
     let g = h.2 in
     let turn = length ts in

@@ -1,8 +1,7 @@
 -- What an end keeps as it speaks.
-use Rattle.std.proofs.Common.{◌⊎◌, ◌≡◌, ℕ, Bool, true, ◌&&◌, List, arith, ◌≤◌, refl, Some, Ok, Err}
-use Rattle.link_account.proofs.Names.{Role, Originator, Frame, Terms, Incoming, LinkFault, Account, trying, Said, speak, is_originator}
-use Rattle.link_run.proofs.Names.{Connected, Phase, Releasing, Tries, WantsAnswers, Ways, after_asked, by-ways, linked-alike, next-keeps}
-use Rattle.link_run.proofs.Names.{tries-alike, why-broken}
+use Rattle.link_run.proofs.Names.{◌⊎◌, ◌≡◌, ℕ, Bool, true, ◌&&◌, List, arith, ◌≤◌, refl, Some, Ok, Err, after_asked, Role, Originator}
+use Rattle.link_run.proofs.Names.{Frame, Terms, Incoming, LinkFault, Account, trying, Said, speak, is_originator, Tries, Ways, by-ways}
+use Rattle.link_run.proofs.Names.{linked-alike, next-keeps, tries-alike, why-broken, WantsAnswers, Phase, Connected, Releasing}
 use Rattle.link_run.proofs.Keeping.{Books, books, stage, standing}
 
 -- what speaking doesn't change

@@ -1,6 +1,6 @@
 -- Sums of a batch to which lines add their parts, one by one.
-use Rattle.noise_script.proofs.Names.{◌≡◌, ◌∙◌, ℕ, ◌+◌, ◌-◌, ◌<◌, ◌≤◌, ◌&&◌, inl, inr, Bool, true, false, if◌then◌else◌, List, length, take}
-use Rattle.noise_script.proofs.Names.{map, get_or, refl, sym, ap, subst, arith, length-set, cases_lt, nat_tests, ints, at_place, Grow}
+use Rattle.noise_script.proofs.Names.{◌≡◌, ◌∙◌, ℕ, ◌+◌, ◌-◌, ◌<◌, ◌≤◌, ◌&&◌, Bool, true, false, if◌then◌else◌, List, length, take}
+use Rattle.noise_script.proofs.Names.{map, get_or, refl, sym, ap, subst, arith, length-set, nat_tests, ints, at_place, Grow}
 use Rattle.noise_script.proofs.Names.{AreWithin, plus, sum_of, nothing, IsWithin, IsQuiet, covers, hit_offset, noise_offset, drawn_offset}
 use Rattle.noise_script.proofs.Names.{word_at, stream_of, Hit, Noise, Offset, same_role, Role}
 use Rattle.std.proofs.Common.{min}
@@ -25,26 +25,11 @@ not-at-set sums n place value apart = grind (arith, common_steps)
 
 pub nothing-at : (sums : List Offset) (end : ℕ) → end < length sums → ((place : ℕ) → place < end → at_place sums place ≡ nothing)
     → (place : ℕ) → place < end + 1 → at_place (set sums end nothing) place ≡ nothing
-nothing-at sums end low below place under = elim (cases_lt place end) [
-  | inl less ↦ not-at-set sums end place nothing (λ e. omega (arith, e, less)) ∙ below place less
-  | inr more ↦
-      let here : place ≡ end = omega (arith, more, under) in
-      subst (λ n. at_place (set sums end nothing) n ≡ nothing) (sym here) (at-set sums end nothing low)
-]
+nothing-at sums end low below place under = grind (arith, not-at-set, nothing, set, at-set)
 
 grown-more : (by : ℕ → Offset) (end : ℕ) (old new : List Offset) (value : Offset) → GrowUpTo by end old new → end < length old
     → value ≡ plus (at_place new end) (by end) → GrowUpTo by (end + 1) old (set new end value)
-grown-more by end old new value g low sum = record {
-  long = length-set new end value ∙ g.long;
-  below = λ place within under. elim (cases_lt place end) [
-    | inl less ↦ not-at-set new end place value (λ e. omega (arith, e, less)) ∙ g.below place within less
-    | inr more ↦
-        let here : place ≡ end = omega (arith, more, under) in
-        subst (λ n. at_place (set new end value) n ≡ plus (at_place old n) (by n)) (sym here)
-        (at-set new end value (omega (arith, low, g.long)) ∙ sum ∙ ap (λ a. plus a (by end)) (g.above end (omega arith)))
-  ];
-  above = λ place high. not-at-set new end place value (λ e. omega (arith, e, high)) ∙ g.above place (omega (arith, high));
-}
+grown-more by end old new value g low sum = grind (arith, length-set, not-at-set, set, plus, at-set)
 
 -- the places that a line covers
 uncovered-before : (from count start len place : ℕ) → place < min (from - start) len → covers from count (start + place) ≡ false
@@ -74,19 +59,11 @@ module _ (own : Bool) (from count start : ℕ) (x : ℕ → Offset) (old : List 
 
   -- nothing where it says of another role
   pub apart : own ≡ false → Grow part old old
-  apart o = record {
-    long = refl;
-    each = λ place within. sym (ap (plus (at_place old place)) (other _ _ _ o) ∙ nothing-more _);
-  }
+  apart o = grind (arith, plus, other, nothing-more)
 
   -- nor before its first place
   pub begins : (begin : ℕ) → begin ≡ min (from - start) (length old) → GrowUpTo part begin old old
-  begins begin is = record {
-    long = refl;
-    below = λ place within low. sym (ap (plus (at_place old place))
-        (neither _ _ _ (uncovered-before _ _ _ _ _ (subst (λ n. place < n) is low))) ∙ nothing-more _);
-    above = λ place high. refl;
-  }
+  begins begin is = grind (arith, plus, neither, uncovered-before, nothing-more)
 
   pub goes-on : (begin end place : ℕ) (new : List Offset) (value offset : Offset) → begin ≡ min (from - start) (length old)
       → end ≡ min (from + count - start) (length old) → own ≡ true → begin ≤ place → place < end → GrowUpTo part place old new
@@ -98,14 +75,7 @@ module _ (own : Bool) (from count start : ℕ) (x : ℕ → Offset) (old : List 
   -- nor behind its last
   pub ends : (end place : ℕ) (new : List Offset) → end ≡ min (from + count - start) (length old) → end ≤ place → GrowUpTo part place old new
       → Grow part old new
-  ends end place new is past g = record {
-    long = g.long;
-    each = λ k within. elim (cases_lt k place) [
-      | inl low ↦ g.below k within low
-      | inr high ↦ g.above k high ∙ sym (ap (plus (at_place old k))
-          (neither _ _ _ (uncovered-behind _ _ _ _ _ within (omega (arith, is, past, high)))) ∙ nothing-more _)
-    ];
-  }
+  ends end place new is past g = grind (arith, plus, neither, uncovered-behind, nothing-more)
 
 -- one line more
 pub no-line : {X : Type 0} (by : ℕ → X → Offset) (lines : List X) (sums : List Offset)
@@ -142,13 +112,7 @@ far-more a b c by old new w g small most = record {
 }
 
 within-if : (b : Bool) (m : ℕ) (x : Offset) → IsWithin m x → IsWithin m (if b then x else nothing)
-within-if true m x h = h
-within-if false m x h = record {
-  re_low = omega (arith, ints);
-  re_high = omega (arith, ints);
-  im_low = omega (arith, ints);
-  im_high = omega (arith, ints);
-}
+within-if b m x h = grind (arith)
 
 pub hit-small : (hit : Hit) (offset : Offset) (sender : Role) → IsWithin 32768 offset → offset.re ≡ hit.re → offset.im ≡ hit.im
     → (symbol : ℕ) → IsWithin 32768 (hit_offset sender symbol hit)
@@ -159,12 +123,7 @@ noise-small noise sender quiet symbol =
     within-if _ 32767 _ (drawn-small noise.amplitude (word_at noise.seed (stream_of noise.role) (symbol - noise.from)) quiet)
   where
     drawn-small : (amplitude word : ℕ) → amplitude ≤ 32767 → IsWithin 32767 (drawn_offset amplitude word)
-    drawn-small amplitude word few = record {
-      re_low = omega (arith, ints);
-      re_high = omega (arith, ints);
-      im_low = omega (arith, ints);
-      im_high = omega (arith, ints);
-    }
+    drawn-small amplitude word few = grind (arith)
 
 -- what was drawn is what the line says of the symbol
 pub same-drawn : (noise : Noise) (sender role : Role) (seed place symbol word : ℕ) (offset : Offset) → same_role noise.role sender ≡ true

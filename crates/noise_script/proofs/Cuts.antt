@@ -1,5 +1,5 @@
 -- Where a text's first line and a line's first word end.
-use Rattle.std.proofs.Common.{◌≡◌, ◌≢◌, ℕ, zero, suc, ◌+◌, ◌<◌, ◌≤◌, Bool, true, false, not, ◌&&◌, cond, eqb, List, [], ◌∷◌, ◌++◌, length}
+use Rattle.std.proofs.Common.{◌≡◌, ◌≢◌, ℕ, suc, ◌+◌, ◌<◌, ◌≤◌, Bool, true, false, not, ◌&&◌, cond, eqb, List, [], ◌∷◌, ◌++◌, length}
 use Rattle.std.proofs.Common.{take, drop, get_or, refl, sym, ap, subst, ◌∙◌, arith, add-one, drop-cons, append-nil, ◌-◌, length-drop}
 use Rattle.std.proofs.Common.{take-append-drop}
 use Rattle.std.proofs.lemmas.Bool.{and_parts, not-true, false≢true, ne_eqb}
@@ -38,8 +38,7 @@ line-cut (x ∷ y ∷ front) rest h =
     let x_not : eqb x 10 ≡ false = not-true _ (and_parts _ _ h).0 in
     let y_not : eqb y 10 ≡ false = not-true _ (and_parts _ _ (and_parts _ _ h).1).0 in
     let later : lines_of (y ∷ front ++ 10 ∷ rest) ≡ without_return (y ∷ front) ∷ lines_of rest =
-    line-cut (y ∷ front) rest (and_parts _ _ h).1 in
-    line-goes-on x y (front ++ 10 ∷ rest) x_not y_not ∙ ap (onto_first x) later
+    line-cut (y ∷ front) rest (and_parts _ _ h).1 in grind (arith, line-goes-on)
 
 pub line-last : (text : List ℕ) → text ≢ [] → list_all is_no_feed text ≡ true → lines_of text ≡ text ∷ []
 line-last [] n h = absurd (n refl)
@@ -90,13 +89,10 @@ pub word-cut-at : (line : List ℕ) (i : ℕ) (front back : List ℕ) → is_in_
 word-cut-at line i front back w h a b f r =
     let some = word-some line w in
     let apart : i ≢ 0 = λ e. false≢true (sym some.1 ∙ ap (λ k. is_blank (get_or line k 0)) (sym e) ∙ b) in
-    let whole : take i line ++ drop i line ≡ line = take-append-drop i line in
-    ap words_of (sym whole) ∙ rw (f, r) (word-cut (take i line) (drop i line) (taken line i apart h) a (word-ends line i h b))
+    let whole : take i line ++ drop i line ≡ line = take-append-drop i line in grind (arith, word-cut, taken, word-ends)
   where
     taken : (xs : List ℕ) (i : ℕ) → i ≢ 0 → i < length xs → take i xs ≢ []
-    taken [] i n h e = omega (arith, h)
-    taken (x ∷ xs) zero n h e = n refl
-    taken (x ∷ xs) (suc i) n h e = cc
+    taken xs i n h e = grind (arith)
 
 pub word-whole : (line : List ℕ) (i : ℕ) → is_in_word line ≡ true → length line ≤ i → list_all is_no_blank (take i line) ≡ true
     → words_of line ≡ line ∷ []
@@ -120,8 +116,7 @@ pub line-cut-at : (text : List ℕ) (i : ℕ) (line : List ℕ) → i < length t
     → get_or text i 0 ≡ 10 → line ≡ without_return (take i text)
     → lines_of text ≡ line ∷ lines_of (take (length text - (i + 1)) (drop (i + 1) text))
 line-cut-at text i line h a e l =
-    let whole : take i text ++ get_or text i 0 ∷ drop (suc i) text ≡ text =
-    ap (λ xs. take i text ++ xs) (sym (drop-cons text i 0 h)) ∙ take-append-drop i text in
+    let whole : take i text ++ get_or text i 0 ∷ drop (suc i) text ≡ text = grind (arith, drop-cons, take-append-drop) in
     let rest : take (length text - (i + 1)) (drop (i + 1) text) ≡ drop (i + 1) text =
     take_all _ _ (omega (arith, length-drop (i + 1) text)) in
     rw (rest, l) (ap lines_of (sym whole) ∙ rw (e, add-one i) (line-cut (take i text) (drop (suc i) text) a))

@@ -18,12 +18,7 @@ pub both : (a b : Bool) → a ≡ true → b ≡ true → (a && b) ≡ true
 both a b e f = rw (e, f) refl
 
 tells : IsDigitsTest AllDigits
-tells = record {
-  empty = refl;
-  parts = λ c cs e. let p = and_parts (is_digit c) (list_all is_digit cs) e in let q = and_parts (nat_le 48 c) (nat_le c 57) p.0 in
-      ((at-most 48 c q.0, at-most c 57 q.1), p.1);
-  more = λ c cs k e. both (is_digit c) (list_all is_digit cs) (both (nat_le 48 c) (nat_le c 57) (is-most 48 c k.0) (is-most c 57 k.1)) e;
-}
+tells = grind (arith, at-most, both, is-most)
 
 pub numerals : IsNumeralModel AllDigits value_of
 numerals = numerals_by_weight AllDigits tells value_of (record { empty = refl; more = λ c cs k. refl })

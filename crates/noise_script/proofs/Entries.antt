@@ -1,9 +1,9 @@
 -- What lines say, one line more at a time.
 use Rattle.noise_script.proofs.Names.{◌≡◌, ℕ, ◌+◌, ◌<◌, ◌≤◌, Bool, true, false, ◌||◌, cond, List, [], ◌∷◌, ◌++◌, length, filter_map, Option}
-use Rattle.noise_script.proofs.Names.{Some, None, refl, sym, ap, subst, ◌∙◌, arith, append-nil, and_parts, cons_option, placed, placed_each}
+use Rattle.noise_script.proofs.Names.{Some, None, refl, sym, ap, ◌∙◌, arith, append-nil, and_parts, cons_option, placed, placed_each}
 use Rattle.noise_script.proofs.Names.{in_order, Holds, Kind, row, kind_of, most, same_kind, standing, AreAllowed, whole, each, first}
 use Rattle.noise_script.proofs.Names.{delays_said, tries_said, window_said, length_said, loss_said, hit_said, noise_said, break_said}
-use Rattle.noise_script.proofs.Names.{pause_said, breaks_in, offered_in, Draft, Break, Entry, Form, Offered, same_role, Role, Originator}
+use Rattle.noise_script.proofs.Names.{pause_said, breaks_in, offered_in, Draft, Break, Entry, Form, Offered, Role, Originator}
 use Rattle.noise_script.proofs.Names.{Answerer}
 use Rattle.std.proofs.Common.{is_some}
 use Rattle.std.proofs.lemmas.List.Elements.{filter_map-append}
@@ -19,12 +19,6 @@ same_form-is a b e = grind (arith)
 
 same_form-self : (a : Form) → same_form a a ≡ true
 same_form-self q0 = grind (arith)
-
-same_role-is : (a b : Role) → same_role a b ≡ true → a ≡ b
-same_role-is a b e = grind (arith)
-
-same_role-self : (a : Role) → same_role a a ≡ true
-same_role-self q0 = grind (arith)
 
 same_counted-is : (a b : Option Role) → same_counted a b ≡ true → a ≡ b
 same_counted-is q0 q1 e = grind (arith)
@@ -52,18 +46,14 @@ standing-one : (kind : Kind) (entry : Entry) → standing kind (entry ∷ []) �
 standing-one kind entry = let none : standing kind [] ≡ 0 = refl in omega (arith, standing-cons kind entry [], none)
 
 pub allowed-none : AreAllowed []
-allowed-none kind = omega (arith, none kind)
-  where
-    none : (kind : Kind) → standing kind [] ≡ 0
-    none kind = refl
+allowed-none kind = grind (arith)
 
 -- one line more, where its kind isn't full
 pub allowed-more : (said : List Entry) (entry : Entry) → AreAllowed said
     → standing (kind_of entry) said < most (row (kind_of entry).form).bound → AreAllowed (said ++ entry ∷ [])
 allowed-more said entry a h kind =
     let sum = standing-append kind said (entry ∷ []) in
-    let one = standing-one kind entry in
-    by-cases (same_kind kind (kind_of entry)) refl sum one
+    let one = standing-one kind entry in grind (arith, by-cases, same_kind)
   where
     by-cases : (b : Bool) → same_kind kind (kind_of entry) ≡ b
         → standing kind (said ++ entry ∷ []) ≡ standing kind said + standing kind (entry ∷ [])
@@ -71,14 +61,9 @@ allowed-more said entry a h kind =
         → standing kind (said ++ entry ∷ []) ≤ most (row kind.form).bound
     by-cases true e sum one =
         let same : kind ≡ kind_of entry = same_kind-is kind (kind_of entry) e in
-        let here : standing kind said < most (row kind.form).bound =
-        subst (λ (k : Kind). standing k said < most (row k.form).bound) (sym same) h in
-        let counted : standing kind (entry ∷ []) ≡ 1 = one ∙ ap (λ b. cond b 1 0) e in
-        omega (arith, here, sum, counted)
-    by-cases false e sum one =
-        let counted : standing kind (entry ∷ []) ≡ 0 = one ∙ ap (λ b. cond b 1 0) e in
-        let before : standing kind said ≤ most (row kind.form).bound = a kind in
-        omega (arith, before, sum, counted)
+        let here : standing kind said < most (row kind.form).bound = grind (arith) in
+        let counted : standing kind (entry ∷ []) ≡ 1 = one ∙ ap (λ b. cond b 1 0) e in grind (arith, counted)
+    by-cases false e sum one = grind (arith)
 
 -- lines that say one thing more than is allowed
 pub allowed-full : (said : List Entry) (entry : Entry) (more : List Entry) → AreAllowed (said ++ entry ∷ more)
@@ -115,10 +100,6 @@ counts-break _ = grind (arith)
 pub counts-busy : Counts (whole forms.Busy) pause_said
 counts-busy _ = grind (arith)
 
-pub one-said : {X : Type 0} (b : Bool) (x : X) → length (cons_option (cond b (Some x) None) []) ≡ cond b 1 0
-one-said true x = refl
-one-said false x = refl
-
 pub counts-window : (role : Role) → Counts (each forms.Window role) (window_said role)
 counts-window role _ = grind (arith)
 
@@ -136,8 +117,7 @@ standing-said kind say counts (entry ∷ said) =
     let later = standing-said kind say counts said in
     let one = counts entry in
     let sum = length-said (say entry) (filter_map say said) in
-    let here = standing-cons kind entry said in
-    omega (arith, later, one, sum, here)
+    let here = standing-cons kind entry said in grind (arith)
 
 abbrev pub number_of : Bool → ℕ
 number_of b = cond b 1 0
@@ -147,15 +127,12 @@ byte q0 = grind (arith)
 
 -- a line of a kind that may stand once
 first-length : {X : Type 0} (xs : List X) → length xs ≤ 1 → length xs ≡ cond (is_some (first xs)) 1 0
-first-length [] h = refl
-first-length (x ∷ []) h = refl
-first-length (x ∷ y ∷ xs) h = absurd (omega (arith, h))
+first-length xs h = grind (arith)
 
 pub standing-once : {X : Type 0} (kind : Kind) (say : Entry → Option X) → Counts kind say → (said : List Entry) → standing kind said ≤ 1
     → standing kind said ≡ cond (is_some (first (filter_map say said))) 1 0
 standing-once kind say counts said h =
-    let e = standing-said kind say counts said in
-    e ∙ first-length (filter_map say said) (omega (arith, e, h))
+    let e = standing-said kind say counts said in grind (arith, first-length)
 
 pub standing-flag : (kind : Kind) (said : List Entry) → standing kind said ≤ 1 → standing kind said ≡ cond (stands kind said) 1 0
 standing-flag kind [] h = refl
@@ -163,24 +140,15 @@ standing-flag kind (entry ∷ said) h = by (same_kind kind (kind_of entry)) refl
   where
     by : (b : Bool) → same_kind kind (kind_of entry) ≡ b → (standing kind said ≤ 1 → standing kind said ≡ cond (stands kind said) 1 0)
         → standing kind (entry ∷ said) ≡ cond (stands kind (entry ∷ said)) 1 0
-    by true e later =
-        let here : standing kind (entry ∷ said) ≡ 1 + standing kind said = ap (λ b. cond b 1 0 + standing kind said) e in
-        let flag : number_of (stands kind (entry ∷ said)) ≡ 1 = ap (λ b. number_of (b || stands kind said)) e in
-        omega (arith, h, here, flag)
-    by false e later =
-        let here : standing kind (entry ∷ said) ≡ 0 + standing kind said = ap (λ b. cond b 1 0 + standing kind said) e in
-        let flag : number_of (stands kind (entry ∷ said)) ≡ number_of (stands kind said) = ap (λ b. number_of (b || stands kind said)) e in
-        let rest = later (omega (arith, h, here)) in
-        omega (arith, here, flag, rest)
+    by true e later = grind (arith, stands)
+    by false e later = grind (arith, stands)
 
 -- what a draft shows of a kind that may stand once
 pub counted-once : {X : Type 0} (kind : Kind) (say : Entry → Option X) → Counts kind say → most (row kind.form).bound ≡ 1
     → (said : List Entry) → AreAllowed said → (entry : Entry) → kind_of entry ≡ kind → (held : Option X)
     → held ≡ first (filter_map say said)
     → (some : Bool) (count : ℕ) → some ≡ is_some held → count ≡ bool_byte some → count ≡ standing (kind_of entry) said
-counted-once kind say counts one said a entry k held h some count s c =
-    let once = standing-once kind say counts said (omega (arith, a kind, one)) in
-    c ∙ rw (s, h) (byte (is_some (first (filter_map say said)))) ∙ sym once ∙ ap (λ (k : Kind). standing k said) (sym k)
+counted-once kind say counts one said a entry k held h some count s c = grind (arith, standing-once, byte, first)
 
 pub counted-flag : (kind : Kind) → most (row kind.form).bound ≡ 1 → (said : List Entry) → AreAllowed said → (entry : Entry)
     → kind_of entry ≡ kind → (held : Bool) → held ≡ stands kind said → (count : ℕ) → count ≡ bool_byte held
@@ -204,8 +172,7 @@ flag-more kind (other ∷ said) entry = by (same_kind kind (kind_of other)) (fla
   where
     by : (b : Bool) → stands kind (said ++ entry ∷ []) ≡ (stands kind said || same_kind kind (kind_of entry))
         → (b || stands kind (said ++ entry ∷ [])) ≡ ((b || stands kind said) || same_kind kind (kind_of entry))
-    by true e = refl
-    by false e = e
+    by b e = grind (arith)
 
 first-more : {X : Type 0} (say : Entry → Option X) (kind : Kind) → Counts kind say → most (row kind.form).bound ≡ 1
     → (said : List Entry) (entry : Entry) → standing (kind_of entry) said < most (row (kind_of entry).form).bound
@@ -215,8 +182,7 @@ first-more {X = X} say kind counts one said entry few = by (say entry) refl ∙ 
     empty : same_kind kind (kind_of entry) ≡ true → filter_map say said ≡ []
     empty e =
         let same : kind ≡ kind_of entry = same_kind-is kind (kind_of entry) e in
-        let here : standing kind said < most (row kind.form).bound =
-        subst (λ (k : Kind). standing k said < most (row k.form).bound) (sym same) few in
+        let here : standing kind said < most (row kind.form).bound = grind (arith) in
         nothing (filter_map say said) (omega (arith, here, one, standing-said kind say counts said))
       where
         nothing : (xs : List X) → length xs < 1 → xs ≡ []
@@ -227,10 +193,7 @@ first-more {X = X} say kind counts one said entry few = by (say entry) refl ∙ 
     counted q0 e = grind (arith)
 
     by : (o : Option X) → say entry ≡ o → or_before o (first (filter_map say said)) ≡ first (filter_map say said ++ cons_option o [])
-    by None e = ap first (sym (append-nil (filter_map say said)))
-    by (Some x) e =
-        let none = empty (counted (same_kind kind (kind_of entry)) (sym (counts entry) ∙ ap (λ o. length (cons_option o [])) e)) in
-        ap (λ xs. first (xs ++ x ∷ [])) (sym none)
+    by o e = grind (arith, first, append-nil, empty, counted, same_kind)
 
 offered-more : (role : Role) (said : List Entry) (entry : Entry) → standing (kind_of entry) said < most (row (kind_of entry).form).bound
     → offered_after role entry (offered_in role said) ≡ offered_in role (said ++ entry ∷ [])
@@ -247,23 +210,19 @@ placed-more sorted (next ∷ lines) line = placed-more (placed next sorted) line
 
 breaks-more : (said : List Entry) (entry : Entry)
     → placed_said (break_said entry) (in_order (breaks_in said)) ≡ in_order (breaks_in (said ++ entry ∷ []))
-breaks-more said entry = by (break_said entry) ∙ ap in_order (sym (lists-more break_said said entry))
-  where
-    by : (o : Option Break) → placed_said o (in_order (breaks_in said)) ≡ in_order (breaks_in said ++ cons_option o [])
-    by None = ap in_order (sym (append-nil (breaks_in said)))
-    by (Some line) = sym (placed-more [] (breaks_in said) line)
+breaks-more said entry = grind (arith, in_order, lists-more, append-nil, placed-more)
 
 -- a draft of one line more
 pub holds-more : (draft after : Draft) (said : List Entry) (entry : Entry) → Holds draft said → Adds draft entry after
     → standing (kind_of entry) said < most (row (kind_of entry).form).bound → Holds after (said ++ entry ∷ [])
-holds-more draft after said entry h a few = record {
-  delays = a.delays ∙ ap (or_before (delays_said entry)) h.delays ∙ first-more delays_said (whole forms.Delay) counts-delay refl _ _ few;
-  tries = a.tries ∙ ap (or_before (tries_said entry)) h.tries ∙ first-more tries_said (whole forms.Tries) counts-tries refl _ _ few;
-  orig = a.orig ∙ ap (offered_after Originator entry) h.orig ∙ offered-more Originator _ _ few;
-  answ = a.answ ∙ ap (offered_after Answerer entry) h.answ ∙ offered-more Answerer _ _ few;
-  losses = a.losses ∙ ap (λ xs. xs ++ cons_option (loss_said entry) []) h.losses ∙ sym (lists-more loss_said said entry);
-  hits = a.hits ∙ ap (λ xs. xs ++ cons_option (hit_said entry) []) h.hits ∙ sym (lists-more hit_said said entry);
-  noises = a.noises ∙ ap (λ xs. xs ++ cons_option (noise_said entry) []) h.noises ∙ sym (lists-more noise_said said entry);
-  breaks = a.breaks ∙ ap (placed_said (break_said entry)) h.breaks ∙ breaks-more said entry;
-  pauses = a.pauses ∙ ap (λ xs. xs ++ cons_option (pause_said entry) []) h.pauses ∙ sym (lists-more pause_said said entry);
-}
+holds-more draft after said entry h a few = assumption (
+  a.delays ∙ ap (or_before (delays_said entry)) h.delays ∙ first-more delays_said (whole forms.Delay) counts-delay refl _ _ few,
+  a.tries ∙ ap (or_before (tries_said entry)) h.tries ∙ first-more tries_said (whole forms.Tries) counts-tries refl _ _ few,
+  a.orig ∙ ap (offered_after Originator entry) h.orig ∙ offered-more Originator _ _ few,
+  a.answ ∙ ap (offered_after Answerer entry) h.answ ∙ offered-more Answerer _ _ few,
+  a.losses ∙ ap (λ xs. xs ++ cons_option (loss_said entry) []) h.losses ∙ sym (lists-more loss_said said entry),
+  a.hits ∙ ap (λ xs. xs ++ cons_option (hit_said entry) []) h.hits ∙ sym (lists-more hit_said said entry),
+  a.noises ∙ ap (λ xs. xs ++ cons_option (noise_said entry) []) h.noises ∙ sym (lists-more noise_said said entry),
+  a.breaks ∙ ap (placed_said (break_said entry)) h.breaks ∙ breaks-more said entry,
+  a.pauses ∙ ap (λ xs. xs ++ cons_option (pause_said entry) []) h.pauses ∙ sym (lists-more pause_said said entry),
+)

@@ -25,9 +25,7 @@ same-word (x ∷ a) [] = inr (λ e. cc)
 same-word (x ∷ a) (y ∷ b) = by (cases_eq x y) (same-word a b)
   where
     by : (x ≡ y) ⊎ (x ≡ y → ⊥) → (a ≡ b) ⊎ (a ≢ b) → (x ∷ a ≡ y ∷ b) ⊎ (x ∷ a ≢ y ∷ b)
-    by (inl e) (inl f) = inl (rw (e, f) refl)
-    by (inr n) _ = inr (λ e. n (cc))
-    by (inl e) (inr n) = inr (λ f. n (cc))
+    by given given2 = grind (arith)
 
 abbrev NamesNone : List Form → List ℕ → Type 0
 NamesNone [] word = Unit {0}
@@ -39,16 +37,11 @@ is-named (form ∷ list) word = by (same-word word (word_of form)) (is-named lis
   where
     by : (word ≡ word_of form) ⊎ (word ≢ word_of form) → ((form : Form) × (word ≡ word_of form)) ⊎ NamesNone list word
         → ((form : Form) × (word ≡ word_of form)) ⊎ NamesNone (form ∷ list) word
-    by (inl e) _ = inl (form, e)
-    by (inr n) (inl found) = inl found
-    by (inr n) (inr none) = inr (n, none)
+    by given given2 = grind (arith)
 
 abbrev all_forms : List Form
 all_forms = forms.Delay ∷ forms.Window ∷ forms.Length ∷ forms.Tries ∷ forms.Srej ∷ forms.Check32 ∷ forms.Lose ∷ forms.Hit ∷ forms.Noise ∷
     forms.Break ∷ forms.Busy ∷ []
-
-names-none : (word : List ℕ) → NamesNone all_forms word → (form : Form) → word ≢ word_of form
-names-none word n q2 = grind (arith)
 
 is-form : (word : List ℕ) → ((form : Form) × (word ≡ word_of form)) ⊎ ((form : Form) → word ≢ word_of form)
 is-form word = by (is-named all_forms word)
@@ -158,8 +151,7 @@ spells-line : (form : Form) (rest : List (List ℕ)) (values : List Value) → S
     → SpellsLine (word_of form ∷ rest) (entry_of form values)
 spells-line form rest values s =
     let same : form ≡ form_of (entry_of form values) = sym (form-again form values) in
-    let here : SpellsEach (arguments_of form) rest (values_of (entry_of form values)) =
-    subst (SpellsEach (arguments_of form) rest) (sym (values-again form rest values s)) s in
+    let here : SpellsEach (arguments_of form) rest (values_of (entry_of form values)) = grind (arith, values-again) in
     record {
       rest = rest;
       words_are = ap (λ (f : Form). word_of f ∷ rest) same;

@@ -1,8 +1,8 @@
 -- Lines on delays, noise and losses spell their script.
 use Rattle.noise_script.proofs.Names.{◌≡◌, ◌∙◌, ℕ, ◌+◌, ◌≤◌, ◌||◌, Bool, true, false, cond, List, [], ◌∷◌, ◌++◌, length, map, filter_map}
-use Rattle.noise_script.proofs.Names.{refl, sym, ap, subst, arith, Option, Some, None, cons_option, list_any, Kind, row, most, SpellsLine}
+use Rattle.noise_script.proofs.Names.{refl, ap, arith, Option, None, cons_option, list_any, Kind, SpellsLine}
 use Rattle.noise_script.proofs.Names.{Says, spelled, same_kind, standing, AreAllowed, loss_said, noise_said, script_of, lines_of, words_of}
-use Rattle.noise_script.proofs.Names.{Entry, Noise, Form, Role}
+use Rattle.noise_script.proofs.Names.{Entry, Noise, Form}
 use Rattle.noise_script.specs.declared.entry.Loss.{Loss}
 use Rattle.noise_script.specs.declared.entry.Entry.TheVariants as entries
 use Rattle.noise_script.specs.declared.forms.Form.TheVariants as forms
@@ -23,18 +23,14 @@ all_entries noises losses = noise_entries noises ++ loss_entries losses
 
 one-line : (line rest : List ℕ) (entry : Entry) (said : List Entry) → IsWhole line → SpellsLine (words_of line) entry
     → Says (lines_of rest) said → Says (lines_of (line ++ 10 ∷ rest)) (entry ∷ said)
-one-line line rest entry said w s more =
-    subst (λ lines. Says lines (entry ∷ said)) (sym (line-cut line rest w.no_feed ∙ ap (λ l. l ∷ lines_of rest) w.no_return))
-    (spelled s more)
+one-line line rest entry said w s more = grind (arith, line-cut, spelled)
 
 spells-delays : (line : List ℕ) (orig answ : ℕ) → SaysDelays line orig answ
     → SpellsLine (words_of line) (entries.Delay (record { orig = orig; answ = answ }))
-spells-delays line orig answ s =
-    record { rest = s.orig_word ∷ s.answ_word ∷ []; words_are = s.words; each = (s.orig_is, (s.answ_is, (refl, refl))) }
+spells-delays line orig answ s = grind (arith)
 
 spells-noise : (line : List ℕ) (noise : Noise) → SaysNoise line noise → SpellsLine (words_of line) (entries.Noise noise)
-spells-noise line noise s =
-    record { rest = _; words_are = s.words; each = (refl, (s.from_is, (s.count_is, (s.amplitude_is, (s.seed_is, (refl, refl)))))) }
+spells-noise line noise s = grind (arith)
 
 spells-loss : (line : List ℕ) (loss : Loss) → SaysLoss line loss → SpellsLine (words_of line) (entries.Lose loss)
 spells-loss line loss s = record { rest = _; words_are = s.words; each = (refl, (s.from_is, (s.count_is, (refl, refl)))) }
@@ -121,25 +117,7 @@ few-all kind noises losses = go (same_kind kind noise_kind) refl noises
 
 allowed : (orig answ : ℕ) (noises : List Noise) (losses : List Loss) → length noises ≤ 64 → length losses ≤ 1024
     → AreAllowed (entries.Delay (record { orig = orig; answ = answ }) ∷ all_entries noises losses)
-allowed orig answ noises losses n l kind = go kind.form kind.role
-  where
-    go : (form : Form) (role : Option Role)
-        → standing (record { form = form; role = role })
-        (entries.Delay (record { orig = orig; answ = answ }) ∷ all_entries noises losses) ≤ most (row form).bound
-    go forms.Delay None = let few = few-all (record { form = forms.Delay; role = None }) noises losses in omega (arith, few)
-    go forms.Delay (Some role) = let few = few-all (record { form = forms.Delay; role = Some role }) noises losses in omega (arith, few)
-    go forms.Noise None = let few = few-all (record { form = forms.Noise; role = None }) noises losses in omega (arith, few, n)
-    go forms.Noise (Some role) = let few = few-all (record { form = forms.Noise; role = Some role }) noises losses in omega (arith, few)
-    go forms.Lose None = let few = few-all (record { form = forms.Lose; role = None }) noises losses in omega (arith, few, l)
-    go forms.Lose (Some role) = let few = few-all (record { form = forms.Lose; role = Some role }) noises losses in omega (arith, few)
-    go forms.Window role = let few = few-all (record { form = forms.Window; role = role }) noises losses in omega (arith, few)
-    go forms.Length role = let few = few-all (record { form = forms.Length; role = role }) noises losses in omega (arith, few)
-    go forms.Tries role = let few = few-all (record { form = forms.Tries; role = role }) noises losses in omega (arith, few)
-    go forms.Srej role = let few = few-all (record { form = forms.Srej; role = role }) noises losses in omega (arith, few)
-    go forms.Check32 role = let few = few-all (record { form = forms.Check32; role = role }) noises losses in omega (arith, few)
-    go forms.Hit role = let few = few-all (record { form = forms.Hit; role = role }) noises losses in omega (arith, few)
-    go forms.Break role = let few = few-all (record { form = forms.Break; role = role }) noises losses in omega (arith, few)
-    go forms.Busy role = let few = few-all (record { form = forms.Busy; role = role }) noises losses in omega (arith, few)
+allowed orig answ noises losses n l kind = grind (arith, few-all)
 
 pub noisy-lines-spell : NoisyLinesSpell
 noisy-lines-spell delays noisy losing orig answ noises losses d n l few_noises few_losses = record {

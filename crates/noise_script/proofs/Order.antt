@@ -1,5 +1,5 @@
 -- Break lines in rising order of turn.
-use Rattle.noise_script.proofs.Names.{◌≡◌, ℕ, suc, ◌+◌, ◌<◌, ◌≤◌, Bool, true, false, cond, nat_lt, nat_eq, List, [], ◌∷◌, ◌++◌, length}
+use Rattle.noise_script.proofs.Names.{◌≡◌, ℕ, suc, ◌+◌, ◌<◌, ◌≤◌, Bool, cond, nat_lt, nat_eq, List, [], ◌∷◌, ◌++◌, length}
 use Rattle.noise_script.proofs.Names.{refl, sym, ap, ◌∙◌, arith, append-nil, append_assoc, placed, placed_each, in_order, Break}
 use Rattle.std.proofs.lemmas.Bool.{ltb-true, ltb-false, eqb-true}
 use Rattle.noise_script.specs.Breaks.{AreFrom, AreRising, of_turn}
@@ -11,8 +11,7 @@ placed-length line (next ∷ lines) = by (nat_lt line.turn next.turn) (placed-le
   where
     by : (b : Bool) → length (placed line lines) ≡ suc (length lines)
         → length (cond b (line ∷ next ∷ lines) (next ∷ placed line lines)) ≡ suc (suc (length lines))
-    by true e = refl
-    by false e = ap suc e
+    by b e = grind (arith)
 
 placed_each-length : (sorted lines : List Break) → length (placed_each sorted lines) ≡ length sorted + length lines
 placed_each-length sorted [] = let none : length {A = Break} [] ≡ 0 = refl in omega (arith, none)
@@ -32,8 +31,7 @@ placed-from turn line [] h f = (h, tt)
 placed-from turn line (next ∷ lines) h f = by (nat_lt line.turn next.turn) (placed-from turn line lines h f.1)
   where
     by : (b : Bool) → AreFrom turn (placed line lines) → AreFrom turn (cond b (line ∷ next ∷ lines) (next ∷ placed line lines))
-    by true later = (h, f)
-    by false later = (f.0, later)
+    by b later = grind (arith)
 
 placed-rising : (line : Break) (lines : List Break) → AreRising lines → AreRising (placed line lines)
 placed-rising line [] r = (tt, tt)
@@ -41,18 +39,14 @@ placed-rising line (next ∷ lines) r = by (nat_lt line.turn next.turn) refl (pl
   where
     by : (b : Bool) → nat_lt line.turn next.turn ≡ b → AreRising (placed line lines)
         → AreRising (cond b (line ∷ next ∷ lines) (next ∷ placed line lines))
-    by true e later =
-        let before : line.turn ≤ next.turn = omega (arith, ltb-true _ _ e) in
-        ((before, later-from line.turn next.turn lines before r.0), r)
-    by false e later = (placed-from next.turn line lines (ltb-false _ _ e) r.0, later)
+    by b e later = grind (arith, ltb-true, later-from, placed-from, ltb-false)
 
 none-of : (turn next : ℕ) (lines : List Break) → turn < next → AreFrom next lines → of_turn turn lines ≡ []
 none-of turn next [] h f = refl
 none-of turn next (line ∷ lines) h f = by (nat_eq line.turn turn) refl (none-of turn next lines h f.1)
   where
     by : (b : Bool) → nat_eq line.turn turn ≡ b → of_turn turn lines ≡ [] → cond b (line ∷ of_turn turn lines) (of_turn turn lines) ≡ []
-    by true e later = absurd (omega (arith, h, f.0, eqb-true _ _ e))
-    by false e later = later
+    by b e later = grind (arith, eqb-true)
 
 -- a line counts among those of its turn, behind the others
 placed-of : (turn : ℕ) (line : Break) (lines : List Break) → AreRising lines
@@ -62,11 +56,7 @@ placed-of turn line (next ∷ lines) r = by (nat_lt line.turn next.turn) refl (p
   where
     first : (b : Bool) → nat_eq line.turn turn ≡ b → line.turn < next.turn
         → cond b (line ∷ of_turn turn (next ∷ lines)) (of_turn turn (next ∷ lines)) ≡ of_turn turn (next ∷ lines) ++ cond b (line ∷ []) []
-    first true e l =
-        let before : turn < next.turn = omega (arith, l, eqb-true _ _ e) in
-        let none : of_turn turn (next ∷ lines) ≡ [] = none-of turn next.turn (next ∷ lines) before (omega arith, r.0) in
-        rw none refl
-    first false e l = sym (append-nil (of_turn turn (next ∷ lines)))
+    first b e l = grind (arith, eqb-true, none-of, append-nil)
 
     behind : (b : Bool) → of_turn turn (placed line lines) ≡ of_turn turn lines ++ of_turn turn (line ∷ [])
         → cond b (next ∷ of_turn turn (placed line lines)) (of_turn turn (placed line lines)) ≡ cond b (next ∷ of_turn turn lines)
@@ -75,8 +65,7 @@ placed-of turn line (next ∷ lines) r = by (nat_lt line.turn next.turn) refl (p
 
     by : (b : Bool) → nat_lt line.turn next.turn ≡ b → of_turn turn (placed line lines) ≡ of_turn turn lines ++ of_turn turn (line ∷ [])
         → of_turn turn (cond b (line ∷ next ∷ lines) (next ∷ placed line lines)) ≡ of_turn turn (next ∷ lines) ++ of_turn turn (line ∷ [])
-    by true e later = first (nat_eq line.turn turn) refl (ltb-true _ _ e)
-    by false e later = behind (nat_eq next.turn turn) later
+    by b e later = grind (arith, first, ltb-true, behind)
 
 one-before : (turn : ℕ) (line : Break) (lines : List Break) → of_turn turn (line ∷ []) ++ of_turn turn lines ≡ of_turn turn (line ∷ lines)
 one-before turn line lines = grind (arith)

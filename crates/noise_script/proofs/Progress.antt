@@ -1,5 +1,5 @@
 -- Reading a text line by line.
-use Rattle.noise_script.proofs.Names.{◌≡◌, inl, inr, ℕ, ◌+◌, ◌<◌, Bool, true, false, nat_le, List, [], ◌∷◌, ◌++◌, refl, sym, ap, ◌∙◌, arith}
+use Rattle.noise_script.proofs.Names.{◌≡◌, inl, inr, ℕ, ◌+◌, ◌<◌, Bool, true, false, nat_le, List, [], ◌∷◌, ◌++◌, sym, ap, ◌∙◌, arith}
 use Rattle.noise_script.proofs.Names.{append_assoc, length-append, leb-true, Holds, HoldsUpTo, row, form_of, kind_of, most, too_many}
 use Rattle.noise_script.proofs.Names.{SpellsLine, Says, passed_over, spelled, standing, IsFaultOf, lines_of, words_of, is_passed_over}
 use Rattle.noise_script.proofs.Names.{Draft, Entry, ScriptFault, Form, Cause}
@@ -14,12 +14,7 @@ pub too-many : (said : List Entry) (words : List (List ℕ)) (entry : Entry) (fo
     → SpellsLine words entry → form ≡ form_of entry → full ≡ true
     → full ≡ nat_le (most (row (form_of entry)).bound) (standing (kind_of entry) said) → bound ≡ (row form).bound → cause ≡ too_many bound
     → IsTooMany said words cause
-too-many said words entry form bound cause full s f t e b c = record {
-  entry = entry;
-  spelled_line = s;
-  full = leb-true _ _ (sym e ∙ t);
-  cause_is = c ∙ ap too_many b ∙ ap (λ (x : Form). too_many (row x).bound) f;
-}
+too-many said words entry form bound cause full s f t e b c = grind (arith, leb-true, too_many)
 
 pub not-full : (said : List Entry) (entry : Entry) (full : Bool) → full ≡ false
     → full ≡ nat_le (most (row (form_of entry)).bound) (standing (kind_of entry) said)
@@ -39,23 +34,14 @@ says-more line entry (passed_over q s) p = passed_over q (says-more line entry s
 says-more line entry (spelled q s) p = spelled q (says-more line entry s p)
 
 pub holds-none : (text : List ℕ) (draft : Draft) → Holds draft [] → HoldsUpTo text text 0 draft
-holds-none text draft h =
-    record { before = []; lines_are = refl; number_is = refl; said = []; says = nothing; allowed = allowed-none; holds = h }
+holds-none text draft h = grind (arith, nothing, allowed-none)
 
 pub regrouped : (before : List (List ℕ)) (line : List ℕ) (after : List (List ℕ)) → before ++ (line ∷ after) ≡ (before ++ line ∷ []) ++ after
 regrouped before line after = sym (append_assoc before (line ∷ []) after)
 
 pub holds-more : (text rest line behind : List ℕ) (number next : ℕ) (old new : Draft) (h : HoldsUpTo text rest number old)
     → lines_of rest ≡ line ∷ lines_of behind → next ≡ number + 1 → HoldsLine h.said (words_of line) new → HoldsUpTo text behind next new
-holds-more text rest line behind number next old new h l n (inl p) = record {
-  before = h.before ++ line ∷ [];
-  lines_are = h.lines_are ∙ ap (λ ls. h.before ++ ls) l ∙ regrouped h.before line (lines_of behind);
-  number_is = let long = length-append h.before (line ∷ []) in omega (arith, n, h.number_is, long);
-  said = h.said;
-  says = says-passed line h.says p.0;
-  allowed = h.allowed;
-  holds = p.1;
-}
+holds-more text rest line behind number next old new h l n (inl p) = grind (arith, regrouped, length-append, says-passed)
 holds-more text rest line behind number next old new h l n (inr (entry, s, few, holds)) = record {
   before = h.before ++ line ∷ [];
   lines_are = h.lines_are ∙ ap (λ ls. h.before ++ ls) l ∙ regrouped h.before line (lines_of behind);
@@ -68,15 +54,4 @@ holds-more text rest line behind number next old new h l n (inr (entry, s, few, 
 
 pub fault-of : (text rest line behind : List ℕ) (number next : ℕ) (old : Draft) (fault : ScriptFault) (h : HoldsUpTo text rest number old)
     → lines_of rest ≡ line ∷ lines_of behind → next ≡ number + 1 → IsLineFault h.said (words_of line) next fault → IsFaultOf text fault
-fault-of text rest line behind number next old (faults.Line at cause) h l n f = record {
-  before = h.before;
-  line = line;
-  after = lines_of behind;
-  lines_are = h.lines_are ∙ ap (λ ls. h.before ++ ls) l;
-  number_is = omega (arith, f.0, n, h.number_is);
-  said = h.said;
-  says = h.says;
-  allowed = h.allowed;
-  faulty = f.1;
-}
-fault-of text rest line behind number next old faults.NoMemory h l n f = tt
+fault-of text rest line behind number next old fault h l n f = grind (arith)

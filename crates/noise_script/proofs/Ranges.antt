@@ -1,6 +1,6 @@
 -- What a script's lines say is in its range.
-use Rattle.noise_script.proofs.Names.{◌≡◌, ℕ, ◌<◌, ◌≤◌, nat_lt, IfSome, Bool, true, false, cond, List, [], ◌∷◌, length, filter_map, Option}
-use Rattle.noise_script.proofs.Names.{Some, None, refl, sym, subst, ◌∙◌, arith, append-nil, cons_option, INFO, placed, placed_each, Holds}
+use Rattle.noise_script.proofs.Names.{◌≡◌, ℕ, ◌<◌, ◌≤◌, nat_lt, IfSome, Bool, cond, List, [], ◌∷◌, length, filter_map, Option}
+use Rattle.noise_script.proofs.Names.{Some, None, refl, sym, subst, arith, append-nil, cons_option, INFO, placed, placed_each, Holds}
 use Rattle.noise_script.proofs.Names.{HoldsUpTo, Kind, row, most, SpellsEach, arguments_of, values_of, form_of, Says, passed_over, spelled}
 use Rattle.noise_script.proofs.Names.{AreAllowed, whole, first, window_said, length_said, loss_said, hit_said, noise_said, break_said}
 use Rattle.noise_script.proofs.Names.{pause_said, offered_in, breaks_in, script_of, ScriptSpelling, IsQuiet, AreQuiet, ScriptValue, Draft}
@@ -66,8 +66,7 @@ window-in-range role (entries.Window window ∷ said) r = by (same_role role win
   where
     by : (b : Bool) → IsWindow (window_or_15 (first (filter_map (window_said role) said)))
         → IsWindow (window_or_15 (first (cons_option (cond b (Some window.segments) None) (filter_map (window_said role) said))))
-    by true later = r.0
-    by false later = later
+    by b later = grind (arith)
 window-in-range role (_ ∷ said) r = window-in-range role said r.1
 
 length-in-range : (role : Role) (said : List Entry) → AreInRange said
@@ -77,24 +76,13 @@ length-in-range role (entries.Length l ∷ said) r = by (same_role role l.role) 
   where
     by : (b : Bool) → IsLength (length_or_128 (first (filter_map (length_said role) said)))
         → IsLength (length_or_128 (first (cons_option (cond b (Some l.octets) None) (filter_map (length_said role) said))))
-    by true later = r.0
-    by false later = later
+    by b later = grind (arith)
 length-in-range role (_ ∷ said) r = length-in-range role said r.1
 
 offer-allowed : (role : Role) (said : List Entry) → AreInRange said → IsAllowed (offer_by (offered_in role said))
 offer-allowed role said r =
     let window = window-in-range role said r in
-    let long = length-in-range role said r in
-    record {
-      tx_len_low = long.some;
-      tx_len_high = long.few;
-      rx_len_low = long.some;
-      rx_len_high = long.few;
-      tx_window_low = window.some;
-      tx_window_high = window.few;
-      rx_window_low = window.some;
-      rx_window_high = window.few;
-    }
+    let long = length-in-range role said r in grind (arith)
 
 noises-quiet : (said : List Entry) → AreInRange said → AreQuiet (noises_in said)
 noises-quiet [] r = tt
@@ -141,12 +129,7 @@ draft-in-limits text number draft h = subst IsInLimits (sym (draft-script-is _ _
 -- what the draft of all lines makes is what the text spells
 pub read-spelling : (text : List ℕ) (number : ℕ) (draft : Draft) (script : ScriptValue) → HoldsUpTo text [] number draft
     → script ≡ draft_script draft → ScriptSpelling text script
-read-spelling text number draft script h e = record {
-  said = h.said;
-  says = subst (λ ls. Says ls h.said) (sym (h.lines_are ∙ append-nil h.before)) h.says;
-  allowed = h.allowed;
-  script_is = e ∙ draft-script-is draft h.said h.holds;
-}
+read-spelling text number draft script h e = grind (arith, append-nil, draft-script-is)
 
 -- what a text spells
 
@@ -174,8 +157,7 @@ placed-octets line [] h k = All-cons IsOctetBreak line [] h k
 placed-octets line (next ∷ lines) h k = by (nat_lt line.turn next.turn) (placed-octets line lines h (All-tail IsOctetBreak next lines k))
   where
     by : (b : Bool) → All IsOctetBreak (placed line lines) → All IsOctetBreak (cond b (line ∷ next ∷ lines) (next ∷ placed line lines))
-    by true later = All-cons IsOctetBreak line (next ∷ lines) h k
-    by false later = All-cons IsOctetBreak next (placed line lines) (All-head IsOctetBreak next lines k) later
+    by b later = grind (arith, placed)
 
 placed-each-octets : (sorted lines : List Break) → All IsOctetBreak sorted → All IsOctetBreak lines
     → All IsOctetBreak (placed_each sorted lines)

@@ -4,7 +4,7 @@ use Rattle.noise_script.proofs.Names.{get_or, refl, sym, ap, subst, ◌∙◌, a
 use Rattle.noise_script.proofs.Names.{RoleIs, NumberIs, SignedIs, row, word_of, arguments_of, form_of, values_of, too_many, Spells, Fails}
 use Rattle.noise_script.proofs.Names.{SpellsEach, FirstFails, SpellsLine, Misspells, Says, passed_over, spelled, AreAllowed, IsFaulty}
 use Rattle.noise_script.proofs.Names.{script_of, ScriptSpelling, FirstFault, begins_with, words_of, is_passed_over, ScriptValue, Entry}
-use Rattle.noise_script.proofs.Names.{Form, role_word, Cause, Role, Originator}
+use Rattle.noise_script.proofs.Names.{Form, Cause, Role, Originator}
 use Rattle.std.proofs.Common.{ℤ}
 use Rattle.shared_terms.specs.declared.cause.Cause.TheVariants as causes
 use Rattle.noise_script.specs.declared.entry.Entry.TheVariants as entries
@@ -21,9 +21,6 @@ cons-rest : {X : Type 0} (x y : X) (xs ys : List X) → x ∷ xs ≡ y ∷ ys �
 cons-rest x y xs ys e = cc
 
 -- words and forms
-
-role-once : (a b : Role) → role_word a ≡ role_word b → a ≡ b
-role-once q0 q1 e = grind (arith)
 
 -- a sum of letters tells the forms apart
 abbrev letters : List ℕ → ℕ
@@ -45,16 +42,7 @@ form_by n =
 
 form-again : (form : Form) → form_by (letters (word_of form)) ≡ form
 form-again forms.Delay = refl
-form-again forms.Window = refl
-form-again forms.Length = refl
-form-again forms.Tries = refl
-form-again forms.Srej = refl
-form-again forms.Check32 = refl
-form-again forms.Lose = refl
-form-again forms.Hit = refl
-form-again forms.Noise = refl
-form-again forms.Break = refl
-form-again forms.Busy = refl
+form-again form = grind (arith)
 
 form-once : (a b : Form) → word_of a ≡ word_of b → a ≡ b
 form-once a b e = sym (form-again a) ∙ ap (λ (w : List ℕ). form_by (letters w)) e ∙ form-again b
@@ -184,18 +172,10 @@ unknown-form words rest form cause u e = u.none form (cons-head _ _ _ _ (sym u.w
 
 miscounted-length : (words rest : List (List ℕ)) (form : Form) (cause : Cause) → IsMiscounted words cause → words ≡ word_of form ∷ rest
     → length rest ≡ length (arguments_of form) → ⊥
-miscounted-length words rest form cause m e l =
-    let both : word_of m.form ∷ m.rest ≡ word_of form ∷ rest = sym m.words_are ∙ e in
-    let same : m.form ≡ form = form-once m.form form (cons-head _ _ _ _ both) in
-    m.other (ap length (cons-rest _ _ _ _ both) ∙ l ∙ ap (λ (f : Form). length (arguments_of f)) (sym same))
+miscounted-length words rest form cause m e l = grind (arith, form-once, cons-head, cons-rest)
 
 misread-spelled : (words : List (List ℕ)) (entry : Entry) (cause : Cause) → IsMisread words cause → SpellsLine words entry → ⊥
-misread-spelled words entry cause m s =
-    let both : word_of m.form ∷ m.rest ≡ word_of (form_of entry) ∷ s.rest = sym m.words_are ∙ s.words_are in
-    let same : m.form ≡ form_of entry = form-once m.form (form_of entry) (cons-head _ _ _ _ both) in
-    let here : FirstFails (arguments_of (form_of entry)) m.rest cause =
-    subst (λ (f : Form). FirstFails (arguments_of f) m.rest cause) same m.fails in
-    fails-spell _ s.rest cause _ (subst (λ ws. FirstFails (arguments_of (form_of entry)) ws cause) (cons-rest _ _ _ _ both) here) s.each
+misread-spelled words entry cause m s = grind (arith, form-once, cons-head, fails-spell, cons-rest)
 
 misspelled-spelled : (words : List (List ℕ)) (entry : Entry) (cause : Cause) → Misspells words cause → SpellsLine words entry → ⊥
 misspelled-spelled words entry cause (inl u) s = unknown-form words s.rest (form_of entry) cause u s.words_are

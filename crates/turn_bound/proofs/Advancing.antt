@@ -1,10 +1,10 @@
 -- The front of an end that isn't whole advances within the turns of one segment, or the run ends.
-use Rattle.std.proofs.Common.{◌≡◌, ℕ, suc, ◌+◌, ◌-◌, ◌*◌, ◌<◌, ◌≤◌, ◌⊎◌, Bool, true, false, cond, List, [], ◌∷◌, ◌++◌, length, inl, inr}
-use Rattle.std.proofs.Common.{arith, refl, sym, ◌∙◌, ap, subst, Option}
+use Rattle.turn_bound.proofs.Names.{◌≡◌, ℕ, suc, ◌+◌, ◌-◌, ◌*◌, ◌<◌, ◌≤◌, ◌⊎◌, Bool, true, false, cond, List, [], ◌∷◌, ◌++◌, length, inl}
+use Rattle.turn_bound.proofs.Names.{inr, arith, refl, sym, ◌∙◌, ap, subst, Option, is_whole, Role, of, Outgoing, Connected, is_released}
+use Rattle.turn_bound.proofs.Names.{Link, Accounts, Turn, GoingTurn, RunOf, arrival, IsCarried, AdvancesSoon, GoesOn, MaySend, NeverBusy}
+use Rattle.turn_bound.proofs.Names.{NoneDue, KeepsTime}
 use Rattle.turn_bound.proofs.Truths.{neither-first}
-use Rattle.link_account.proofs.Names.{Role, of, Outgoing, Account}
-use Rattle.link_run.proofs.Names.{Connected, is_released, Link, Accounts, Turn, GoingTurn, RunOf, arrival, IsCarried}
-use Rattle.turn_bound.proofs.Names.{AdvancesSoon, GoesOn, KeepsTime, MaySend, NeverBusy, NoneDue, is_whole}
+use Rattle.link_account.proofs.Names.{Account}
 use Rattle.turn_bound.proofs.Value.{Rates, rates, AreRates, Ticks, left, is_waiting, Sends, is_free, lasts, one_if, sender_value, cond-le}
 use Rattle.turn_bound.proofs.Falls.{Offered, end-turn}
 use Rattle.turn_bound.proofs.Ending.{own-offered}
@@ -83,8 +83,7 @@ linking tries period delay link ts (t ∷ us) before after role k n run m (ends,
     let so-far : RunOf link (us ++ ts) ends = joins link ts us before ends run goes in
     let all : RunOf link (t ∷ (us ++ ts)) after = (ends, so-far, g) in
     let keeps = going-run delay link (us ++ ts) ends t after role n so-far c.0 g in
-    let open_ : is_released (of role ends).phase ≡ false =
-    unreleased (is_released (of role ends).phase) (is_released (of role after).phase) keeps.1 (ap is_released phase) in
+    let open_ : is_released (of role ends).phase ≡ false = grind (arith, unreleased) in
     let linked : (of role ends).phase ≡ Connected =
     only-linked (of role ends).phase (begun-on delay link ts us before ends role n run goes c.1 (ap is_begun m.connected)) open_ in
     let l = linking tries period delay link ts us before ends role k n run m goes c.1 linked in
@@ -144,8 +143,7 @@ next-stage tries period delay link list ends t after role total start n k nb run
     go true f (Holds h e s p) =
         let few : h ≤ 32 = few-held h (polls_heard h role list) (held_value turn a) p
         (few-heard tries period delay link h list ends role k nb run c) in
-        let room : 38 ≤ z.room = omega (arith, y.room, y.period) in
-        Waits f (omega (arith, s, fell false true e f, later, few, room))
+        let room : 38 ≤ z.room = omega (arith, y.room, y.period) in grind (arith, fell, later)
     go false f (Holds h e s p) = by (x.held e less)
       where
         by : (is_waiting b.outgoing ≡ true)
@@ -181,8 +179,7 @@ stages tries period delay link ts [] before after role total k n run m goes c y 
 stages tries period delay link ts (t ∷ us) before after role total k n run m (ends, goes, g) c y phase offered less =
     let so-far : RunOf link (us ++ ts) ends = joins link ts us before ends run goes in
     let keeps = going-run delay link (us ++ ts) ends t after role n so-far c.0 g in
-    let open_ : is_released (of role ends).phase ≡ false =
-    unreleased (is_released (of role ends).phase) (is_released (of role after).phase) keeps.1 (ap is_released phase) in
+    let open_ : is_released (of role ends).phase ≡ false = grind (arith, unreleased) in
     let linked : (of role ends).phase ≡ Connected =
     only-linked (of role ends).phase (begun-on delay link ts us before ends role n run goes c.1 (ap is_begun m.connected)) open_ in
     let l = linking tries period delay link ts us before ends role k n run m goes c.1 linked in

@@ -1,14 +1,12 @@
-use Rattle.std.proofs.Common.{arith, ◌⊎◌, inl, inr, ◌≡◌, ℕ, ◌+◌, ◌&&◌, Bool, true, false, List, [], ◌∷◌, length, refl, sym, ◌∙◌, ap, subst}
-use Rattle.std.proofs.Common.{None, Ok}
-use Rattle.link_account.proofs.Names.{Role, Originator, Answerer, Frame, is_originator, Arrived, Account, is_connected, hear, without_adp}
-use Rattle.link_account.proofs.Names.{trying, Said, speak, of}
-use Rattle.link_run.proofs.Names.{Phase, Connected, Releasing, User, is_busy, is_closed, is_released, Link, Accounts, Turn, RunOf}
-use Rattle.link_run.proofs.Names.{IsCarried}
+use Rattle.turn_bound.proofs.Names.{arith, ◌⊎◌, inl, inr, ◌≡◌, ℕ, ◌+◌, ◌&&◌, Bool, true, false, List, [], ◌∷◌, length, refl, sym, ◌∙◌, ap}
+use Rattle.turn_bound.proofs.Names.{subst, None, Ok, numbers-alike, Role, Originator, Answerer, Frame, is_originator, Arrived, is_connected}
+use Rattle.turn_bound.proofs.Names.{hear, without_adp, trying, Said, speak, of, Steps, Tries, answers-unconnected, linked-alike, retimed}
+use Rattle.turn_bound.proofs.Names.{tries-alike, Phase, Connected, User, is_busy, is_closed, is_released, Link, Accounts, Turn, RunOf}
+use Rattle.turn_bound.proofs.Names.{IsCarried, NoneDue, KeepsTime}
+use Rattle.link_account.proofs.Names.{Account}
 use Rattle.turn_bound.proofs.Value.{Rates, Stands}
 use Rattle.turn_bound.proofs.OneTurn.{Hearing}
 use Rattle.turn_bound.proofs.CalmRuns.{said-speaks, hears-in}
-use Rattle.turn_bound.proofs.Names.{KeepsTime, NoneDue, Steps, Tries, answers-unconnected, linked-alike, numbers-alike, retimed}
-use Rattle.turn_bound.proofs.Names.{tries-alike}
 use Rattle.turn_bound.proofs.Serving.{Served}
 use Rattle.link_account.proofs.HearWays as HearWays
 use Rattle.link_account.proofs.SpeakWays as SpeakWays
@@ -35,31 +33,8 @@ pub one-hears : (role : Role) (arrived : Arrived) (turn : ℕ) (a mid : Account)
     → OneDue role mid
 one-hears role arrived turn a mid er h e = HearWays.by-ways (λ x b. OneDue role b) turn a (record {
   nothing = record { one = inl (ap without_adp h.answer); calm = λ c r. h.reply r; none = λ r c. ap without_adp h.answer };
-  linked = λ p. record {
-    pattern = λ seen. same;
-    plain = λ frame k. same;
-    numbers = numbers-alike _ turn a (λ frame new incoming timer reply urgent k. record {
-      one = inl h.answer;
-      calm = λ c r. let wrong : true ≡ false = ap is_connected (sym p) ∙ c in cc;
-      none = λ r c. h.answer;
-    });
-    sabme = λ pf n r. owed r (ap is_released p) _ refl;
-    disc = λ pf r. one-closed role _ refl;
-    brk = λ command pf info number length_octet q. one-same role a _ h refl refl (λ x. x);
-    brkack = λ command pf info number length_octet q. one-same role a _ h refl refl (λ x. x);
-  };
-  early = λ c. record {
-    ignores = λ x f. same;
-    detects = λ p r. one-same role a _ h refl refl (λ x. ap is_released p);
-    detected = λ p r. owed r (ap is_released p) _ refl;
-    xid = λ p r pf info offer f. owed r (elim p [ inl q ↦ ap is_released q | inr q ↦ ap is_released q ]) _ refl;
-    agrees = λ p r pf info offer f. one-same role a _ h refl refl (λ x. ap is_released p);
-    sabme_first = λ p r pf. owed r (ap is_released p) _ refl;
-    sabme = λ p r pf. owed r (ap is_released p) _ refl;
-    ua = λ p. one-same role a _ h refl refl (λ x. ap is_released p);
-    disc = λ p pf. elim p [ inl q ↦ owed q.1 (ap is_released q.0) _ refl | inr q ↦ one-closed role _ (ap is_closed q) ];
-    closes = λ p frame f. one-same role a _ h refl refl (λ x. cc);
-  };
+  linked = grind (arith, same, numbers-alike, owed, one-closed, one-same);
+  early = grind (arith, same, one-same, owed, one-closed);
 }) arrived mid e
   where
     same : OneDue role a
@@ -86,9 +61,7 @@ said-clean z before turn release role p a said st e er open_ k h = SpeakWays.by-
   xid = λ q r. tried _ (none (sym er ∙ r)) (ap is_connected q);
   sabme = λ q. tried _ (none (alone q (λ s. s))) (ap is_connected q);
   linked = λ q r. linked-alike _ turn a (λ count awaited w own. steps-clean turn a.special (retimed a count awaited w own) (one q));
-  releases = λ q r. tries-alike _ turn _ (trying Releasing turn a)
-      (λ w. record { answer = none (sym er ∙ originates a.setup.role release r); reply = λ x. cc })
-      (record { answer = none (sym er ∙ originates a.setup.role release r); reply = λ x. cc });
+  releases = grind (arith, tries-alike, trying, none, originates);
   disc = λ q. tried _ (none (alone q (λ s. s))) (ap is_connected q);
 }) said h
   where

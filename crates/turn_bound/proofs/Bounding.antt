@@ -1,14 +1,14 @@
-use Rattle.std.proofs.Common.{◌≡◌, ℕ, ◌+◌, ◌-◌, ◌*◌, Bool, true, false, nat_eq, arith, sym, ◌∙◌, ap, subst, Err, ◌⊎◌, ◌<◌, ◌≤◌, List, []}
-use Rattle.std.proofs.Common.{◌∷◌, length, map}
-use Rattle.link_account.proofs.Names.{Role, Originator, Answerer, LinkFault, Account, is_connected, speak, Arrived, AllByRecursion}
-use Rattle.link_account.proofs.Names.{Outgoing, of}
-use Rattle.link_run.proofs.Names.{Phase, Negotiating, Establishing, Releasing, User, served_at, releases}
+use Rattle.std.proofs.lemmas.Nat.{mul-le}
+use Rattle.turn_bound.proofs.Names.{◌≡◌, ℕ, ◌+◌, ◌-◌, ◌*◌, Bool, true, false, nat_eq, arith, sym, ◌∙◌, ap, subst, Err, ◌⊎◌, ◌<◌, ◌≤◌, List}
+use Rattle.turn_bound.proofs.Names.{[], ◌∷◌, length, map, mul-le-mul_right, mul-le-mul_left, Role, Originator, Answerer, LinkFault}
+use Rattle.turn_bound.proofs.Names.{is_connected, speak, Arrived, AllByRecursion, Outgoing, of, Breaks, why-broken, Phase, Negotiating}
+use Rattle.turn_bound.proofs.Names.{Establishing, Releasing, User, releases, BusyLine, busy_turns, IsBroken, AnswersAtOnce, IsWithin}
+use Rattle.link_account.proofs.Names.{Account}
+use Rattle.link_run.proofs.Names.{served_at}
 use Rattle.turn_bound.proofs.Value.{Rates, AreRates, Runs, IsOf, Tries, Stands}
 use Rattle.turn_bound.specs.Spent.{since, IsTimely, SpendsOnTime}
-use Rattle.turn_bound.proofs.Names.{AnswersAtOnce, Breaks, BusyLine, IsBroken, busy_turns, why-broken}
 use Rattle.turn_bound.proofs.OneTurn.{Hearing}
-use Rattle.std.proofs.Math.Nat.{mul-le-mul_right, mul-le-mul_left}
-use Rattle.turn_bound.specs.Offered.{HoldsFile, IsWithin, OffersWithin}
+use Rattle.turn_bound.specs.Offered.{HoldsFile, OffersWithin}
 use Rattle.turn_bound.specs.Limits.{IsShort, NoRunIsLong}
 use Rattle.turn_bound.specs.Bound.{of_both, weight, most_turns, offered_to, EndsSoon, EndsSoonByFiles, EndsSoonByOctets}
 use Rattle.turn_bound.specs.Together.{StandTogether}
@@ -63,8 +63,6 @@ busy-few [] all = omega arith
 busy-few (l ∷ ls) (short, all) = omega (arith, short, busy-few ls all)
 
 -- the product of what is at most that
-pub product-most : (a b c d : ℕ) → a ≤ c → b ≤ d → a * b ≤ c * d
-product-most a b c d h k = grind (arith, mul-le-mul_right {m = a}, mul-le-mul_left {m = b})
 
 -- The laws of runs over lines that carry what is sent, by what holds of runs with queues.
 pub ends-soon-always : EndsSoon
@@ -108,7 +106,7 @@ by-files-always tries period delay link ts ends segments k run c holds =
     ) in
     let lighter : weight link (offered_to ends) ≤ weight link segments = omega (arith, few) in
     let most : most_turns tries period link (offered_to ends) ≤ most_turns tries period link segments =
-    product-most (2 * (tries + 2) * period) (weight link (offered_to ends)) (2 * (tries + 2) * period) (weight link segments)
+    mul-le (2 * (tries + 2) * period) (weight link (offered_to ends)) (2 * (tries + 2) * period) (weight link segments)
     (omega arith) lighter in
     omega (arith, ends-soon-always tries period delay link ts ends k run c, most)
 
@@ -126,7 +124,7 @@ no-run-is-long-always tries period delay link ts ends k l run c =
     let octets : Role → ℕ = λ role. length (of role link).user.file in
     let soon = by-octets-always tries period delay link ts ends k run c in
     let short : period ≤ 256 = omega (arith, k.period_is, l.delays_few Originator, l.delays_few Answerer) in
-    let often : 2 * (tries + 2) * period ≤ 44 * 256 = product-most (2 * (tries + 2)) period 44 256 (omega (arith, l.tries_few)) short in
+    let often : 2 * (tries + 2) * period ≤ 44 * 256 = mul-le (2 * (tries + 2)) period 44 256 (omega (arith, l.tries_few)) short in
     let heavy : weight link octets ≤ 34834502
     = omega (
       arith,
@@ -138,5 +136,5 @@ no-run-is-long-always tries period delay link ts ends k l run c =
       busy-few link.answ.user.busy (l.busy_short Answerer),
     ) in
     let most : most_turns tries period link octets ≤ 44 * 256 * 34834502 =
-    product-most (2 * (tries + 2) * period) (weight link octets) (44 * 256) 34834502 often heavy in
+    mul-le (2 * (tries + 2) * period) (weight link octets) (44 * 256) 34834502 often heavy in
     omega (arith, soon, most)

@@ -1,11 +1,12 @@
 -- What holds all through a run where no user is busy.
-use Rattle.std.proofs.Common.{◌≡◌, ℕ, zero, suc, ◌+◌, ◌*◌, ◌≤◌, Bool, true, false, List, [], ◌∷◌, drop, map, length, arith, refl, sym, ◌∙◌}
-use Rattle.std.proofs.Common.{ap, subst, Option, Some, None, Ok}
-use Rattle.link_account.proofs.Names.{slice_get, AllByRecursion, Role, Originator, Answerer, other, of, Heard, Account, is_connected, Said}
-use Rattle.link_account.proofs.Names.{speak}
-use Rattle.link_run.proofs.Names.{User, is_busy, is_released, Link, Accounts, Spoken, Turn, GoingTurn, RunOf, said_at, releases, arrival}
-use Rattle.link_run.proofs.Names.{Crosses, Carries, IsCarried, sent_in, Hears}
-use Rattle.turn_bound.proofs.Names.{BusyLine, KeepsTime, NeverBusy}
+use Rattle.turn_bound.proofs.Names.{◌≡◌, ℕ, zero, suc, ◌+◌, ◌*◌, ◌≤◌, Bool, true, false, List, [], ◌∷◌, drop, map, length, arith, refl, sym}
+use Rattle.turn_bound.proofs.Names.{◌∙◌, ap, subst, Option, Some, None, Ok, slice_get, AllByRecursion, Role, Originator, Answerer, other}
+use Rattle.turn_bound.proofs.Names.{of, Heard, is_connected, Said, speak, User, is_busy, is_released, Link, Accounts, Spoken, Turn}
+use Rattle.turn_bound.proofs.Names.{GoingTurn, RunOf, releases, arrival, Crosses, Carries, IsCarried, sent_in, BusyLine, NeverBusy}
+use Rattle.turn_bound.proofs.Names.{KeepsTime}
+use Rattle.link_account.proofs.Names.{Account}
+use Rattle.link_run.proofs.Names.{said_at}
+use Rattle.link_run.proofs.Names.{Hears}
 use Rattle.turn_bound.proofs.Value.{Rates, rates, AreRates, one_if, IsOf, Stands, weight, rnrs, arrived_weight, arrived_rnrs}
 use Rattle.turn_bound.proofs.Run.{served_account}
 use Rattle.turn_bound.proofs.Serving.{serves-all}
@@ -152,10 +153,7 @@ calm-run delay link (t ∷ ts) ends role n (before, run, g) c =
     let s = serves-all user turn released (of role g.mid) in
     let sp = said-speaks link turn g.mid role o.said o.says in
     let k = says-calm turn sp.0 b o.said (λ x. s.busy_now (ap is_connected (sym s.phase) ∙ x) ∙ never-at link turn role n) sp.1 in
-    subst Unpaused (sym o.after_is) (record {
-      paused = ap (λ m. m.0) k.0 ∙ (ap (λ x. x.paused) s.longer.outgoing ∙ h.paused u.paused);
-      told = k.1 (s.busy_told ∙ (h.told ∙ u.told));
-    })
+    grind (arith, h)
 
 -- phases don't go back
 pub going-run : (delay : Role → ℕ) (link : Link) (ts : List Turn) (before : Accounts) (t : Turn) (after : Accounts) (role : Role)
@@ -211,8 +209,7 @@ few-sent tries period delay link (suc n) (t ∷ ts) ends role k nb (before, run,
     let now : poll_value (turn + 1) (of role ends).phase (of role ends) ≡ poll_value (turn + 1) o.said.account.phase o.said.account =
     ap (λ a. poll_value (turn + 1) a.phase a) o.after_is in
     let later : poll_value (suc turn) (of role ends).phase (of role ends) ≡ poll_value (turn + 1) (of role ends).phase (of role ends) =
-    ap (λ m. poll_value m (of role ends).phase (of role ends)) (omega arith) in
-    omega (arith, one, rest, now, later, nineteen (of_frame frame_poll o.said.sent), ap poll_in o.sent_is)
+    ap (λ m. poll_value m (of role ends).phase (of role ends)) (omega arith) in grind (arith, now, nineteen)
 
 -- what was heard was sent before
 data Split (k : ℕ) (ts : List Turn) : Type 0 where

@@ -1,5 +1,4 @@
-use Rattle.std.proofs.Common.{◌≡◌, ℕ, ◌+◌, ◌-◌, ◌*◌, ◌<◌, ◌≤◌, List, [], ◌∷◌, length, arith, refl, sym, subst}
-use Rattle.turn_bound.proofs.Names.{Account, busy_turns}
+use Rattle.turn_bound.proofs.Names.{◌≡◌, ℕ, ◌+◌, ◌-◌, ◌*◌, ◌<◌, ◌≤◌, List, [], ◌∷◌, length, arith, refl, sym, subst, Account, busy_turns}
 use Rattle.turn_bound.proofs.Value.{Rates, rates, cond-le}
 use Rattle.turn_bound.proofs.Run.{Link, State, Turn, RunOf, start, Totals, potential, Keeps, AreTogether}
 use Rattle.turn_bound.proofs.Lines.{busy-start}

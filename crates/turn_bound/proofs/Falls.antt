@@ -1,12 +1,11 @@
-use Rattle.std.proofs.Common.{◌≡◌, ℕ, ◌+◌, ◌*◌, ◌<◌, ◌≤◌, ◌&&◌, ◌||◌, Bool, true, false, cond, [], length, length-append, arith, refl, sym}
-use Rattle.std.proofs.Common.{◌∙◌, ap, subst, None, Result, Ok, List, ◌++◌, ◌∷◌}
+use Rattle.turn_bound.proofs.Names.{◌≡◌, ℕ, ◌+◌, ◌*◌, ◌<◌, ◌≤◌, ◌&&◌, ◌||◌, Bool, true, false, cond, [], length, length-append, arith, refl}
+use Rattle.turn_bound.proofs.Names.{sym, ◌∙◌, ap, subst, None, Result, Ok, List, ◌++◌, ◌∷◌, Role, Originator, Answerer, Outgoing, wanted}
+use Rattle.turn_bound.proofs.Names.{Arrived, LinkFault, is_connected, is_originator, Said, speak, Slot, Phase, Connected, User, is_busy}
+use Rattle.turn_bound.proofs.Names.{is_closed, is_released, has_finished, busy_left}
 use Rattle.turn_bound.proofs.Truths.{neither-first, neither-second}
-use Rattle.link_account.proofs.Names.{Role, Originator, Answerer, Outgoing, wanted, Arrived, LinkFault, Account, is_connected}
-use Rattle.link_account.proofs.Names.{is_originator, Said, speak, Slot}
-use Rattle.link_run.proofs.Names.{Phase, Connected, User, is_busy, is_closed, is_released, has_finished}
+use Rattle.link_account.proofs.Names.{Account}
 use Rattle.turn_bound.proofs.Value.{Rates, is_free, lasts, one_if, AreRates, value, linked_lives, lives, IsOf, Linked, Stands, dues}
 use Rattle.turn_bound.proofs.Value.{arrived_rnrs, kept}
-use Rattle.turn_bound.proofs.Names.{busy_left}
 use Rattle.turn_bound.proofs.Run.{served_account, Link, State, Turn, GoingTurn, arrival, left_on, slot_of, weights, rnrs_on, Totals}
 use Rattle.turn_bound.proofs.Run.{is_alive, stall, potential, AreTogether}
 use Rattle.turn_bound.proofs.Lines.{AllLight, arrived-well, weights-snoc, rnrs-snoc, light-snoc, weights-most, dues-most, busy-falls}
@@ -78,15 +77,13 @@ falls-busy : (q k v v' w w' st st' x x' ao aa bo ba l m : ℕ) → v' + l ≤ v 
     → 1 ≤ bo + ba → st' ≤ k → k + 1 ≤ q
     → v' + w' + st' + q * x' + 1 ≤ v + w + st + q * x
 falls-busy q k v v' w w' st st' x x' ao aa bo ba l m h1 h2 h3 h4 h5 h6 =
-    let part : q * (x' + ao + aa + 1) ≤ q * x = kept q (x' + ao + aa + 1) x (omega (arith, h3, h4)) in
-    omega (arith, h1, h2, part, h5, h6)
+    let part : q * (x' + ao + aa + 1) ≤ q * x = kept q (x' + ao + aa + 1) x (omega (arith, h3, h4)) in grind (arith)
 
 falls-calm : (q v v' w w' st st' x x' ao aa b l m : ℕ) → v' + l ≤ v + q * ao → w' + m ≤ w + q * aa → x' + ao + aa + b ≤ x
     → st' + 1 ≤ st + l + m
     → v' + w' + st' + q * x' + 1 ≤ v + w + st + q * x
 falls-calm q v v' w w' st st' x x' ao aa b l m h1 h2 h3 h4 =
-    let part : q * (x' + ao + aa) ≤ q * x = kept q (x' + ao + aa) x (omega (arith, h3)) in
-    omega (arith, h1, h2, part, h4)
+    let part : q * (x' + ao + aa) ≤ q * x = kept q (x' + ao + aa) x (omega (arith, h3)) in grind (arith)
 
 -- the potential, with the phases apart
 abbrev pub stall_of : Rates → Totals → ℕ → Bool → State → ℕ
@@ -241,25 +238,14 @@ standstill z link totals turn s t u f h g oo oa before after dead dead' calm_o c
     let wo = to.linked.sends.window in
     let wa = ta.linked.sends.window in
     let mo : is_originator s.orig.setup.role || s.orig.numbered ≡ true = ap (λ r. is_originator r || s.orig.numbered) io.role_is in
-    let ma : is_originator s.answ.setup.role || s.answ.numbered ≡ true =
-    spoken-to-a (is_originator s.answ.setup.role) s.answ.numbered (λ n. polled-not s.orig (before.polls po n) quiet_o) in
+    let ma : is_originator s.answ.setup.role || s.answ.numbered ≡ true = grind (arith, spoken-to-a, polled-not) in
     let xo = stilled io totals.orig lo po to b.orig.all quiet_o quiet_o' calm_o mo (b.orig.more (ap is_connected to.phase) wo) in
     let xa = stilled ia totals.answ la pa ta b.answ.all quiet_a quiet_a' calm_a ma (b.answ.more (ap is_connected ta.phase) wa) in
     let free = calm-free (is_free totals.orig s.orig.outgoing) (is_free totals.answ s.answ.outgoing) (λ no na.
     let r = released-not g.orig_mid.phase to.mid_phase in
     let fo = finished-at (is_released g.orig_mid.phase) r to xo lo b.orig.all quiet_o no in
     let fa = finished-at (is_released g.orig_mid.phase) r ta xa la b.answ.all quiet_a na in
-    all-three _ _ _ fo fa (ap is_originator io.b_role) to.unreleased) in
-    omega (
-      arith,
-      xo.pays,
-      xa.pays,
-      free,
-      weights-snoc (left_on link.orig.delay s.forward) so,
-      weights-snoc (left_on link.answ.delay s.back) sa,
-      af.weighs,
-      ab.weighs,
-    )
+    all-three _ _ _ fo fa (ap is_originator io.b_role) to.unreleased) in grind (arith, weights-snoc)
   where
     all-three : (x y o : Bool) → x ≡ true → y ≡ true → o ≡ true → (x && y) && o ≡ false → ⊥
     all-three x y o e f g k = let wrong : true ≡ false = sym (rw (e, f, g) refl) ∙ k in cc

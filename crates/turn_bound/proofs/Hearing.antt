@@ -1,24 +1,22 @@
-use Rattle.std.proofs.Common.{◌≡◌, ℕ, ◌≤◌, Bool, true, false, List, arith, Some, ◌+◌, ◌-◌, ◌*◌, ◌<◌, ◌||◌, length, refl, subst, Option, sym}
-use Rattle.std.proofs.Common.{◌∙◌, ap, Ok, inl, inr}
-use Rattle.link_account.proofs.Names.{Offer, agree, offer_in, nat_tests, Role, Originator, Answerer, Outgoing, OwnBreaks, after_answer}
-use Rattle.link_account.proofs.Names.{Account, Frame, I, Rr, Rnr, Rej, Srej, Arrived, Incoming, Sabme, Disc, Ui, Ua, Xid, is_originator}
-use Rattle.link_account.proofs.Names.{other, hear, on_nothing, trying, owing}
+use Rattle.turn_bound.proofs.Names.{◌≡◌, ℕ, ◌≤◌, Bool, true, false, List, arith, Some, ◌+◌, ◌-◌, ◌*◌, ◌<◌, ◌||◌, length, refl, subst}
+use Rattle.turn_bound.proofs.Names.{Option, sym, ◌∙◌, ap, Ok, inl, inr, TheirBreaks, no_breaks, paused_at, ConnectedWays, EarlyWays}
+use Rattle.turn_bound.proofs.Names.{Numbers, acked-keeps, acked_back-keeps, numbered_with, resumed-keeps, nat_tests, Role, Originator}
+use Rattle.turn_bound.proofs.Names.{Answerer, Outgoing, Frame, I, Rr, Rnr, Rej, Arrived, Incoming, Sabme, Disc, Ui, is_originator, other}
+use Rattle.turn_bound.proofs.Names.{hear, on_nothing, trying, size_for, window_for, connected, first_wait, on_xid_command, on_xid_response}
+use Rattle.turn_bound.proofs.Names.{timer_after, Owes, Phase, Connected, Detecting, Negotiating, Establishing, Releasing, Closed, Terms}
+use Rattle.link_account.proofs.Names.{Offer, agree, offer_in, OwnBreaks, after_answer}
+use Rattle.link_account.proofs.Names.{Account, Srej, Ua, Xid}
+use Rattle.link_account.proofs.Names.{owing}
 use Rattle.xid_params.specs.Terms.{lowered, default_offer}
 use Rattle.xid_params.proofs.Allowed.{reads_allowed_always}
-use Rattle.link_run.proofs.Names.{Phase, Connected, Detecting, Negotiating, Establishing, Releasing, Closed}
-use Rattle.turn_bound.proofs.Names.{ConnectedWays, EarlyWays, Numbers, TheirBreaks, acked-keeps, acked_back-keeps, connected, first_wait}
-use Rattle.turn_bound.proofs.Names.{no_breaks, numbered_with, on_xid_command, on_xid_response, paused_at, resumed-keeps, size_for}
-use Rattle.turn_bound.proofs.Names.{timer_after, window_for}
 use Rattle.link_account.proofs.HearWays.{by-ways}
 use Rattle.turn_bound.proofs.Value.{frame_rnrs, value, lives, IsAck, IsSilent, Linked, Stands, Rates, AreRates, is_waiting, Sends, ends}
-use Rattle.turn_bound.proofs.Value.{Breaks, is_breaking, worth, break_left, time_left, linked_left, linked_lives, IsOf, Unlinked, Tries}
+use Rattle.turn_bound.proofs.Value.{Breaks, is_breaking, worth, time_left, linked_left, linked_lives, IsOf, Unlinked, Tries}
 use Rattle.turn_bound.proofs.Value.{phases_left, arrived_rnrs, tries_fit, left-some, ticks-now}
 use Rattle.turn_bound.proofs.Sender.{acked-heard, Heard, HeardWell, heard-well, heard-busy, meant-range, heard-advanced, heard-resumed}
 use Rattle.turn_bound.proofs.Sender.{heard-selected}
 use Rattle.turn_bound.proofs.Sending.{later-sends, later-breaks, ChangedWell, answered-well, ends-same, or-false}
-use Rattle.link_account.specs.declared.owes.Owes.{Owes}
 use Rattle.lapm_frames.specs.declared.arrived.Arrived.TheVariants as arrivals
-use Rattle.xid_params.specs.declared.terms.Terms.{Terms}
 use Rattle.lapm_frames.specs.declared.seen.Seen.TheVariants.{Odp, Adp}
 use Rattle.lapm_sender.specs.Outgoing as outgoing
 use Rattle.lapm_receiver.specs.Incoming as incoming
@@ -62,20 +60,7 @@ pub connected-well : (z : Rates) (total breaks turn more : ℕ) (role : Role) (a
     → IsAck b.their_breaks.ack → IsSilent role b.numbered b.outgoing.high b.wait.timer → b.phase ≡ Connected → b.setup ≡ a.setup
     → b.outgoing.pieces ≡ a.outgoing.pieces → b.outgoing.ended ≡ a.outgoing.ended → b.own_breaks.lengths ≡ a.own_breaks.lengths
     → HeardAs z total breaks turn more role Connected a Connected b
-connected-well z total breaks turn more role a b s c ack silent phase setup pieces ended lengths = record {
-  phase = phase;
-  stands = record { sends = s.sends; breaks = c.sound; ack = ack; silent = silent };
-  setup = setup;
-  pieces = pieces;
-  ended = ended;
-  lengths = lengths;
-  falls = omega (
-    arith,
-    s.falls,
-    c.falls,
-    ends-both z.room (is_waiting a.outgoing) (is_breaking turn a.own_breaks) (is_waiting b.outgoing) (is_breaking turn b.own_breaks),
-  );
-}
+connected-well z total breaks turn more role a b s c ack silent phase setup pieces ended lengths = grind (arith, ends-both)
 
 same-heard : (z : Rates) (total turn : ℕ) (o : Outgoing) (timer : Option ℕ) → Sends z turn turn o timer
     → HeardWell z total turn o timer o timer 0
@@ -160,30 +145,7 @@ none-broken z before turn = record { low = omega arith; high = omega arith; due 
 
 begins-o : (z : Rates) (total breaks turn : ℕ) (a : Account) → AreRates z → IsOf z a.setup → Unlinked a
     → HeardAs z total breaks turn 0 Originator Establishing a Connected (connected_as Originator turn a)
-begins-o z total breaks turn a y k u = record {
-  phase = refl;
-  stands = record {
-    sends = record {
-      front_from = omega arith;
-      from_high = omega arith;
-      high_pieces = omega arith;
-      high_window = omega arith;
-      window = u.window_o;
-      chosen = tt;
-      tries_are = k.tries;
-      cause = refl;
-      ticks = ticks-now z turn;
-    };
-    breaks = subst (Breaks z (turn + 1) turn) (sym u.breaks) (none-broken z (turn + 1) turn);
-    ack = subst IsAck (sym u.ack) tt;
-    silent = tt;
-  };
-  setup = refl;
-  pieces = ap (λ o. o.pieces) (sym u.outgoing);
-  ended = ap (λ o. o.ended) (sym u.outgoing);
-  lengths = refl;
-  falls = omega (arith, ap (worth z total) u.outgoing, ap (break_left z turn) u.breaks, y.quota);
-}
+begins-o z total breaks turn a y k u = grind (arith, ticks-now, none-broken)
 
 begins-a : (z : Rates) (total breaks turn : ℕ) (p : Phase) (a : Account) → AreRates z → IsOf z a.setup → Unlinked a
     → lives turn Answerer p a ≡ false → time_left z turn Answerer p a ≡ 0
@@ -221,21 +183,8 @@ o-negotiating : (z : Rates) (total breaks turn : ℕ) (a : Account) (offer : Off
     → Unlinked a → offer_in info ≡ Some offer
     → (q : Phase) × HeardAs z total breaks turn 0 Originator Negotiating a q (on_xid_response (Some offer) turn a)
 o-negotiating z total breaks turn a offer info y k u f =
-    let windows = agreed-windows a.setup.offer offer (k.tx_window, k.rx_window) (read-windows info offer f) in (
-      Establishing,
-      record {
-        phase = refl;
-        stands = (
-          on-terms a (agree a.setup.offer offer) u windows,
-          tries-now z turn Establishing a,
-        );
-        setup = refl;
-        pieces = refl;
-        ended = refl;
-        lengths = refl;
-        falls = omega (arith, y.quota);
-      },
-    )
+    let windows = agreed-windows a.setup.offer offer (k.tx_window, k.rx_window) (read-windows info offer f) in
+    grind (arith, on-terms, tries-now)
 
 -- an answerer before it is Connected
 a-xid : (z : Rates) (total breaks turn : ℕ) (p : Phase) (a : Account) (offer : Offer) (info : List ℕ) → lives turn Answerer p a ≡ false
@@ -268,15 +217,12 @@ a-sabme-default z total breaks turn a pf y k u er = grind (arith, a-sabme, on-te
 closes : (z : Rates) (total breaks turn : ℕ) (a b : Account) → AreRates z → Linked z turn turn Answerer a → b.phase ≡ Closed
     → b.setup ≡ a.setup → b.outgoing ≡ a.outgoing → b.own_breaks ≡ a.own_breaks
     → HeardAs z total breaks turn 0 Answerer Connected a Closed b
-closes z total breaks turn a b y h phase setup outgoing own = record {
-  phase = phase;
-  stands = tt;
-  setup = setup;
-  pieces = ap (λ o. o.pieces) outgoing;
-  ended = ap (λ o. o.ended) outgoing;
-  lengths = ap (λ o. o.lengths) own;
-  falls = go (linked_lives turn a) refl;
-}
+closes z total breaks turn a b y h phase setup outgoing own = assumption (
+  ap (λ o. o.pieces) outgoing,
+  ap (λ o. o.ended) outgoing,
+  ap (λ o. o.lengths) own,
+  go (linked_lives turn a) refl,
+)
   where
     go : (l : Bool) → linked_lives turn a ≡ l
         → value z total breaks turn Answerer Closed b + ends z.room
@@ -356,24 +302,9 @@ module _ (z : Rates) (total breaks turn : ℕ) (a : Account) (y : AreRates z) (k
         (o-negotiating z total breaks turn a offer info y k (o-stands Negotiating p).0 f);
     sabme_first = λ p r pf. wrong r;
     sabme = λ p r pf. wrong r;
-    ua = λ p. o-now (arrivals.Frame (Ua true)) _ Establishing p (
-      Connected,
-      subst (λ r. HeardAs z total breaks turn 0 Originator Establishing a Connected (connected_as r turn a))
-          (sym er) (begins-o z total breaks turn a y k (o-stands Establishing p).0),
-    );
+    ua = grind (arith, o-now, begins-o, o-stands);
     disc = λ p pf. still z total breaks turn Originator a y k s er all (arrivals.Frame (Disc pf)) _;
-    closes = λ p frame f. let h = o-stands Releasing p in o-now (arrivals.Frame frame) _ Releasing p (
-      Closed,
-      record {
-        phase = refl;
-        stands = tt;
-        setup = refl;
-        pieces = refl;
-        ended = refl;
-        lengths = refl;
-        falls = omega (arith, tries_fit z a.wait.try_count y h.tried, h.within);
-      },
-    );
+    closes = grind (arith, o-stands, o-now, tries_fit);
   }
     where
       wrong : {A : Type 0} → a.setup.role ≡ Answerer → A
@@ -400,10 +331,8 @@ module _ (z : Rates) (total breaks turn : ℕ) (a : Account) (y : AreRates z) (k
           (a-xid z total breaks turn Negotiating a offer info refl refl k (a-stands Negotiating q) f)
     ];
     agrees = λ p r pf info offer f. wrong r;
-    sabme_first = λ p r pf. a-now (arrivals.Frame (Sabme pf)) _ Detecting p
-        (Connected, a-sabme-default z total breaks turn a pf y k (a-stands Detecting p) er);
-    sabme = λ p r pf. a-now (arrivals.Frame (Sabme pf)) _ Negotiating p
-        (Connected, a-sabme z total breaks turn Negotiating a pf refl refl y k (a-stands Negotiating p) er);
+    sabme_first = grind (arith, a-now, a-sabme-default, a-stands);
+    sabme = grind (arith, a-now, a-sabme, a-stands);
     ua = λ p. absurd (a-stands Establishing p);
     disc = λ p pf. still z total breaks turn Answerer a y k s er all (arrivals.Frame (Disc pf)) _;
     closes = λ p frame f. absurd (a-stands Releasing p);

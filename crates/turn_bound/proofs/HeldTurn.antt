@@ -1,16 +1,17 @@
 -- A Connected end with a segment to send and nothing outstanding sends it, or something else goes first that it pays for.
-use Rattle.std.proofs.Common.{◌≡◌, ℕ, ◌+◌, ◌-◌, ◌%◌, ◌<◌, ◌≤◌, ◌&&◌, ◌||◌, ◌⊎◌, min, Bool, true, false, cond, nat_eq, [], ◌∷◌, subst, ◌++◌}
-use Rattle.std.proofs.Common.{length, slice_index_or, inl, inr, arith, refl, sym, ◌∙◌, ap, Some, None, not, nat_lt, Ok}
-use Rattle.link_account.proofs.Names.{is_some, nat_tests, is_originator, next_number, Incoming, BreakWord, Brk, OwnBreaks, waits, ticked}
-use Rattle.link_account.proofs.Names.{Account, Said, may_send, Role, wanted, Arrived, is_connected, speak}
-use Rattle.turn_bound.proofs.Names.{NoWord, NoneDue, Steps, differs, is_whole, steps-so}
+use Rattle.turn_bound.proofs.Names.{◌≡◌, ℕ, ◌+◌, ◌-◌, ◌%◌, ◌<◌, ◌≤◌, ◌&&◌, ◌||◌, ◌⊎◌, min, Bool, true, false, cond, nat_eq, [], ◌∷◌, subst}
+use Rattle.turn_bound.proofs.Names.{◌++◌, length, slice_index_or, inl, inr, arith, refl, sym, ◌∙◌, ap, Some, None, not, nat_lt, Ok}
+use Rattle.turn_bound.proofs.Names.{is_whole, is_some, nat_tests, is_originator, next_number, Incoming, BreakWord, Brk, Said, may_send}
+use Rattle.turn_bound.proofs.Names.{Role, wanted, Arrived, is_connected, speak, NoWord, Steps, steps-so, differs, Connected, User, is_busy}
+use Rattle.turn_bound.proofs.Names.{is_released, NoneDue}
+use Rattle.link_account.proofs.Names.{OwnBreaks, waits, ticked}
+use Rattle.link_account.proofs.Names.{Account}
 use Rattle.turn_bound.proofs.Value.{Rates, AreRates, is_waiting, Sends, IsOf, ends, one_if, lasts, sender_value, Linked, Stands}
 use Rattle.turn_bound.proofs.Value.{arrived_weight, arrived_rnrs}
 use Rattle.turn_bound.proofs.Sending.{sent-well, ends-same}
 use Rattle.turn_bound.proofs.StillTurn.{asks-rej, idle-next, Stays, stays, or-numbered}
 use Rattle.turn_bound.proofs.Taking.{own_value, held_value, owed_by, may_send_at, frame_poll, TakesNumber, Takes, Closes, takes, served-own}
 use Rattle.turn_bound.proofs.Taking.{served-owes}
-use Rattle.link_run.proofs.Names.{Connected, User, is_busy, is_released}
 use Rattle.turn_bound.proofs.Sender.{heard-well}
 use Rattle.turn_bound.proofs.Speaking.{Spoke, spoke, untimed, stopped}
 use Rattle.turn_bound.proofs.Falls.{Offered, full-or-ended}
@@ -34,10 +35,7 @@ ticks-value z turn b own y k h =
     go : (w : Bool) → waits b.own_breaks ≡ w → (due : Bool) → nat_eq turn (b.own_breaks.set + b.setup.period) ≡ due → (spent' : Bool)
         → cond (w && due) (cond spent' None (Some (record b.own_breaks { brk = true; set = turn; count = b.own_breaks.count + 1 })))
         (Some b.own_breaks) ≡ Some own → own_value (turn + 1) own ≤ own_value turn b.own_breaks + 1
-    go false w due d s f = quiet cc
-    go true w false d s f = quiet cc
-    go true w true d true f = cc
-    go true w true d false f = grind (arith)
+    go w w2 due d s f = grind (arith, quiet)
 
 -- A Connected account whose timers are done, with a segment to send, nothing waited for and no answer due.
 pub record Ready (z : Rates) (turn : ℕ) (a : Account) : Type 0 where
@@ -124,8 +122,7 @@ module _ (z : Rates) (turn : ℕ) (special : Bool) (a : Account) (y : AreRates z
       | inl n ↦ absurd (none-new a.owes.busy a.owes.busy_told h.busy h.told n)
       | inr o ↦ absurd (some-free z turn a h o.0)
     ];
-    rej = λ b w n k. holds _ refl refl
-        (Much (omega (arith, fresh4, rejected a.incoming n k.kind (asks-rej a.incoming n k.kind k.number))));
+    rej = grind (arith, holds, fresh4, rejected, asks-rej);
     srej = λ b w e n k. holds _ refl refl (Srejs k.kind (unasked e w) (omega (arith, four e, kept a.incoming n k.kind)));
     flags = λ i. absurd (some-free z turn a h i.segment);
   }
@@ -213,9 +210,7 @@ module _ {z : Rates} {user : User} {turn : ℕ} {role : Role} {a : Account} {arr
       front-said = ap (λ m. m.1) c.0
 
       may-said : Takes turn polled a mid → may_send_at said.account ≡ true
-      may-said t = or-numbered (is_originator a.setup.role) (is_originator said.account.setup.role) a.numbered said.account.numbered
-          (ap (λ x. is_originator x.role) (p.stepped.setup ∙ (p.is_timed.setup ∙ s.setup)))
-          (λ n. p.stepped.numbered ∙ (p.is_timed.numbered ∙ (s.serves.numbered ∙ t.numbered n))) l.may
+      may-said t = grind (arith, or-numbered, p, s)
 
       may-served : Takes turn polled a mid → may_send_at b ≡ true
       may-served t = grind (arith, or-numbered)
@@ -236,10 +231,7 @@ module _ {z : Rates} {user : User} {turn : ℕ} {role : Role} {a : Account} {arr
           pieces-said = p.stepped.pieces ∙ p.is_timed.pieces
 
           more : b.outgoing.front < length b.outgoing.pieces
-          more = full-or-ended total b.outgoing
-              (ap (λ x. cond x (wanted b.outgoing) None) (sym (ap is_connected s.phase)) ∙ s.serves.wants_none) s.linked.sends.window
-              (λ e. ap (λ x. length x) (sym pieces-said) ∙ offered.whole (p.stepped.ended ∙ (p.is_timed.ended ∙ e)))
-              (omega (arith, less, front-said))
+          more = grind (arith, full-or-ended, s, pieces-said, p, less, front-said)
 
           unreplied : a.owes.reply ≡ false
           unreplied = l.none_due.reply (ap is_released l.phase)

@@ -1,7 +1,7 @@
-use Rattle.std.proofs.Common.{◌≡◌, ℕ, ◌≤◌, Bool, true, arith, refl, Result, Ok, Err}
-use Rattle.link_account.proofs.Names.{LinkFault, Account, is_connected, Said, speak}
+use Rattle.turn_bound.proofs.Names.{◌≡◌, ℕ, ◌≤◌, Bool, true, arith, refl, Result, Ok, Err, LinkFault, is_connected, Said, speak, Ways}
+use Rattle.turn_bound.proofs.Names.{by-ways}
+use Rattle.link_account.proofs.Names.{Account}
 use Rattle.turn_bound.proofs.Value.{one_if, two_if, weight, rnrs}
-use Rattle.turn_bound.proofs.Names.{Ways, by-ways}
 
 -- what a slot may weigh
 abbrev pub Light : Bool → Said → Type 0

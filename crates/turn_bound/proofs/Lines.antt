@@ -1,8 +1,7 @@
-use Rattle.std.proofs.Common.{◌≡◌, ℕ, ◌+◌, ◌*◌, ◌≤◌, Bool, List, [], ◌∷◌, ◌++◌, length, arith, refl}
-use Rattle.link_account.proofs.Names.{AllByRecursion, Arrived, Account, Slot}
-use Rattle.link_run.proofs.Names.{is_busy}
+use Rattle.turn_bound.proofs.Names.{◌≡◌, ℕ, ◌+◌, ◌*◌, ◌≤◌, Bool, List, [], ◌∷◌, ◌++◌, length, arith, refl, AllByRecursion, Arrived, Slot}
+use Rattle.turn_bound.proofs.Names.{is_busy, BusyLine, busy_left, busy_turns}
+use Rattle.link_account.proofs.Names.{Account}
 use Rattle.turn_bound.proofs.Value.{one_if, weight, rnrs, arrived_weight, arrived_rnrs, dues, two_if, four_if}
-use Rattle.turn_bound.proofs.Names.{BusyLine, busy_left, busy_turns}
 use Rattle.turn_bound.proofs.Run.{arrival, left_on, weights, rnrs_on}
 
 abbrev pub IsLight : Slot → Type 0

@@ -1,9 +1,8 @@
-use Rattle.std.proofs.Common.{arith, ◌≡◌, ℕ, ◌&&◌, ◌||◌, not, Bool, true, false, refl, sym, ◌∙◌, ap, Option, Ok, inl, inr}
+use Rattle.turn_bound.proofs.Names.{arith, ◌≡◌, ℕ, ◌&&◌, ◌||◌, not, Bool, true, false, refl, sym, ◌∙◌, Option, Ok, numbers-alike}
+use Rattle.turn_bound.proofs.Names.{Originator, Answerer, Frame, Rr, Rnr, Rej, Outgoing, resumed, Arrived, hear, without_adp, Phase}
+use Rattle.turn_bound.proofs.Names.{Connected, Answer, is_closed, is_released}
 use Rattle.turn_bound.proofs.Truths.{or-first, or-true}
-use Rattle.link_account.proofs.Names.{Originator, Answerer, Frame, Rr, Rnr, Rej, Outgoing, resumed, Arrived, Account, is_originator, hear}
-use Rattle.link_account.proofs.Names.{without_adp}
-use Rattle.link_run.proofs.Names.{Phase, Detecting, Negotiating, Establishing, Connected, Answer, is_closed, is_released}
-use Rattle.turn_bound.proofs.Names.{acked, acked_back, ends_wait, numbers-alike}
+use Rattle.link_account.proofs.Names.{Account}
 use Rattle.link_account.proofs.HearWays.{Ways, by-ways}
 pub use Rattle.link_run.proofs.Meeting.{is_ua as frame_ua, is_disc as frame_disc, carries as of_frame, brings as of_arrived}
 pub use Rattle.link_run.proofs.Meeting.{owes_ua as is_ua_due}
@@ -22,9 +21,6 @@ pub record OHeard (ua final : Bool) (a b : Account) : Type 0 where
   pub released : is_released a.phase ≡ true → is_released b.phase ≡ true
   pub awaits : (a.phase ≡ Connected → a.outgoing.awaited ≡ true) → final ≡ false → b.phase ≡ Connected → b.outgoing.awaited ≡ true
 
-o-same : (ua final : Bool) (a b : Account) → b.phase ≡ a.phase → b.outgoing.awaited ≡ a.outgoing.awaited → OHeard ua final a b
-o-same ua final a b p w = grind (arith)
-
 -- it is not begun after it
 o-early : (ua final : Bool) (a b : Account) (p q : Phase) → a.phase ≡ p → b.phase ≡ q → is_released p ≡ false → is_begun q ≡ false
     → OHeard ua final a b
@@ -34,57 +30,10 @@ pub resumed-awaited : (o : Outgoing) → (resumed o).awaited ≡ o.awaited
 resumed-awaited o = grind (arith)
 
 -- a number is heard: the wait goes on unless the answer came
-acked-awaits : (command pf final : Bool) (a : Account) (n : ℕ) → ends_wait command pf a ≡ final → pf && not command ≡ false
-    → ((acked final a.outgoing n).awaited ≡ a.outgoing.awaited) × ((acked_back final a.outgoing n).awaited ≡ a.outgoing.awaited)
-acked-awaits command pf b a n e f = grind (arith)
-
-o-number : (ua final : Bool) (a b : Account) → a.phase ≡ Connected → b.phase ≡ Connected
-    → (final ≡ false → b.outgoing.awaited ≡ a.outgoing.awaited) → OHeard ua final a b
-o-number ua final a b e f k = grind (arith)
 
 o-ways : (turn : ℕ) (a : Account) → a.setup.role ≡ Originator
     → Ways (λ x b. OHeard (of_arrived frame_ua x) (of_arrived frame_final x) a b) turn a
-o-ways turn a er = record {
-  nothing = o-same false false a _ refl refl;
-  linked = λ e. record {
-    pattern = λ seen. o-same false false a a refl refl;
-    plain = λ frame p. o-same _ _ a a refl refl;
-    numbers = record {
-      i = λ ns nr pf info n m. o-number false false a _ e e (λ g. refl);
-      rr = λ command pf nr n final f m. o-number false _ a _ e e (λ g. resumed-awaited _ ∙ (acked-awaits command pf final a n f g).0);
-      rej = λ command pf nr n final f m. o-number false _ a _ e e (λ g. resumed-awaited _ ∙ (acked-awaits command pf final a n f g).1);
-      rnr = λ command pf nr n final f m. o-number false _ a _ e e (λ g. (acked-awaits command pf final a n f g).0);
-      srej = λ command pf nr n f m. o-number false false a _ e e (λ g. refl);
-    };
-    sabme = λ pf n r. never r;
-    disc = λ pf r. never r;
-    brk = λ command pf info number length_octet q. o-same false false a _ refl refl;
-    brkack = λ command pf info number length_octet q. o-same false false a _ refl refl;
-  };
-  early = λ c. record {
-    ignores = λ x f. o-same _ _ a a refl refl;
-    detects = λ p r. o-early false false a _ Detecting Negotiating p refl refl refl;
-    detected = λ p r. never r;
-    xid = λ p r pf info offer f. never r;
-    agrees = λ p r pf info offer f. o-early false false a _ Negotiating Establishing p refl refl refl;
-    sabme_first = λ p r pf. never r;
-    sabme = λ p r pf. never r;
-    ua = λ p. record {
-      begins = λ h. or-true (is_begun a.phase);
-      released = λ h. let wrong : true ≡ false = sym h ∙ ap is_released p in cc;
-      awaits = λ h f i. ap is_originator er;
-    };
-    disc = λ p pf. o-same false false a _ refl refl;
-    closes = λ p frame f. record {
-      begins = λ h. or-first (is_begun a.phase) _ (ap is_begun p);
-      released = λ h. refl;
-      awaits = λ h g i. cc;
-    };
-  };
-}
-  where
-    never : {A : Type 0} → a.setup.role ≡ Answerer → A
-    never r = let wrong : Originator ≡ Answerer = sym er ∙ r in cc
+o-ways turn a er = grind (arith)
 
 pub o-hears : (arrived : Arrived) (turn : ℕ) (a mid : Account) → a.setup.role ≡ Originator → hear turn arrived a ≡ Ok mid
     → OHeard (of_arrived frame_ua arrived) (of_arrived frame_final arrived) a mid
@@ -113,45 +62,8 @@ a-begun disc a b e c r n = record { begun = λ h. e; closes = c; due = λ k h. e
 a-ways : (turn : ℕ) (a : Account) → a.setup.role ≡ Answerer → Ways (λ x b. AHeard (of_arrived frame_disc x) a b) turn a
 a-ways turn a er = record {
   nothing = a-same false a _ refl (less a.owes.answer) refl refl;
-  linked = λ e. record {
-    pattern = λ seen. a-same false a a refl (λ h. h) refl refl;
-    plain = λ frame p. a-same _ a a refl (λ h. h) refl refl;
-    numbers = numbers-alike _ turn a (λ frame new incoming timer reply urgent k. record {
-      begun = λ h. h;
-      closes = λ h. closed-released a.phase (frame_disc frame) h;
-      due = λ d h. d h;
-      reply = λ d h. refl;
-      numbered = λ h. refl;
-    });
-    sabme = λ pf n r. a-begun false a _ (ap is_begun e) (λ h. closed-released a.phase false h) refl refl;
-    disc = λ pf r. a-begun true a _ refl (λ h. or-true (is_released a.phase)) refl refl;
-    brk = λ command pf info number length_octet q. a-same false a _ refl (λ h. h) refl refl;
-    brkack = λ command pf info number length_octet q. a-same false a _ refl (λ h. h) refl refl;
-  };
-  early = λ c. record {
-    ignores = λ x f. a-same _ a a refl (λ h. h) refl refl;
-    detects = λ p r. never r;
-    detected = λ p r. a-same false a _ refl (λ h. cc) refl refl;
-    xid = λ p r pf info offer f. record {
-      begun = λ h. let wrong : true ≡ false = sym h ∙ elim p [ inl q ↦ ap is_begun q | inr q ↦ ap is_begun q ] in cc;
-      closes = λ h. cc;
-      due = λ k h. cc;
-      reply = λ k h. k h;
-      numbered = λ h. h;
-    };
-    agrees = λ p r pf info offer f. never r;
-    sabme_first = λ p r pf. a-begun false a _ refl (λ h. cc) refl refl;
-    sabme = λ p r pf. a-begun false a _ refl (λ h. cc) refl refl;
-    ua = λ p. record { begun = λ h. refl; closes = λ h. cc; due = λ k h. refl; reply = λ k h. k h; numbered = λ h. h };
-    disc = λ p pf. a-same true a _ refl (λ h. cc) refl refl;
-    closes = λ p frame f. record {
-      begun = λ h. refl;
-      closes = λ h. or-first (is_released a.phase) _ (ap is_released p);
-      due = λ k h. refl;
-      reply = λ k h. k h;
-      numbered = λ h. h;
-    };
-  };
+  linked = grind (arith, a-same, numbers-alike, closed-released, a-begun, or-true);
+  early = grind (arith, a-same, never, a-begun, or-first);
 }
   where
     less : (m : Option Answer) → is_ua_due (without_adp m) ≡ true → is_ua_due m ≡ true

@@ -1,10 +1,9 @@
-use Rattle.std.proofs.Common.{◌≡◌, ◌≤◌, ℕ, ◌&&◌, not, Bool, true, false, refl, sym, ◌∙◌, ap, arith, Ok, inl, inr, ◌||◌, List, [], ◌∷◌, ◌++◌}
-use Rattle.std.proofs.Common.{length, subst}
+use Rattle.turn_bound.proofs.Names.{◌≡◌, ◌≤◌, ℕ, ◌&&◌, not, Bool, true, false, refl, sym, ◌∙◌, ap, arith, Ok, inl, inr, ◌||◌, List, [], ◌∷◌}
+use Rattle.turn_bound.proofs.Names.{◌++◌, length, subst, trying, Said, frame_for, ready_frame, nr_of, speak, AllByRecursion, Answerer}
+use Rattle.turn_bound.proofs.Names.{Frame, Sent, Slot, arrives, Steps, by-ways, next-keeps, steps-so, tries-alike, Phase, Releasing, Answer}
+use Rattle.turn_bound.proofs.Names.{is_closed, is_released, Connected}
 use Rattle.turn_bound.proofs.Truths.{not-true}
-use Rattle.link_account.proofs.Names.{Account, trying, Said, frame_for, ready_frame, nr_of, speak, AllByRecursion, Answerer, Frame, Sent}
-use Rattle.link_account.proofs.Names.{Slot, arrives}
-use Rattle.link_run.proofs.Names.{Phase, Releasing, Answer, is_closed, is_released, Connected}
-use Rattle.turn_bound.proofs.Names.{Steps, by-ways, next-keeps, polling_at, steps-so, tries-alike}
+use Rattle.link_account.proofs.Names.{Account}
 use Rattle.link_run.proofs.Keeping.{stage}
 use Rattle.link_run.proofs.Saying.{Part, is-said}
 use Rattle.link_run.proofs.Speaking.{speaks-phase}
@@ -49,18 +48,7 @@ abbrev Answered : Account → Said → Type 0
 Answered a = Replies a.outgoing.awaited a.owes.reply
 
 steps : (turn : ℕ) (special : Bool) (a : Account) → Steps (Answered a) turn special a
-steps turn special a = record {
-  answers = λ d e. other _ _ _ refl (λ h. h) (answer-final d a);
-  final = λ n e. record { final = λ h. e; reply = λ h. e; awaits = λ h. h };
-  poll = λ n r e. other _ _ _ refl (λ h. h) (ready-final a.owes.busy true true (nr_of a));
-  segment = λ b u n e. other _ _ _ refl (λ h. (next-keeps a.outgoing).awaited ∙ h) refl;
-  brkack = λ b s word e. other _ _ _ refl (λ h. h) refl;
-  brk = λ b s k word e. other _ _ _ refl (λ h. h) refl;
-  tell = λ b w e. other _ _ _ refl (λ h. h) (ready-final a.owes.busy false false (nr_of a));
-  rej = λ b w n e. other _ _ _ refl (λ h. h) refl;
-  srej = λ b w s n e. other _ _ _ refl (λ h. h) refl;
-  flags = λ i. other _ _ _ refl (λ h. h) refl;
-}
+steps turn special a = grind (arith, other, answer-final, ready-final, nr_of, next-keeps)
 
 replies : (turn : ℕ) (release : Bool) (a : Account) (said : Said) → speak turn release a ≡ Ok said → Answered a said
 replies turn release a said e = by-ways (Answered a) turn release a (record {
@@ -70,12 +58,7 @@ replies turn release a said e = by-ways (Answered a) turn release a (record {
   odp = λ p r l. other _ _ _ refl (λ h. h) refl;
   xid = λ p r. tries-alike _ turn _ a (λ w. other _ _ _ refl (λ h. h) refl) (other _ _ _ refl (λ h. h) refl);
   sabme = λ p. tries-alike _ turn _ a (λ w. other _ _ _ refl (λ h. h) refl) (other _ _ _ refl (λ h. h) refl);
-  linked = λ p r. record {
-    stands = λ x own t. steps turn a.special (record a { own_breaks = own; special = false });
-    expires = λ set x own t. steps-so _ _ turn a.special _
-        (λ said k. record { final = k.final; reply = k.reply; awaits = λ h. k.awaits refl })
-        (steps turn a.special (polling_at turn a own));
-  };
+  linked = grind (arith, steps, steps-so);
   releases = λ p r. tries-alike _ turn _ (trying Releasing turn a) (λ w. other _ _ _ refl (λ h. h) refl) (other _ _ _ refl (λ h. h) refl);
   disc = λ p. tries-alike _ turn _ a (λ w. other _ _ _ refl (λ h. h) refl) (other _ _ _ refl (λ h. h) refl);
 }) said e
@@ -166,10 +149,8 @@ meets-turn z link turn s t u f h m g =
     let so = speaks-so turn _ bo g.orig_said g.orig_says in
     let sa = speaks-so turn false ba g.answ_said g.answ_says in
     -- each thing from before the turn to after it
-    let keeps-begun : is_begun s.answ.phase ≡ true → is_begun g.answ_said.account.phase ≡ true =
-    λ e. sa.begun ∙ (ap is_begun va.phase ∙ ha.begun e) in
-    let keeps-released : is_released s.orig.phase ≡ true → is_released g.orig_said.account.phase ≡ true =
-    λ e. so.released (ap is_released vo.phase ∙ ho.released e) in
+    let keeps-begun : is_begun s.answ.phase ≡ true → is_begun g.answ_said.account.phase ≡ true = grind (arith) in
+    let keeps-released : is_released s.orig.phase ≡ true → is_released g.orig_said.account.phase ≡ true = grind (arith) in
     let keeps-numbered : s.answ.numbered ≡ true → g.answ_said.account.numbered ≡ true = λ e. sa.numbered ∙ (va.numbered ∙ ha.numbered e) in
     let due : is_ua_due ba.owes.answer ≡ true → is_begun g.answ_said.account.phase ≡ true =
     λ e. sa.begun ∙ (ap is_begun va.phase ∙ ha.due m.due (ap is_ua_due (sym va.answer) ∙ e)) in

@@ -1,6 +1,6 @@
-use Rattle.std.proofs.Common.{◌≡◌, ℕ, ◌+◌, ◌*◌, ◌≤◌, Bool, true, false, length, arith, sym, ◌∙◌, ap, subst, Ok}
-use Rattle.link_account.proofs.Names.{Role, Arrived, Account, hear, Said, speak}
-use Rattle.link_run.proofs.Names.{Phase, User, is_busy, is_closed}
+use Rattle.turn_bound.proofs.Names.{◌≡◌, ℕ, ◌+◌, ◌*◌, ◌≤◌, Bool, true, false, length, arith, sym, ◌∙◌, ap, subst, Ok, Role, Arrived, hear}
+use Rattle.turn_bound.proofs.Names.{Said, speak, Phase, User, is_busy, is_closed}
+use Rattle.link_account.proofs.Names.{Account}
 use Rattle.turn_bound.proofs.Value.{Rates, AreRates, ends, lasts, value, lives, IsOf, Stands, arrived_rnrs}
 use Rattle.turn_bound.proofs.Run.{served_account}
 use Rattle.turn_bound.proofs.Hearing.{HeardAs, hears-well}

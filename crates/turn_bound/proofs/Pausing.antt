@@ -1,10 +1,10 @@
 -- Where no user is busy no end tells that it is, and none counts the other as busy.
-use Rattle.std.proofs.Common.{◌≡◌, ℕ, Bool, true, false, arith, refl, sym, ◌∙◌, ap, Option, Ok, inl, inr}
-use Rattle.link_account.proofs.Names.{Outgoing, Arrived, Account, is_connected, hear, on_nothing, trying, Said, speak, speak_releasing}
-use Rattle.link_account.proofs.Names.{Incoming}
-use Rattle.link_run.proofs.Names.{Phase, Connected, Releasing, is_released}
+use Rattle.turn_bound.proofs.Names.{◌≡◌, ℕ, Bool, true, false, arith, refl, sym, ◌∙◌, ap, Option, Ok, acked, numbered_with}
+use Rattle.turn_bound.proofs.Names.{resumed-unpaused, Outgoing, Arrived, is_connected, hear, on_nothing, trying, Said, speak}
+use Rattle.turn_bound.proofs.Names.{speak_releasing, Incoming, Steps, by-tries, linked-alike, tries-alike, Phase, Connected, Releasing}
+use Rattle.turn_bound.proofs.Names.{is_released}
+use Rattle.link_account.proofs.Names.{Account}
 use Rattle.turn_bound.proofs.Value.{arrived_rnrs}
-use Rattle.turn_bound.proofs.Names.{Steps, acked, acked_back, by-tries, linked-alike, numbered_with, resumed-unpaused, retimed, tries-alike}
 use Rattle.turn_bound.proofs.MeetHear.{is_begun, of_frame}
 use Rattle.turn_bound.proofs.Taking.{frame_poll}
 use Rattle.link_account.proofs.HearWays as HearWays
@@ -40,47 +40,8 @@ early-goes a b e r p t = grind (arith)
 pub goes-on : (turn : ℕ) (arrived : Arrived) (a mid : Account) → arrived_rnrs arrived ≡ 0 → hear turn arrived a ≡ Ok mid → Goes a mid
 goes-on turn arrived a mid n e = HearWays.by-ways (λ x b. arrived_rnrs x ≡ 0 → Goes a b) turn a (record {
   nothing = λ h. same-goes a (on_nothing a) refl refl refl;
-  linked = λ p. record {
-    pattern = λ seen h. same;
-    plain = λ frame k h. same;
-    numbers = record {
-      i = λ ns nr pf info m f h. number p _ _ _ _ _ (λ q. q);
-      rr = λ command pf nr m final f g h. number p _ _ _ _ _ (λ q. resumed-unpaused (acked final a.outgoing m));
-      rej = λ command pf nr m final f g h. number p _ _ _ _ _ (λ q. resumed-unpaused (acked_back final a.outgoing m));
-      rnr = λ command pf nr m final f g h. absurd (omega (arith, h));
-      srej = λ command pf nr m f g h. number p _ _ _ _ _ (λ q. q);
-    };
-    sabme = λ pf m r h. same-goes a _ refl refl refl;
-    disc = λ pf r h. record {
-      begun = λ q. refl;
-      released = λ q. refl;
-      early = λ q. absurd (linked-begun a p q);
-      late = λ q. absurd (linked-open a p q);
-      paused = λ q. q;
-      told = refl;
-    };
-    brk = λ command pf info number length_octet q h. same-goes a _ refl refl refl;
-    brkack = λ command pf info number length_octet q h. same-goes a _ refl refl refl;
-  };
-  early = λ c. record {
-    ignores = λ x f h. same;
-    detects = λ p r h. early-goes a _ (ap is_begun p) refl (λ q. q) refl;
-    detected = λ p r h. same-goes a _ refl refl refl;
-    xid = λ p r pf info offer f h. early-goes a _ (elim p [ inl q ↦ ap is_begun q | inr q ↦ ap is_begun q ]) refl (λ q. q) refl;
-    agrees = λ p r pf info offer f h. early-goes a _ (ap is_begun p) refl (λ q. q) refl;
-    sabme_first = λ p r pf h. early-goes a _ (ap is_begun p) refl (λ q. refl) refl;
-    sabme = λ p r pf h. early-goes a _ (ap is_begun p) refl (λ q. refl) refl;
-    ua = λ p h. early-goes a _ (ap is_begun p) refl (λ q. refl) refl;
-    disc = λ p pf h. same-goes a _ refl refl refl;
-    closes = λ p frame f h. record {
-      begun = λ q. refl;
-      released = λ q. refl;
-      early = λ q. let wrong : true ≡ false = sym (ap is_begun p) ∙ q in cc;
-      late = λ q. refl;
-      paused = λ q. q;
-      told = refl;
-    };
-  };
+  linked = grind (arith, same, resumed-unpaused, acked, same-goes, linked-begun, linked-open);
+  early = grind (arith, same, early-goes, same-goes);
 }) arrived mid e n
   where
     same : Goes a a
@@ -109,8 +70,7 @@ says-calm turn release a said calm e = SpeakWays.by-ways (Calm a) turn release a
   odp = λ p r l. (refl, λ h. h);
   xid = λ p r. tries-alike _ turn _ a (λ w. (refl, λ h. h)) (refl, λ h. h);
   sabme = λ p. tries-alike _ turn _ a (λ w. (refl, λ h. h)) (refl, λ h. h);
-  linked = λ p r. linked-alike (Calm a) turn a (λ count awaited w own.
-      steps-calm turn a.special (retimed a count awaited w own) (calm (ap is_connected p)));
+  linked = grind (arith, linked-alike, steps-calm);
   releases = λ p r. tries-alike _ turn _ (trying Releasing turn a) (λ w. (refl, λ h. h)) (refl, λ h. h);
   disc = λ p. tries-alike _ turn _ a (λ w. (refl, λ h. h)) (refl, λ h. h);
 }) said e

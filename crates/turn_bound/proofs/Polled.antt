@@ -1,9 +1,9 @@
 -- An end's polls become due once in a whole period, and so once in nineteen turns.
-use Rattle.std.proofs.Common.{◌≡◌, ℕ, ◌+◌, ◌-◌, ◌≤◌, min, Bool, true, false, cond, inl, inr, arith, refl, ap, Option, Ok, ◌&&◌, ◌∙◌, subst}
-use Rattle.link_account.proofs.Names.{Role, Outgoing, Sent, Account, Said, speak_linked, is_originator, Frame, Disc, Arrived, is_connected}
-use Rattle.link_account.proofs.Names.{trying, speak, speak_in, speak_releasing}
-use Rattle.link_run.proofs.Names.{Connected, Phase, Detecting, Negotiating, Establishing, Releasing, Closed, User, is_released}
-use Rattle.turn_bound.proofs.Names.{Steps, by-linked, by-tries, polling_at, steps-so, timer_after, tries-alike, u_try}
+use Rattle.turn_bound.proofs.Names.{◌≡◌, ℕ, ◌+◌, ◌-◌, ◌≤◌, Bool, true, false, cond, inl, inr, arith, refl, ap, Option, Ok, ◌&&◌, ◌∙◌, subst}
+use Rattle.turn_bound.proofs.Names.{Role, Outgoing, Sent, Said, speak_linked, is_originator, Frame, Disc, Arrived, is_connected, trying}
+use Rattle.turn_bound.proofs.Names.{speak, speak_in, speak_releasing, Steps, by-linked, by-tries, steps-so, tries-alike, timer_after, u_try}
+use Rattle.turn_bound.proofs.Names.{Connected, Phase, Detecting, Negotiating, Establishing, Releasing, Closed, User, is_released}
+use Rattle.link_account.proofs.Names.{Account}
 use Rattle.turn_bound.proofs.Value.{Rates, AreRates, IsOf, Stands, arrived_weight, arrived_rnrs}
 use Rattle.turn_bound.proofs.MeetHear.{of_frame, is_begun, of_arrived}
 use Rattle.turn_bound.proofs.Taking.{frame_poll, timer_value, poll_value, Takes, poll-most, takes}
@@ -39,9 +39,7 @@ pub linked-rated : (z : Rates) (turn : ℕ) (role : Role) (a : Account) (said : 
     → speak_linked turn a ≡ Ok said → SaysRated turn a said
 linked-rated z turn role a said y k e = by-linked (SaysRated turn a) turn a (record {
   stands = λ x own t. steps-so _ _ turn a.special _ (λ s r. omega (arith, r, later a.wait.timer)) (steps-rated turn a.special _);
-  expires = λ set x own t. let long : 20 ≤ a.setup.period = omega (arith, k.period, y.period) in
-      let old : timer_value turn a.wait.timer ≡ min 19 (turn - (set + 1)) = ap (timer_value turn) x.timer in
-      steps-so _ _ turn a.special _ (λ s r. omega (arith, r, x.due, long, old)) (steps-rated turn a.special (polling_at turn a own));
+  expires = grind (arith, steps-so, steps-rated);
 }) said e
   where
     later : (timer : Option ℕ) → timer_value (turn + 1) timer ≤ timer_value turn timer + 1

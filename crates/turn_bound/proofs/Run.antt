@@ -1,10 +1,11 @@
 -- Runs of a link with what is on its lines, which are queues here: the form in which the bound is proved.
-use Rattle.link_account.proofs.Names.{next_expected, Arrived, Account, fresh, hear, Said, speak, Slot, arrives, Originator, Answerer}
-use Rattle.link_run.proofs.Names.{Setup, User, served, is_released, is_closed, has_finished}
+use Rattle.turn_bound.proofs.Names.{Arrived, hear, Said, speak, Slot, arrives, Originator, Answerer, Setup, User, is_released, is_closed}
+use Rattle.turn_bound.proofs.Names.{has_finished, busy_left, busy_turns}
+use Rattle.link_account.proofs.Names.{next_expected, Account, fresh}
+use Rattle.link_run.proofs.Names.{served}
 use Rattle.std.specs.Prelude.{◌≡◌, ℕ, Bool, false, if◌then◌else◌, ◌&&◌, nat_lt, List, [], ◌∷◌, ◌++◌, length, Ok, ◌+◌, ◌*◌, ◌≤◌, cond, ◌||◌}
 use Rattle.lapm_frames.specs.declared.arrived.Arrived.TheVariants as arrivals
 use Rattle.turn_bound.proofs.Value.{Rates, rates, value, lives, IsOf, dues, weight, rnrs}
-use Rattle.turn_bound.proofs.Names.{busy_left, busy_turns}
 use Rattle.turn_bound.specs.Together.{Together}
 
 -- an end as a run begins, with its user, and the delay of what it sends

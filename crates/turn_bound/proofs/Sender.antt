@@ -1,9 +1,10 @@
-use Rattle.std.proofs.Common.{◌≡◌, ℕ, ◌+◌, ◌-◌, ◌*◌, ◌<◌, ◌≤◌, ◌&&◌, ◌||◌, not, Bool, true, false, cond, nat_lt, List, [], ◌∷◌, length}
-use Rattle.std.proofs.Common.{arith, refl, sym, ◌∙◌, ap, Option, Some, None}
+use Rattle.turn_bound.proofs.Names.{◌≡◌, ℕ, ◌+◌, ◌-◌, ◌*◌, ◌<◌, ◌≤◌, ◌&&◌, ◌||◌, not, Bool, true, false, cond, nat_lt, List, [], ◌∷◌}
+use Rattle.turn_bound.proofs.Names.{length, arith, refl, sym, ap, Option, Some, None, with_number, gone_back, paused_at, wait_ended, acked}
+use Rattle.turn_bound.proofs.Names.{acked_back, is_some, AllByRecursion, nat_tests, meant, Outgoing, is_outstanding, advanced, resumed}
+use Rattle.turn_bound.proofs.Names.{ends_wait, timer_after}
 use Rattle.turn_bound.proofs.Truths.{and-two}
-use Rattle.link_account.proofs.Names.{is_some, AllByRecursion, nat_tests, meant, Outgoing, is_outstanding, advanced, resumed, Account}
-use Rattle.lapm_sender.specs.Numbers.{with_number, from_number}
-use Rattle.turn_bound.proofs.Names.{acked, acked_back, ends_wait, gone_back, paused_at, timer_after, wait_ended}
+use Rattle.link_account.proofs.Names.{Account}
+use Rattle.lapm_sender.specs.Numbers.{from_number}
 use Rattle.turn_bound.proofs.Value.{Rates, AreRates, Ticks, left, is_waiting, IsChosen, Sends, is_free, ends, sender_value, paid, cond-le}
 use Rattle.turn_bound.proofs.Value.{stopped, left-some, ticks-now}
 
@@ -107,22 +108,13 @@ heard-well z total turn o new timer y s h all =
         let less : o.front < new.front = grind (arith, nat_tests) in
         let waits : is_waiting o ≡ true = waits-before o new.front less within in
         let fewer : total - new.front < total - o.front = omega (arith, less, within, below) in
-        rw (w, waits, l) (falls-more z.quota z.first z.whole 0 (z.quota * (total - o.front)) (z.quota * (total - new.front))
-        (cond (is_free total o) z.first 0) (cond (is_free total new) z.first 0)
-        (left z turn o.count timer) z.room waiting (paid z.quota (total - new.front) (total - o.front) fewer)
-        (cond-le (is_free total new) z.first) y.quota)
+        grind (arith, falls-more, left, paid, cond-le) steps 400000
 
     go : (advances : Bool) → nat_lt o.front new.front ≡ advances → (waiting : Bool) → is_waiting new ≡ waiting → (timer' : Option ℕ)
         → timer' ≡ cond waiting (cond advances (Some turn) timer) None → new.count ≡ cond waiting (cond advances 0 o.count) 0
         → HeardWell z total turn o timer new timer' 0
-    go true e true w timer' t c = record {
-      sends = heard-sends z turn o new timer timer' s h new.paused new.count (rw (t, w) refl) (rw (t, c) (ticks-now z turn));
-      falls = advanced-on true w e timer' (ap (λ r. left z turn new.count r) t ∙ ap (λ n. left z turn n (Some turn)) c ∙ now);
-    }
-    go true e false w timer' t c = record {
-      sends = heard-sends z turn o new timer timer' s h new.paused new.count (rw (t, w) refl) (rw (t, c) refl);
-      falls = advanced-on false w e timer' (ap (λ r. left z turn new.count r) t);
-    }
+    go true e true w timer' t c = grind (arith, heard-sends, ticks-now, advanced-on, left, now)
+    go true e false w timer' t c = grind (arith, heard-sends, advanced-on, left)
     go false e true w timer' t c = grind (arith, outstanding-same, waiting-less, worth-same, ends-is)
     go false e false w timer' t c = grind (arith, outstanding-same, left-some, worth-same, ends-is)
 
@@ -130,10 +122,10 @@ heard-well z total turn o new timer y s h all =
 pub heard-busy : (z : Rates) (total turn : ℕ) (o new : Outgoing) (timer : Option ℕ) → AreRates z → Sends z turn turn o timer → Heard o new
     → length o.pieces ≤ total
     → HeardWell z total turn o timer (paused_at new) (Some turn) z.quota
-heard-busy z total turn o new timer y s h all = record {
-  sends = heard-sends z turn o new timer (Some turn) s h true 0 (busy-waits (is_outstanding new) new.awaited) (ticks-now z turn);
-  falls = go (nat_lt o.front new.front) refl (is_waiting o) refl;
-}
+heard-busy z total turn o new timer y s h all = assumption (
+  heard-sends z turn o new timer (Some turn) s h true 0 (busy-waits (is_outstanding new) new.awaited) (ticks-now z turn),
+  go (nat_lt o.front new.front) refl (is_waiting o) refl,
+)
   where
     busy-waits : (out awaited : Bool) → true ≡ (out || (awaited || true))
     busy-waits out awaited = grind (arith)
@@ -144,18 +136,7 @@ heard-busy z total turn o new timer y s h all = record {
     go : (advances : Bool) → nat_lt o.front new.front ≡ advances → (waited : Bool) → is_waiting o ≡ waited
         → sender_value z total turn (paused_at new) (Some turn) + ends z.room (is_waiting o)
         (is_waiting (paused_at new)) ≤ sender_value z total turn o timer + z.quota
-    go true e waited w =
-        let less : o.front < new.front = grind (arith, nat_tests) in
-        let within : new.front ≤ o.high = omega (arith, h.front_from, h.from_high, h.high) in
-        let fewer : total - new.front < total - o.front = omega (arith, less, within, s.high_pieces, all) in
-        omega (
-          arith,
-          paid z.quota (total - new.front) (total - o.front) fewer,
-          cond-le (is_free total new) z.first,
-          y.quota,
-          ends-is z.room (is_waiting o) (is_waiting (paused_at new)) true true (waits-before o new.front less within) waits',
-        )
-    go advances e waited w = grind (arith)
+    go advances e waited w = grind (arith, paid, cond-le, ends-is, waits-before, waits')
 
 -- What each rule makes of the sender's part.
 
@@ -176,19 +157,7 @@ same-bool a b out c = grind (arith)
 
 pub heard-advanced : (z : Rates) (before turn : ℕ) (o : Outgoing) (timer : Option ℕ) (n : ℕ) → Sends z before turn o timer → o.front ≤ n
     → n ≤ o.high → Heard o (advanced o n)
-heard-advanced z before turn o timer n s low within = record {
-  high = refl;
-  pieces = refl;
-  window = refl;
-  tries = refl;
-  front_low = low;
-  front_from = omega arith;
-  from_high = omega (arith, s.from_high, within);
-  chosen = from_number-choices o.front o.high n o.chosen s.chosen;
-  awaited = λ e. e;
-  paused = λ e. e;
-  count = ap (cond (nat_lt o.front n) 0) (same-bool o.awaited o.paused (not (is_waiting (advanced o n))) o.count);
-}
+heard-advanced z before turn o timer n s low within = grind (arith, from_number-choices, same-bool, advanced)
 
 pub heard-gone_back : (o new : Outgoing) → Heard o new → Heard o (gone_back new)
 heard-gone_back o new h = grind (arith)
@@ -207,24 +176,7 @@ heard-resumed o new h = go new.paused refl
 
 pub heard-selected : (z : Rates) (before turn : ℕ) (o : Outgoing) (timer : Option ℕ) (n : ℕ) → Sends z before turn o timer → o.front ≤ n
     → n < o.high → Heard o (record o { chosen = with_number n o.chosen })
-heard-selected z before turn o timer n s low within = record {
-  high = refl;
-  pieces = refl;
-  window = refl;
-  tries = refl;
-  front_low = omega arith;
-  front_from = s.front_from;
-  from_high = s.from_high;
-  chosen = with_number-all (IsChosen o.front o.high) n o.chosen (low, within) s.chosen;
-  awaited = λ e. e;
-  paused = λ e. e;
-  count = same-bool o.awaited o.paused (not (is_waiting o)) o.count
-      ∙ none (nat_lt o.front o.front) (grind (arith, nat_tests))
-      (cond ((o.awaited && not o.awaited || o.paused && not o.paused) && not (is_waiting o)) 0 o.count);
-}
-  where
-    none : (b : Bool) → b ≡ false → (c : ℕ) → c ≡ cond b 0 c
-    none b e c = rw e refl
+heard-selected z before turn o timer n s low within = grind (arith, with_number-all, same-bool)
 
 -- an acknowledgement, whether or not it is in the answer that is awaited, and one from which sending goes back
 pub acked-heard : (z : Rates) (before turn : ℕ) (a : Account) (final command pf : Bool) (nr n : ℕ)

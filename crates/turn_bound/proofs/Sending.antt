@@ -1,9 +1,9 @@
-use Rattle.std.proofs.Common.{◌≡◌, ℕ, ◌+◌, ◌<◌, ◌≤◌, ◌&&◌, ◌||◌, not, max, Bool, true, false, cond, nat_eq, nat_lt, List, [], ◌∷◌, length}
-use Rattle.std.proofs.Common.{arith, refl, sym, ◌∙◌, ap, subst, Option, Some, None, ◌-◌, ◌*◌, ◌%◌, nat_le, ◌++◌, length-append}
-use Rattle.link_account.proofs.Names.{is_some, AllByRecursion, nat_tests, Outgoing, is_outstanding, next_number}
-use Rattle.turn_bound.proofs.Names.{OwnBreaks, after_answer, after_ask, after_brk, after_next, next_among, running, sent_among, ticked}
-use Rattle.turn_bound.proofs.Names.{waits}
-use Rattle.turn_bound.proofs.Value.{Rates, AreRates, Ticks, left, is_waiting, IsChosen, Sends, is_free, one_if, sender_value, tries_fit}
+use Rattle.turn_bound.proofs.Names.{◌≡◌, ℕ, ◌+◌, ◌<◌, ◌≤◌, ◌&&◌, ◌||◌, not, Bool, true, false, cond, nat_eq, nat_lt, List, [], ◌∷◌, length}
+use Rattle.turn_bound.proofs.Names.{arith, refl, ap, subst, Option, Some, None, ◌-◌, ◌*◌, ◌%◌, nat_le, ◌++◌, length-append, OwnBreaks}
+use Rattle.turn_bound.proofs.Names.{after_answer, after_ask, after_brk, ticked, waits, after_next, next_among, sent_among, is_some}
+use Rattle.turn_bound.proofs.Names.{AllByRecursion, nat_tests, Outgoing, is_outstanding, next_number, running}
+use Rattle.std.proofs.Common.{max}
+use Rattle.turn_bound.proofs.Value.{Rates, AreRates, Ticks, left, is_waiting, IsChosen, Sends, one_if, sender_value, tries_fit}
 use Rattle.turn_bound.proofs.Value.{ticks-later, all_weaker, Breaks, is_breaking, break_left, break_value, ends, paid}
 
 -- The turn goes on to the next one.
@@ -23,11 +23,10 @@ with-clock s count awaited cause ticks = grind (arith)
 pub waited-quiet : (z : Rates) (total turn : ℕ) (o : Outgoing) (timer : Option ℕ) → AreRates z → Sends z (turn + 1) turn o timer
     → ((set : ℕ) → timer ≡ Some set → nat_eq turn (set + z.period) ≡ false)
     → WaitedWell z total turn o timer o timer
-waited-quiet z total turn o timer y s quiet = record {
-  sends = with-clock s o.count o.awaited s.cause (on timer refl s.ticks);
-  waits = refl;
-  falls = falling timer refl s.ticks s.cause;
-}
+waited-quiet z total turn o timer y s quiet = assumption (
+  with-clock s o.count o.awaited s.cause (on timer refl s.ticks),
+  falling timer refl s.ticks s.cause,
+)
   where
     on : (timer' : Option ℕ) → timer ≡ timer' → Ticks z (turn + 1) turn o.count timer' → Ticks z (turn + 1) (turn + 1) o.count timer'
     on None e h = h
@@ -47,22 +46,7 @@ waited-quiet z total turn o timer y s quiet = record {
 pub waited-expired : (z : Rates) (total turn : ℕ) (o : Outgoing) (set : ℕ) → AreRates z → Sends z (turn + 1) turn o (Some set)
     → nat_eq turn (set + z.period) ≡ true → nat_eq o.count o.tries ≡ false
     → WaitedWell z total turn o (Some set) (record o { count = o.count + 1; awaited = true }) (Some turn)
-waited-expired z total turn o set y s due more =
-    let now : turn ≡ set + z.period = grind (arith, nat_tests) in
-    let fewer : o.count < z.tries = grind (arith, nat_tests, s.ticks.tried, s.tries_are) in
-    record {
-      sends = with-clock s (o.count + 1) true (polls (is_outstanding o) o.paused) (record {
-        tied = omega (arith, s.ticks.tied, now);
-        started = omega arith;
-        within = omega (arith, y.period);
-        tried = omega (arith, fewer);
-      });
-      waits = sym (polls (is_outstanding o) o.paused) ∙ s.cause;
-      falls = rw (sym s.cause) (omega (arith, tries_fit z (o.count + 1) y (omega (arith, fewer)), now));
-    }
-  where
-    polls : (out paused : Bool) → true ≡ (out || (true || paused))
-    polls out paused = grind (arith)
+waited-expired z total turn o set y s due more = grind (arith, with-clock, tries_fit)
 
 -- a segment is sent
 pub record SentWell (z : Rates) (total turn : ℕ) (o : Outgoing) (timer : Option ℕ) (new : Outgoing) (timer' : Option ℕ) : Type 0 where
@@ -94,25 +78,7 @@ sent-on z total turn o timer from high chosen y s idle front_from from_high high
     go : (out : Bool) → is_outstanding o ≡ out → (timer' : Option ℕ) → Ticks z (turn + 1) (turn + 1) o.count timer'
         → is_some timer' ≡ is_waiting o
         → SentWell z total turn o timer' (record o { from = from; high = high; chosen = chosen }) (running turn timer')
-    go true e (Some set) ticks cause = grind (arith)
-    go true e None ticks cause = let w : is_waiting o ≡ true = rw e refl in let wrong : false ≡ true = cause ∙ w in cc
-    go false e (Some set) ticks cause = let w : is_waiting o ≡ false = rw (e, idle) refl in let wrong : true ≡ false = cause ∙ w in cc
-    go false e None ticks cause =
-        let more : nat_lt o.front total ≡ true = grind (arith, nat_tests) in
-        let free : cond (is_free total o) z.first 0 ≡ z.first = rw (e, more) refl in
-        let w : cond (is_waiting o) 0 (z.room + 1) ≡ z.room + 1 = rw (e, idle) refl in
-        let tried : o.count ≡ 0 = ticks in
-        let now : left z (turn + 1) o.count (Some turn) ≡ z.whole = ap (λ n. left z (turn + 1) n (Some turn)) tried ∙ from-now in
-        record {
-          sends = sends (Some turn) refl
-              (subst (λ n. Ticks z (turn + 1) (turn + 1) n (Some turn)) (sym tried)
-              (record { tied = omega arith; started = omega arith; within = omega (arith, y.period); tried = omega arith }));
-          waits = waits';
-          falls = omega (arith, free, free', w, now, y.first);
-        }
-      where
-        from-now : left z (turn + 1) 0 (Some turn) ≡ z.whole
-        from-now = omega arith
+    go out e timer' ticks cause = grind (arith, idle, left, waits', free')
 
 pub may-be : (b c : Bool) (m : Option ℕ) (n : ℕ) → cond (b || c) None m ≡ Some n → (b || c ≡ false) × (m ≡ Some n)
 may-be b c m n e = grind (arith)
@@ -121,8 +87,7 @@ pub sent-well : (z : Rates) (total turn : ℕ) (o : Outgoing) (timer : Option �
     → length o.pieces ≤ total → next_number o ≡ Some n
     → SentWell z total turn o timer (after_next o) (running turn timer)
 sent-well z total turn o timer n y s all e =
-    let may = may-be o.awaited o.paused (next_among o.chosen o) n e in
-    go o.chosen s.chosen may.1
+    let may = may-be o.awaited o.paused (next_among o.chosen o) n e in grind (arith, go)
   where
     idle : o.awaited || o.paused ≡ false
     idle = (may-be o.awaited o.paused (next_among o.chosen o) n e).0
@@ -183,27 +148,7 @@ answered-well z breaks turn number b y s = go (waits b) refl (nat_eq number (b.a
         (cond (w && right) (record b { answered = b.answered + 1; brk = false; count = 0; rest = turn + 8 }) b)
     go false e right = same-breaks z breaks turn b (later-breaks z turn b s)
     go true e false = same-breaks z breaks turn b (later-breaks z turn b s)
-    go true e true =
-        let done : nat_lt (b.answered + 1) (length b.lengths) ≡ false = grind (arith, nat_tests, s.high) in
-        let more : b.answered < length b.lengths = grind (arith, nat_tests) in
-        let rests : nat_lt turn (turn + 8) ≡ true = grind (arith, nat_tests) in
-        let r = s.clock e in
-        let old : break_left z turn b ≡ b.set + z.whole + 9 - (b.count * z.period + turn) =
-        ap (λ w. cond w (b.set + z.whole + 9 - (b.count * z.period + turn)) (b.rest - turn)) e in
-        let new : cond (nat_lt (b.answered + 1) (length b.lengths)) (b.set + z.whole + 9 - (0 * z.period + turn))
-        (turn + 8 - turn) ≡ turn + 8 - turn = ap (λ w. cond w (b.set + z.whole + 9 - (0 * z.period + turn)) (turn + 8 - turn)) done in
-        let live : ends z.room (is_breaking turn b) (nat_lt (b.answered + 1) (length b.lengths) || nat_lt turn (turn + 8)) ≡ 0 =
-        rw (e, done, rests) refl in
-        record {
-          sound = record {
-            low = omega (arith, more);
-            high = omega (arith, s.high);
-            due = λ d. cc;
-            clock = λ w. cc;
-            rests = omega arith;
-          };
-          falls = omega (arith, old, new, live, tries_fit z b.count y r.tried, r.within);
-        }
+    go true e true = grind (arith, ends, tries_fit)
 
 -- a break is asked for
 pub asked-well : (z : Rates) (breaks turn l : ℕ) (b : OwnBreaks) → AreRates z → Breaks z (turn + 1) turn b
@@ -216,30 +161,7 @@ asked-well z breaks turn l b y s = go (waits b) refl (nat_le b.rest turn) refl
         (cond (not w && rested) (record b { lengths = b.lengths ++ l ∷ []; brk = true; set = turn; count = 0 }) b)
     go true e rested f fits = same-breaks z breaks turn b s
     go false e false f fits = same-breaks z breaks turn b s
-    go false e true f fits =
-        let longer : length (b.lengths ++ l ∷ []) ≡ length b.lengths + 1 = omega (arith, length-append {A = ℕ}) in
-        let same : b.answered ≡ length b.lengths = grind (arith, nat_tests, s.low) in
-        let waiting : nat_lt b.answered (length (b.lengths ++ l ∷ [])) ≡ true = grind (arith, nat_tests) in
-        let rested : nat_lt turn b.rest ≡ false = grind (arith, nat_tests) in
-        let old : break_left z turn b ≡ b.rest - turn =
-        ap (λ w. cond w (b.set + z.whole + 9 - (b.count * z.period + turn)) (b.rest - turn)) e in
-        let new : cond (nat_lt b.answered (length (b.lengths ++ l ∷ []))) (turn + z.whole + 9 - (0 * z.period + turn))
-        (b.rest - turn) ≡ turn + z.whole + 9 - (0 * z.period + turn)
-        = ap (λ w. cond w (turn + z.whole + 9 - (0 * z.period + turn)) (b.rest - turn)) waiting in
-        let live : ends z.room (is_breaking turn b) (nat_lt b.answered (length (b.lengths ++ l ∷ [])) || nat_lt turn b.rest) ≡ z.room + 1 =
-        rw (e, rested, waiting) refl in
-        let pays : z.quota * (breaks - length (b.lengths ++ l ∷ [])) + z.quota ≤ z.quota * (breaks - length b.lengths) =
-        paid z.quota (breaks - length (b.lengths ++ l ∷ [])) (breaks - length b.lengths) (omega (arith, longer, fits)) in
-        record {
-          sound = record {
-            low = omega (arith, longer, same);
-            high = omega (arith, longer, same);
-            due = λ d. waiting;
-            clock = λ w. record { tied = omega arith; started = omega arith; within = omega arith; tried = omega arith };
-            rests = s.rests;
-          };
-          falls = omega (arith, old, new, live, pays, y.quota, y.first, tries_fit z 0 y (omega arith), y.period);
-        }
+    go false e true f fits = grind (arith, length-append, ends, paid, tries_fit)
 
 pub counts : (l m : Bool) → l ≡ m → one_if l ≡ one_if m
 counts l m e = rw e refl
@@ -260,42 +182,7 @@ pub ticked-well : (z : Rates) (breaks turn : ℕ) (b c : OwnBreaks) → AreRates
 ticked-well z breaks turn b c y s t = go (waits b) refl (nat_eq turn (b.set + z.period)) refl (nat_eq b.count z.tries) refl t
   where
     rest : (w : Bool) → waits b ≡ w → (w ≡ true → nat_eq turn (b.set + z.period) ≡ false) → TickedWell z breaks turn b b
-    rest true e due =
-        let r = s.clock e in
-        let later : turn + 1 ≤ b.set + z.period = let d = due refl in let d' : nat_eq turn (b.set + z.period) ≡ false = d in
-        grind (arith, nat_tests, r.within) in
-        let old : break_left z turn b ≡ b.set + z.whole + 9 - (b.count * z.period + turn) =
-        ap (λ w. cond w (b.set + z.whole + 9 - (b.count * z.period + turn)) (b.rest - turn)) e in
-        let new : break_left z (turn + 1) b ≡ b.set + z.whole + 9 - (b.count * z.period + (turn + 1)) =
-        ap (λ w. cond w (b.set + z.whole + 9 - (b.count * z.period + (turn + 1))) (b.rest - (turn + 1))) e in
-        let live : one_if (is_breaking turn b) ≡ 1 = rw e refl in
-        record {
-          sound = record {
-            low = s.low;
-            high = s.high;
-            due = s.due;
-            clock = λ w. record { tied = r.tied; started = r.started; within = later; tried = r.tried };
-            rests = s.rests;
-          };
-          falls = omega (arith, old, new, live, tries_fit z b.count y r.tried, r.within);
-          lives = λ f. let wrong : true ≡ false = sym (rw e refl) ∙ f in cc;
-          lengths = refl;
-          waiting = refl;
-        }
-    rest false e due = record {
-      sound = record { low = s.low; high = s.high; due = s.due; clock = λ w. cc; rests = s.rests };
-      falls = resting (nat_lt turn b.rest) refl;
-      lives = λ f. or-false (waits b) (nat_lt (turn + 1) b.rest) e ∙ rested (sym (or-false (waits b) (nat_lt turn b.rest) e) ∙ f);
-      lengths = refl;
-      waiting = refl;
-    }
-      where
-        rested : nat_lt turn b.rest ≡ false → nat_lt (turn + 1) b.rest ≡ false
-        rested f = grind (arith, nat_tests)
-
-        resting : (n : Bool) → nat_lt turn b.rest ≡ n
-            → break_value z breaks (turn + 1) b + one_if (is_breaking turn b) ≤ break_value z breaks turn b
-        resting n f = grind (arith, or-false)
+    rest w e due = grind (arith, tries_fit, or-false, waits)
 
     go : (w : Bool) → waits b ≡ w → (due : Bool) → nat_eq turn (b.set + z.period) ≡ due → (spent : Bool) → nat_eq b.count z.tries ≡ spent
         → cond (w && due) (cond spent None (Some (record b { brk = true; set = turn; count = b.count + 1 }))) (Some b) ≡ Some c
@@ -306,30 +193,11 @@ ticked-well z breaks turn b c y s t = go (waits b) refl (nat_eq turn (b.set + z.
         let r = s.clock e in
         let now : turn ≡ b.set + z.period = grind (arith, nat_tests) in
         let fewer : b.count < z.tries = grind (arith, nat_tests, r.tried) in
-        let old : break_left z turn b ≡ b.set + z.whole + 9 - (b.count * z.period + turn) =
-        ap (λ w. cond w (b.set + z.whole + 9 - (b.count * z.period + turn)) (b.rest - turn)) e in
+        let old : break_left z turn b ≡ b.set + z.whole + 9 - (b.count * z.period + turn) = grind (arith) in
         let new : break_left z (turn + 1) (record b { brk = true; set = turn; count = b.count + 1 }) ≡ turn + z.whole + 9 -
         ((b.count + 1) * z.period + (turn + 1))
         = ap (λ w. cond w (turn + z.whole + 9 - ((b.count + 1) * z.period + (turn + 1))) (b.rest - (turn + 1))) e in
-        let live : one_if (is_breaking turn b) ≡ 1 = rw e refl in
-        subst (TickedWell z breaks turn b) same (record {
-          sound = record {
-            low = s.low;
-            high = s.high;
-            due = λ d. e;
-            clock = λ w. record {
-              tied = omega (arith, r.tied, now);
-              started = omega arith;
-              within = omega (arith, y.period);
-              tried = omega (arith, fewer);
-            };
-            rests = omega (arith, s.rests);
-          };
-          falls = omega (arith, old, new, live, tries_fit z (b.count + 1) y (omega (arith, fewer)), now);
-          lives = λ f. let wrong : true ≡ false = sym (rw e refl) ∙ f in cc;
-          lengths = refl;
-          waiting = refl;
-        })
+        let live : one_if (is_breaking turn b) ≡ 1 = rw e refl in grind (arith, tries_fit)
     go true e false d p q f = let same : b ≡ c = cc in subst (TickedWell z breaks turn b) same (rest true e (λ x. d))
     go false e d g p q f = let same : b ≡ c = cc in subst (TickedWell z breaks turn b) same (rest false e (λ x. cc))
 

@@ -1,11 +1,12 @@
-use Rattle.std.proofs.Common.{◌≡◌, ℕ, zero, suc, ◌+◌, ◌<◌, ◌≤◌, ◌&&◌, ◌⊎◌, not, Bool, true, false, cond, nat_lt, nat_le, List, [], ◌∷◌}
-use Rattle.std.proofs.Common.{length, length-append, inl, inr, arith, refl, sym, ◌∙◌, ap, subst, Option, Some, None}
-use Rattle.link_account.proofs.Names.{slice_get, Outgoing, wanted, with_piece, after_ask, Account, is_connected, wants, piece_size}
-use Rattle.link_account.proofs.Names.{after_offer, after_given, after_busy, Role, OwnBreaks}
-use Rattle.link_run.proofs.Names.{User, BreakLine, delivered, piece_at, offered_at, offered_times, room_for, offered, is_busy, next_break}
-use Rattle.link_run.proofs.Names.{Phase, Connected}
+use Rattle.std.proofs.lemmas.Option.{slice_get_within}
+use Rattle.turn_bound.proofs.Names.{◌≡◌, ℕ, zero, suc, ◌+◌, ◌<◌, ◌≤◌, ◌&&◌, ◌⊎◌, not, Bool, true, false, cond, nat_lt, nat_le, List, []}
+use Rattle.turn_bound.proofs.Names.{◌∷◌, length, length-append, inl, inr, arith, refl, sym, ◌∙◌, ap, subst, Option, Some, None, Outgoing}
+use Rattle.turn_bound.proofs.Names.{wanted, is_connected, wants, Role, User, offered_at, offered_times, is_busy, next_break, Phase}
+use Rattle.turn_bound.proofs.Names.{Connected, asked, asked_at}
+use Rattle.link_account.proofs.Names.{with_piece, after_ask, Account}
+use Rattle.link_account.proofs.Names.{after_offer, after_given, after_busy, OwnBreaks}
+use Rattle.link_run.proofs.Names.{BreakLine, delivered, room_for, offered}
 use Rattle.turn_bound.proofs.Run.{served_account}
-use Rattle.turn_bound.proofs.Names.{asked, asked_at}
 use Rattle.turn_bound.proofs.Value.{Rates, AreRates, Sends, ends, sender_value, is_breaking, time_left, try_left, value, linked_lives}
 use Rattle.turn_bound.proofs.Value.{lives, Unlinked, IsAck, IsSilent, Linked, Tries, Stands}
 use Rattle.turn_bound.proofs.Sending.{offered-sends, ChangedWell, asked-well, same-breaks, ends-same}
@@ -38,21 +39,7 @@ pub record Offers (a b : Account) : Type 0 where
 
 -- one offer, where a piece is wanted: there is less room, or the file has ended
 offer-one : (file : List ℕ) (a : Account) → Offers a (offered_at file a (wants a))
-offer-one file a = go (is_connected a.phase) refl (a.outgoing.ended) refl
-    (nat_lt (length a.outgoing.pieces) (a.outgoing.front + a.outgoing.window))
-  where
-    go : (c : Bool) → is_connected a.phase ≡ c → (e : Bool) → a.outgoing.ended ≡ e → (l : Bool)
-        → Offers a (offered_at file a (cond c (cond (not e && l) (Some (length a.outgoing.pieces)) None) None))
-    go false f e g l = record { only = refl; longer = same-longer (is_connected a.phase) a.outgoing }
-    go true f true g l = record { only = refl; longer = same-longer (is_connected a.phase) a.outgoing }
-    go true f false g false = record { only = refl; longer = same-longer (is_connected a.phase) a.outgoing }
-    go true f false g true =
-        record {
-          only = refl;
-          longer =
-              subst (λ c. Longer c a.outgoing (with_piece (piece_at (piece_size a) file (length a.outgoing.pieces)) a.outgoing)) (sym f)
-              (piece-longer a.outgoing (piece_at (piece_size a) file (length a.outgoing.pieces)) g);
-        }
+offer-one file a = grind (arith, same-longer, piece-longer)
 
 offer-times : (n : ℕ) (file : List ℕ) (a : Account) → Offers a (offered_times n file a)
 offer-times zero file a = record { only = refl; longer = same-longer (is_connected a.phase) a.outgoing }
@@ -60,12 +47,7 @@ offer-times (suc n) file a =
     let b : Account = offered_at file a (wants a) in
     let h = offer-one file a in
     let k = offer-times n file b in
-    let c : Account = offered_times n file b in
-    record {
-      only = k.only ∙ ap (with_outgoing c.outgoing) h.only;
-      longer = more-longer (is_connected a.phase) a.outgoing b.outgoing c.outgoing h.longer
-          (subst (λ p. Longer (is_connected p) b.outgoing c.outgoing) (ap (λ x. x.phase) h.only) k.longer);
-    }
+    let c : Account = offered_times n file b in grind (arith, more-longer)
 
 -- after them none is wanted
 none-stays : (n : ℕ) (file : List ℕ) (a : Account) → wants a ≡ None → offered_times n file a ≡ a
@@ -88,10 +70,7 @@ none-more n file a again h =
     go : (c : Bool) → is_connected a.phase ≡ c → (e : Bool) → a.outgoing.ended ≡ e → (l : Bool)
         → nat_lt (length a.outgoing.pieces) (a.outgoing.front + a.outgoing.window) ≡ l
         → wants (offered_times n file (offered_at file a (cond c (cond (not e && l) (Some (length a.outgoing.pieces)) None) None))) ≡ None
-    go false f e g l t = stays (rw f refl)
-    go true f true g l t = stays (rw (f, g) refl)
-    go true f false g false t = stays (rw (f, g, t) refl)
-    go true f false g true t = takes (piece_at (piece_size a) file (length a.outgoing.pieces))
+    go c f e g l t = grind (arith, stays, takes)
 
 none-wanted : (n : ℕ) (file : List ℕ) (a : Account) → a.outgoing.front + a.outgoing.window ≤ length a.outgoing.pieces + n
     → wants (offered_times n file a) ≡ None
@@ -125,11 +104,6 @@ pub record Served (turn breaks : ℕ) (busy : Bool) (a b : Account) : Type 0 whe
 -- everything but the breaks
 abbrev pub before_asking : User → ℕ → Account → Account
 before_asking user turn a = after_busy (is_busy turn user.busy) (offered user.file (after_given (delivered a)))
-
-slice-some : (breaks : List BreakLine) (n : ℕ) (b : BreakLine) → slice_get breaks n ≡ Some b → n < length breaks
-slice-some [] n b e = cc
-slice-some (x ∷ xs) zero b e = omega arith
-slice-some (x ∷ xs) (suc n) b e = let k = slice-some xs n b e in omega (arith, k)
 
 -- no break is taken, or the next one is
 abbrev pub AskedOwn : ℕ → ℕ → Account → OwnBreaks → Type 0
@@ -236,7 +210,7 @@ asked-own turn false breaks m = by (next_break breaks m) refl
         on true true f = (
           after_ask turn b.length_octet m.own_breaks,
           refl,
-          inr (b.length_octet, refl, slice-some breaks (length m.own_breaks.lengths) b e, f),
+          inr (b.length_octet, refl, slice_get_within breaks (length m.own_breaks.lengths) b e, f),
         )
 
 pub served-by : (user : User) (turn : ℕ) (released : Bool) (a : Account) → ServedBy user turn a (served_account user turn released a)

@@ -1,12 +1,12 @@
-use Rattle.std.proofs.Common.{take, drop, length-take, length-drop, ◌≡◌, ℕ, Bool, ap, Ok, List, [], ◌∷◌, ◌⊎◌, length, arith, ◌<◌, ◌≤◌, zero}
-use Rattle.std.proofs.Common.{suc, length-append}
+use Rattle.turn_bound.proofs.Names.{drop, ◌≡◌, ℕ, Bool, ap, Ok, List, [], ◌∷◌, ◌⊎◌, length, arith, ◌<◌, ◌≤◌, zero, suc, length-append}
+use Rattle.turn_bound.proofs.Names.{Outgoing, Arrived, wants, hear, Said, speak, Role, of, User, offered_at, offered_times, Link, Accounts}
+use Rattle.turn_bound.proofs.Names.{Turn, RunOf, IsWithin}
+use Rattle.std.proofs.Common.{take, length-take, length-drop}
 use Rattle.turn_bound.proofs.Serving.{served-by}
-use Rattle.link_account.proofs.Names.{Outgoing, Arrived, Account, wants, hear, Said, speak, Role, of}
-use Rattle.link_run.proofs.Names.{User, offered_at, offered_times, Link, Accounts, Turn, RunOf}
+use Rattle.link_account.proofs.Names.{Account}
 use Rattle.link_run.proofs.Speaking.{speaks-pieces}
 use Rattle.turn_bound.proofs.Run.{served_account}
 use Rattle.turn_bound.proofs.CalmRuns.{said-speaks}
-use Rattle.turn_bound.specs.Offered.{IsWithin}
 
 -- the segments and their length, as hearing leaves them
 abbrev pub SameCut : Account → Account → Type 0

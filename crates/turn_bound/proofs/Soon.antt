@@ -1,7 +1,5 @@
-use Rattle.std.proofs.Common.{ℕ, ◌+◌, ◌-◌, ◌*◌, ◌<◌, ◌≤◌, List, length, arith}
-use Rattle.std.proofs.Math.Nat.{mul-le-mul_right}
+use Rattle.turn_bound.proofs.Names.{ℕ, ◌+◌, ◌-◌, ◌*◌, ◌<◌, ◌≤◌, List, length, arith, mul-le-mul_right, busy_turns}
 use Rattle.turn_bound.proofs.Value.{Rates, rates}
-use Rattle.turn_bound.proofs.Names.{busy_turns}
 use Rattle.turn_bound.proofs.Run.{Link, State, Turn, RunOf, start, Totals, potential, Keeps, AreTogether, most_turns}
 use Rattle.turn_bound.proofs.Ending.{fits, own-offered, falls-all, starts-low, below}
 use Rattle.turn_bound.proofs.Meeting.{together-run}

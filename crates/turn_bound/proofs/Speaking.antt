@@ -1,15 +1,14 @@
-use Rattle.std.proofs.Common.{◌≡◌, ℕ, ◌+◌, ◌*◌, ◌≤◌, ◌||◌, Bool, true, false, cond, nat_eq, length, arith, refl, sym, ◌∙◌, ap, subst}
-use Rattle.std.proofs.Common.{Option, Some, None, Ok, ◌<◌, ◌&&◌, nat_le}
-use Rattle.link_account.proofs.Names.{nat_tests, Role, Originator, Answerer, Outgoing, next_number, BreakWord, OwnBreaks, ticked, Account}
-use Rattle.link_account.proofs.Names.{is_connected, is_originator, Said, may_send, speak_linked, Frame, trying, speak, is_some}
-use Rattle.link_run.proofs.Names.{Setup, Phase, Connected, is_closed, Detecting, Negotiating, Establishing, Releasing}
-use Rattle.turn_bound.proofs.Names.{AllSaid, Expired, Steps, Ways, after_brk, after_next, answers_alone, breaking, by-linked, by-ways}
-use Rattle.turn_bound.proofs.Names.{linked-so, next-keeps, polling_at, running, says_segment, steps-so, timer_expires}
+use Rattle.turn_bound.proofs.Names.{◌≡◌, ℕ, ◌+◌, ◌*◌, ◌≤◌, ◌||◌, Bool, true, false, cond, nat_eq, length, arith, refl, sym, ◌∙◌, ap, subst}
+use Rattle.turn_bound.proofs.Names.{Option, Some, None, Ok, ◌<◌, ◌&&◌, nat_le, after_next, nat_tests, Role, Originator, Answerer, Outgoing}
+use Rattle.turn_bound.proofs.Names.{next_number, BreakWord, is_connected, is_originator, Said, may_send, speak_linked, Frame, trying, speak}
+use Rattle.turn_bound.proofs.Names.{is_some, AllSaid, Expired, Steps, Ways, answers_alone, by-linked, by-ways, linked-so, next-keeps}
+use Rattle.turn_bound.proofs.Names.{polling_at, steps-so, breaking, running, says_segment, timer_expires, Owes, Setup, Phase, Connected}
+use Rattle.turn_bound.proofs.Names.{is_closed, Negotiating, Establishing, Releasing}
+use Rattle.link_account.proofs.Names.{OwnBreaks, ticked, Account}
 use Rattle.link_account.proofs.SpeakWays.{ConnectedWays, Tries as TryWays}
 use Rattle.turn_bound.proofs.Value.{Rates, AreRates, is_waiting, Sends, lasts, sender_value, Breaks, is_breaking, break_left, value, lives}
-use Rattle.turn_bound.proofs.Value.{IsOf, IsAck, IsSilent, LinkedIn, Linked, Stands, Runs, left, try_left, linked_lives, Tries, tries_fit}
+use Rattle.turn_bound.proofs.Value.{IsOf, IsAck, IsSilent, LinkedIn, Linked, Stands, Runs, left, try_left, Tries, tries_fit}
 use Rattle.turn_bound.proofs.Sending.{WaitedWell, waited-quiet, waited-expired, sent-well, TickedWell, ticked-well, brk-sent}
-use Rattle.link_account.specs.declared.owes.Owes.{Owes}
 use Rattle.shared_terms.specs.Timer.{expires}
 use Rattle.turn_bound.proofs.Hearing.{tries-now}
 
@@ -55,19 +54,7 @@ module _ (z : Rates) (total breaks turn : ℕ) (role : Role) (a : Account) (y : 
       → is_breaking (turn + 1) b ≡ is_breaking (turn + 1) a.own_breaks
       → break_left z (turn + 1) b ≡ break_left z (turn + 1) a.own_breaks → b.lengths ≡ a.own_breaks.lengths → IsAck due
       → StepIn z total breaks turn role a a.setup a.phase a.numbered a.outgoing a.wait.timer b due
-  leaves b due sound breaking left lengths ack = record {
-    linked = record { sends = h.sends; breaks = sound; ack = ack; silent = h.silent };
-    waits = λ w. w;
-    falls = nothing-falls (sender_value z total (turn + 1) a.outgoing a.wait.timer) z.room (is_waiting a.outgoing);
-    breaking = breaking;
-    left = left;
-    lengths = lengths;
-    setup = refl;
-    phase = refl;
-    numbered = refl;
-    pieces = refl;
-    ended = refl;
-  }
+  leaves b due sound breaking left lengths ack = grind (arith, nothing-falls)
 
   -- and the breaks
   same : (due : Option BreakWord) → IsAck due
@@ -111,8 +98,7 @@ module _ (z : Rates) (total breaks turn : ℕ) (role : Role) (a : Account) (y : 
     poll = λ n r e. same _ h.ack;
     segment = λ b u n e. segment n e;
     brkack = λ b s word e. same None tt;
-    brk = λ b s k word e.
-        leaves (after_brk a.own_breaks) _ (brk-sent z (turn + 1) (turn + 1) a.own_breaks h.breaks) refl refl refl h.ack;
+    brk = grind (arith, leaves, brk-sent);
     tell = λ b w e. same _ h.ack;
     rej = λ b w n k. same _ h.ack;
     srej = λ b w s n k. same _ h.ack;
@@ -261,16 +247,13 @@ module _ (z : Rates) (total breaks turn : ℕ) (release : Bool) (a : Account) (y
     answers = λ t d e. alone z total breaks turn release Originator a y k st er all _ t;
     flags = λ t e. alone z total breaks turn release Originator a y k st er all a.owes t;
     mark = λ p r e. let wrong : Originator ≡ Answerer = sym er ∙ r in cc;
-    odp = λ p r l. let less = before l in tried Detecting p Detecting a p (λ x. refl) refl (st Detecting p) refl refl refl
-        (omega (arith, less));
+    odp = grind (arith, before, tried);
     xid = λ p r. tries-well z turn _ a y k (st Negotiating p).1 _ (λ try set count runs falls.
         tried Negotiating p Negotiating _ p (λ x. refl) refl ((st Negotiating p).0, runs) refl refl refl (omega (arith, falls)));
     sabme = λ p. tries-well z turn _ a y k (st Establishing p).1 _ (λ try set count runs falls.
         tried Establishing p Establishing _ p (λ x. refl) refl ((st Establishing p).0, runs) refl refl refl (omega (arith, falls)));
     linked = λ p r. linked z total breaks turn release Originator a y k st er all p;
-    releases = λ p r. tries-well z turn _ (trying Releasing turn a) y k (tries-now z turn Releasing a) _ (λ try set count runs falls.
-        tried Connected p Releasing _ refl (λ x. cc) refl runs refl refl refl
-        (omega (arith, falls, y.quota, y.first, lasts-most (linked_lives turn a))));
+    releases = grind (arith, tries-well, trying, tries-now, tried, lasts-most);
     disc = λ p. tries-well z turn _ a y k (st Releasing p) _ (λ try set count runs falls.
         tried Releasing p Releasing _ p (λ x. refl) refl runs refl refl refl (omega (arith, falls)));
   }

@@ -1,18 +1,19 @@
-use Rattle.std.proofs.Common.{◌≡◌, ℕ, ◌+◌, ◌%◌, ◌≤◌, ◌&&◌, ◌||◌, not, Bool, true, false, cond, nat_eq, nat_lt, List, arith, refl, sym, ◌∙◌}
-use Rattle.std.proofs.Common.{ap, Option, Some, None, Ok, ◌-◌, ◌<◌, [], ◌∷◌, ◌++◌, length, slice_index_or, subst, inl, inr, length-append}
+use Rattle.turn_bound.proofs.Names.{◌≡◌, ℕ, ◌+◌, ◌%◌, ◌≤◌, ◌&&◌, ◌||◌, not, Bool, true, false, cond, nat_eq, nat_lt, List, arith, refl, sym}
+use Rattle.turn_bound.proofs.Names.{◌∙◌, ap, Option, Some, None, Ok, ◌-◌, ◌<◌, [], ◌∷◌, ◌++◌, length, slice_index_or, subst, inl, inr}
+use Rattle.turn_bound.proofs.Names.{length-append, after_ack, is_whole, ConnectedWays, acked, numbered_with, is_some, nat_tests, Role}
+use Rattle.turn_bound.proofs.Names.{Outgoing, is_outstanding, Incoming, after_kind, kind_of, offset, Took, Arrived, hear, without_adp}
+use Rattle.turn_bound.proofs.Names.{next_number, BreakWord, Brk, is_originator, Said, frame_for, nr_of, may_send, ready_frame, wanted}
+use Rattle.turn_bound.proofs.Names.{is_connected, speak, speak_linked, AllSaid, Steps, break_waits, is_done, breaking, differs}
+use Rattle.turn_bound.proofs.Names.{says_segment, says_word, tells, Connected, Answer, User, is_busy, has_finished, next_break, is_ready}
 use Rattle.turn_bound.proofs.Truths.{neither-first, and-second, is-true, or-false-both, not-true}
-use Rattle.link_account.proofs.Names.{is_some, nat_tests, Role, Outgoing, is_outstanding, Incoming, after_kind, kind_of, offset, Took}
-use Rattle.link_account.proofs.Names.{OwnBreaks, after_answer, waits, Arrived, Account, hear, without_adp, next_number, BreakWord, Brk}
-use Rattle.link_account.proofs.Names.{is_originator, Said, frame_for, nr_of, may_send, ready_frame, wanted, after_ask, is_connected, speak}
-use Rattle.link_account.proofs.Names.{speak_linked, ticked}
-use Rattle.link_run.proofs.Names.{Connected, Answer, User, is_busy, has_finished, next_break}
-use Rattle.turn_bound.proofs.Value.{Rates, is_waiting, Sends, is_free, one_if, Linked, two_if, dues, frame_weight, word_weight}
+use Rattle.link_account.proofs.Names.{OwnBreaks, after_answer, waits, Account}
+use Rattle.link_account.proofs.Names.{after_ask}
+use Rattle.link_account.proofs.Names.{ticked}
+use Rattle.turn_bound.proofs.Value.{Rates, is_waiting, Sends, is_free, one_if, Linked, two_if, dues, frame_weight}
 use Rattle.turn_bound.proofs.Value.{arrived_weight, AreRates, four_if, weight, connected-is, linked_lives, IsOf, Stands, Breaks}
 use Rattle.turn_bound.proofs.Value.{is_breaking}
 use Rattle.turn_bound.proofs.Sender.{Heard, meant-range, heard-advanced, heard-resumed, acked-heard}
 use Rattle.link_account.proofs.HearWays.{by-linked}
-use Rattle.turn_bound.proofs.Names.{AllSaid, ConnectedWays, Steps, acked, after_ack, break_waits, breaking, differs, is_done, is_ready}
-use Rattle.turn_bound.proofs.Names.{is_whole, numbered_with, says_segment, says_word, tells}
 use Rattle.lapm_receiver.specs.Incoming.{asks}
 use Rattle.turn_bound.proofs.Sending.{sent-well}
 use Rattle.turn_bound.proofs.Run.{served_account}
@@ -79,28 +80,10 @@ module _ (z : Rates) (total turn : ℕ) (role : Role) (a : Account) (h : Linked 
       rnr = λ command pf nr n final g m w p. let o = acked final a.outgoing n in absurd (busy (is_outstanding o) o.awaited w);
       srej = λ command pf nr n g m w p. let wrong : true ≡ false = sym (rw g refl) ∙ e in cc;
     };
-    sabme = λ pf n r w p. record {
-      dues = omega (arith, some-two (is_some a.owes.answer));
-      free = refl;
-      numbered = λ n. n;
-      phase = p;
-      own = λ x. refl;
-    };
+    sabme = grind (arith, some-two);
     disc = λ pf r w p. cc;
-    brk = λ command pf info number length_octet q w p. record {
-      dues = omega (arith, some-two (is_some a.their_breaks.ack), ap word_weight q);
-      free = refl;
-      numbered = λ n. n;
-      phase = p;
-      own = λ x. refl;
-    };
-    brkack = λ command pf info number length_octet q w p. record {
-      dues = omega arith;
-      free = refl;
-      numbered = λ n. n;
-      phase = p;
-      own = unanswered turn number a.own_breaks;
-    };
+    brk = grind (arith, some-two);
+    brkack = grind (arith, unanswered);
   }
 
   pub still-hears : (arrived : Arrived) (mid : Account) → a.phase ≡ Connected → hear turn arrived a ≡ Ok mid → P arrived mid
@@ -194,13 +177,7 @@ module _ (z : Rates) (total turn : ℕ) (role : Role) (a : Account) (special : B
 
   pub steps-pay : Steps (Pays total a special) turn special a
   steps-pay = record {
-    answers = λ d e w. omega (
-      arith,
-      light d,
-      ap (λ m. two_if (is_some m)) e,
-      one-less (is_free total a.outgoing) (not a.special),
-      one-most (is_free total a.outgoing),
-    );
+    answers = grind (arith, light, one-less, one-most);
     final = λ n e. pays-tells (record a { owes = record a.owes { reply = false } }) false true refl refl (omega (arith, ap two_if e));
     poll = λ n r e. pays-tells (record a { wait = record a.wait { poll = false } }) true true refl refl (omega (arith, ap four_if e));
     segment = λ b u n e. sends n e;
@@ -218,20 +195,8 @@ module _ (z : Rates) (total turn : ℕ) (role : Role) (a : Account) (special : B
         one-less (is_free total a.outgoing) (not a.special),
       )
     ];
-    rej = λ b w n k v. omega (
-      arith,
-      ap two_if (asks-rej a.incoming n k.kind k.number),
-      ap two_if (rej-after a.incoming n a.incoming.srej ∙ ap (λ b. cond b a.incoming.rej false) k.kind),
-      one-less (is_free total a.outgoing) (not a.special),
-      one-most (is_free total a.outgoing),
-    );
-    srej = λ b w s n k v. omega (
-      arith,
-      ap two_if (rej-after a.incoming n a.incoming.srej ∙ ap (λ b. cond b a.incoming.rej false) k.kind),
-      one-none (is_free total a.outgoing),
-      one-all (is_free total a.outgoing),
-      ap (λ b. one_if (is_free total a.outgoing && not b)) s,
-    );
+    rej = grind (arith, asks-rej, rej-after, one-less, one-most);
+    srej = grind (arith, rej-after, one-none, one-all);
     flags = λ i w. omega (
       arith,
       ap one_if (none-free z total turn role a h i.segment),
@@ -347,18 +312,9 @@ module _ {z : Rates} {user : User} {turn : ℕ} {role : Role} {a : Account} {arr
       let heard = still-hears z total turn role a h before.0 arrived mid e i.hears (sym same ∙ idle.0) s.mid_phase in
       let free : is_free total b.outgoing ≡ is_free total mid.outgoing = ap (is_free total) s.serves.longer.outgoing in
       let due : dues total b ≡ dues total mid = served-dues turn (length user.breaks) total (is_busy turn user.busy) mid b s.serves free in
-      let may' : is_originator b.setup.role || b.numbered ≡ true =
-      or-numbered (is_originator a.setup.role) (is_originator b.setup.role) a.numbered b.numbered (ap (λ x. is_originator x.role) s.setup)
-      (λ n. s.serves.numbered ∙ heard.numbered n) may in
+      let may' : is_originator b.setup.role || b.numbered ≡ true = grind (arith, or-numbered, b) in
       let pays = speaks-still z total (length user.breaks) turn role b said i.rates i.b_is_of s.linked i.b_role all s.says dead'
-      (s.serves.busy_now (ap is_connected s.mid_phase) ∙ busy) may' more in
-      record {
-        pays = omega (arith, pays, due, heard.dues, ap one_if (free ∙ heard.free));
-        idle = idle.0;
-        unbroken = idle.1;
-        free = free ∙ heard.free;
-        own = heard.own waits-a;
-      }
+      (s.serves.busy_now (ap is_connected s.mid_phase) ∙ busy) may' more in grind (arith)
 
 -- a break that is ready is asked for, and then waits
 waits-then : (turn l : ℕ) (b : OwnBreaks) → b.answered ≤ length b.lengths → waits b ≡ false → nat_lt turn b.rest ≡ false

@@ -1,15 +1,14 @@
 -- What an end may be held up by before it sends a segment, as a number that each turn in which it is held up lowers by three, but for a
 -- poll
 -- that is heard in it. A poll of the other end has a value too: one becomes due in nineteen turns at most.
-use Rattle.std.proofs.Common.{ℕ, ◌+◌, ◌-◌, ◌≤◌, ◌&&◌, min, Bool, true, false, cond, arith, Option, Some, None, ◌≡◌, ◌<◌, ◌||◌, ◌⊎◌, List}
-use Rattle.std.proofs.Common.{inl, inr, refl, sym, ◌∙◌, ap, Ok, length-append}
+use Rattle.turn_bound.proofs.Names.{ℕ, ◌+◌, ◌-◌, ◌≤◌, ◌&&◌, min, Bool, true, false, cond, arith, Option, Some, None, ◌≡◌, ◌<◌, ◌||◌, ◌⊎◌}
+use Rattle.turn_bound.proofs.Names.{List, inl, inr, refl, sym, ap, Ok, length-append, with_number, ConnectedWays, Plain, numbered_with}
+use Rattle.turn_bound.proofs.Names.{is_some, Frame, Rr, Rnr, Rej, Incoming, BreakWord, nat_tests, Role, Answerer, is_originator, I, meant}
+use Rattle.turn_bound.proofs.Names.{Outgoing, is_outstanding, advanced, after_kind, kind_of, offset, Took, Arrived, hear, without_adp}
+use Rattle.turn_bound.proofs.Names.{on_nothing, timer_after, Phase, Connected, Releasing, Closed}
 use Rattle.turn_bound.proofs.Truths.{or-false}
-use Rattle.link_account.proofs.Names.{is_some, Frame, Rr, Rnr, Rej, Incoming, BreakWord, OwnBreaks, waits, Account, nat_tests, Role}
-use Rattle.link_account.proofs.Names.{Answerer, is_originator, I, meant, Outgoing, is_outstanding, advanced, after_kind, kind_of, offset}
-use Rattle.link_account.proofs.Names.{Took, after_answer, Arrived, hear, without_adp, after_take, on_nothing, after_ask}
-use Rattle.link_run.proofs.Names.{Phase, Connected, Releasing, Closed}
-use Rattle.lapm_sender.specs.Numbers.{with_number}
-use Rattle.turn_bound.proofs.Names.{ConnectedWays, Plain, numbered_with, timer_after}
+use Rattle.link_account.proofs.Names.{OwnBreaks, waits, Account}
+use Rattle.link_account.proofs.Names.{after_answer, after_take, after_ask}
 use Rattle.turn_bound.proofs.Value.{Rates, Breaks, Linked, frame_weight, arrived_weight, arrived_rnrs}
 use Rattle.link_account.proofs.HearWays.{by-linked}
 use Rattle.turn_bound.proofs.Sender.{acked-heard, Heard, meant-range, heard-advanced, heard-resumed, heard-selected}
@@ -116,8 +115,7 @@ answered-own z turn number b s = grind (arith)
 module _ (z : Rates) (turn : ℕ) (role : Role) (a : Account) (h : Linked z turn turn role a) (e : a.phase ≡ Connected) where
   number : (polls : Bool) (new : Outgoing) (urgent : Bool) → Heard a.outgoing new
       → TakesSo turn polls a (numbered_with a new a.incoming (timer_after turn a.outgoing new a.wait.timer) (a.owes.reply || polls) urgent)
-  number polls new urgent k =
-      inr (number-takes turn polls a _ (inl (k, refl)) refl e refl refl refl refl refl (λ x. refl) refl refl refl)
+  number polls new urgent k = grind (arith)
 
   same : TakesSo turn false a a
   same = same-takes turn a e a refl refl refl refl refl refl refl refl refl refl
@@ -138,23 +136,7 @@ module _ (z : Rates) (turn : ℕ) (role : Role) (a : Account) (h : Linked z turn
   taken ns nr n info f =
       let range = meant-range a.outgoing.front a.outgoing.high nr n f in
       let k = take-owes (kind_of ns a.incoming) (offset a.incoming ns) info a.incoming a.their_breaks.ack in
-      inr (
-        e,
-        record {
-          number = inl (heard-advanced z turn turn a.outgoing a.wait.timer n h.sends range.0 range.1, refl);
-          setup = refl;
-          srej = k.0;
-          special = refl;
-          poll = refl;
-          told = refl;
-          answer = λ x m. x;
-          numbered = λ x. refl;
-          own = omega arith;
-          gain = k.1;
-          calm = λ s x. k.2 (sym k.0 ∙ s);
-          asked = λ x g. absurd (none a.owes.reply x g);
-        },
-      )
+      grind (arith, heard-advanced, none)
     where
       none : (r : Bool) → r ≡ false → r || false ≡ true → ⊥
       none b f g = grind (arith)
@@ -176,13 +158,9 @@ module _ (z : Rates) (turn : ℕ) (role : Role) (a : Account) (h : Linked z turn
       rnr = λ command pf nr m final f g w n. absurd (omega (arith, n));
       srej = λ command pf nr m f g w n. chosen nr m f g;
     };
-    sabme = λ pf n r w m. other _ refl refl refl refl refl refl refl refl refl
-        (λ x y. let none : is_originator a.setup.role || a.numbered ≡ false = rw (r, n) refl in let wrong : true ≡ false = sym y
-        ∙ none in cc)
-        (omega arith) (omega arith) (λ x. omega arith);
+    sabme = grind (arith, other);
     disc = λ pf r w n. inl (record { phase = refl; answers = r; outgoing = refl });
-    brk = λ command pf info m l q w n. other _ refl refl refl refl refl refl refl refl refl (λ x y. x) (omega arith)
-        (omega (arith, one-more (is_some a.their_breaks.ack))) (λ x. cc);
+    brk = grind (arith, other, one-more);
     brkack = λ command pf info m l q w n. other _ refl refl refl refl refl refl refl refl refl (λ x y. x)
         (answered-own z turn m a.own_breaks h.breaks) (omega arith) (λ x. omega arith);
   }
@@ -191,8 +169,7 @@ module _ (z : Rates) (turn : ℕ) (role : Role) (a : Account) (h : Linked z turn
           → frame_weight (I ns nr pf info) ≤ 2
           → TakesSo turn false a (numbered_with a (advanced a.outgoing n) (after_take ns info a.incoming)
           (timer_after turn a.outgoing (advanced a.outgoing n) a.wait.timer) (a.owes.reply || pf) a.wait.urgent)
-      unpolled ns nr true info n f w = absurd (omega (arith, w))
-      unpolled ns nr false info n f w = taken ns nr n info f
+      unpolled ns nr pf info n f w = grind (arith, taken)
 
       chosen : (nr n : ℕ) → is_outstanding a.outgoing ≡ true → meant a.outgoing.front (a.outgoing.high - 1) nr ≡ Some n
           → TakesSo turn false a (numbered_with a (record a.outgoing { chosen = with_number n a.outgoing.chosen }) a.incoming

@@ -1,12 +1,11 @@
 -- A run over lines that carry what is sent is a run with queues.
-use Rattle.std.proofs.Common.{◌≡◌, ℕ, zero, suc, ◌-◌, ◌<◌, ◌≤◌, Bool, true, false, cond, nat_lt, List, [], ◌∷◌, ◌++◌, map, length}
-use Rattle.std.proofs.Common.{length-append, arith, refl, sym, ◌∙◌, ap, subst, Option, Some, None}
-use Rattle.link_account.proofs.Names.{slice_get, nat_tests, Role, Originator, Answerer, of, Sent, Heard, Nothing, Passed, Lost, Chance}
-use Rattle.link_account.proofs.Names.{hear, Slot, arrives}
-use Rattle.link_run.proofs.Names.{is_released, Link, Accounts, Spoken, Turn, GoingTurn, RunOf, Crosses, Carries, IsCarried, sent_in}
+use Rattle.turn_bound.proofs.Names.{◌≡◌, ℕ, zero, suc, ◌-◌, ◌<◌, ◌≤◌, Bool, true, false, cond, nat_lt, List, [], ◌∷◌, ◌++◌, map, length}
+use Rattle.turn_bound.proofs.Names.{length-append, arith, refl, sym, ◌∙◌, ap, subst, Option, Some, None, slice_get, nat_tests, Role}
+use Rattle.turn_bound.proofs.Names.{Originator, Answerer, of, Sent, Heard, hear, Slot, arrives, is_released, Link, Accounts, Spoken, Turn}
+use Rattle.turn_bound.proofs.Names.{GoingTurn, RunOf, Crosses, Carries, IsCarried, sent_in, KeepsTime}
+use Rattle.link_account.proofs.Names.{Nothing, Passed, Lost, Chance}
 use Rattle.link_run.proofs.Names.{sent_ago}
 use Rattle.link_run.specs.Carried.{HasDelays, has_message}
-use Rattle.turn_bound.proofs.Names.{KeepsTime}
 use Rattle.turn_bound.proofs.Run.{arrival, left_on, slot_of, served_account, State, Keeps}
 use Rattle.lapm_frames.specs.declared.arrived.Arrived.TheVariants as arrivals
 use Rattle.link_run.specs.Run as runs
@@ -213,13 +212,4 @@ pub keeps : (tries period : ℕ) (delay : Role → ℕ) (link : Link) → KeepsT
 keeps tries period delay link k =
     let o = k.timed Originator in
     let a = k.timed Answerer in
-    record {
-      originates = k.roles Originator;
-      answers = k.roles Answerer;
-      orig = record { tries = o.tries_are; period = o.period_is; tx_window = o.tx_window; rx_window = o.rx_window };
-      answ = record { tries = a.tries_are; period = a.period_is; tx_window = a.tx_window; rx_window = a.rx_window };
-      some_tries = k.some_tries;
-      orig_delay = k.delays Originator;
-      answ_delay = k.delays Answerer;
-      period_is = k.period_is;
-    }
+    assumption (k.roles Originator, k.roles Answerer, k.delays Originator, k.delays Answerer)

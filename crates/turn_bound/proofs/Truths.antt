@@ -1,7 +1,5 @@
 -- What follows of two truths, of one that contradicts itself, and of a phase that isn't linked.
-use Rattle.std.proofs.Common.{arith, ◌≡◌, ◌&&◌, ◌||◌, Bool, true, false, refl, sym, ◌∙◌}
-use Rattle.link_account.proofs.Names.{is_connected}
-use Rattle.link_run.proofs.Names.{Phase}
+use Rattle.turn_bound.proofs.Names.{arith, ◌≡◌, ◌&&◌, ◌||◌, Bool, true, false, refl, sym, ◌∙◌, is_connected, Phase}
 use Rattle.link_account.specs.Laws.{has_begun as is_linked}
 
 pub clash : {A : Type 0} (b : Bool) → b ≡ true → b ≡ false → A

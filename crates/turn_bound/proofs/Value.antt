@@ -1,14 +1,12 @@
-use Rattle.link_account.proofs.Names.{is_some, AllByRecursion, Outgoing, is_outstanding, OwnBreaks, waits, Role, Originator, Answerer}
-use Rattle.link_account.proofs.Names.{Frame, I, Rr, Rnr, Rej, Sabme, Ui, BreakWord, Brk, Ack, BreakFault, word_in, Sent, Arrived, Account}
-use Rattle.link_account.proofs.Names.{is_connected}
+use Rattle.turn_bound.proofs.Names.{List, [], ◌∷◌, arith, mul-le-mul_left, mul-le-mul_right, no_breaks, is_some, AllByRecursion, Outgoing}
+use Rattle.turn_bound.proofs.Names.{is_outstanding, Role, Originator, Answerer, Frame, I, Rr, Rnr, Rej, Sabme, Ui, BreakWord, Brk, Sent}
+use Rattle.turn_bound.proofs.Names.{Arrived, is_connected, Setup, Phase, Detecting, Negotiating, Establishing, Connected, Releasing, Closed}
+use Rattle.turn_bound.proofs.Names.{Terms}
+use Rattle.link_account.proofs.Names.{OwnBreaks, waits}
+use Rattle.link_account.proofs.Names.{Ack, BreakFault, word_in, Account}
 use Rattle.std.specs.Prelude.{◌≡◌, ℕ, ◌+◌, ◌-◌, ◌*◌, ◌<◌, ◌≤◌, Bool, true, false, not, cond, ◌&&◌, ◌||◌, nat_lt, length, Option, Some, None}
 use Rattle.std.specs.Prelude.{Result, Ok, Err}
-use Rattle.std.proofs.Common.{List, [], ◌∷◌, arith}
-use Rattle.std.proofs.Math.Nat.{mul-le-mul_left, mul-le-mul_right}
-use Rattle.link_run.proofs.Names.{Setup, Phase, Detecting, Negotiating, Establishing, Connected, Releasing, Closed}
 use Rattle.link_account.specs.Laws.{has_begun}
-use Rattle.xid_params.specs.declared.terms.Terms.{Terms}
-use Rattle.turn_bound.proofs.Names.{no_breaks}
 use Rattle.lapm_sender.specs.Outgoing as outgoing
 use Rattle.lapm_frames.specs.declared.sent.Sent.TheVariants as slots
 use Rattle.lapm_frames.specs.declared.arrived.Arrived.TheVariants as arrivals

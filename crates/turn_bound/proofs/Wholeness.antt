@@ -1,12 +1,12 @@
 -- An end that is whole stays so, and the link is released once both ends are.
-use Rattle.std.proofs.Common.{◌≡◌, ℕ, ◌+◌, ◌≤◌, ◌&&◌, ◌⊎◌, nat_eq, Bool, true, false, cond, List, [], ◌∷◌, map, length, inl, inr, arith}
-use Rattle.std.proofs.Common.{refl, sym, ◌∙◌, ap, subst, Ok}
+use Rattle.turn_bound.proofs.Names.{◌≡◌, ℕ, ◌+◌, ◌≤◌, ◌&&◌, ◌⊎◌, nat_eq, Bool, true, false, cond, List, [], ◌∷◌, map, length, inl, inr}
+use Rattle.turn_bound.proofs.Names.{arith, refl, sym, ◌∙◌, ap, subst, Ok, is_whole, nat_tests, Role, Originator, Answerer, is_originator}
+use Rattle.turn_bound.proofs.Names.{of, Outgoing, Arrived, is_connected, trying, Said, speak, speak_in, speak_linked, speak_releasing}
+use Rattle.turn_bound.proofs.Names.{Phase, Detecting, Negotiating, Establishing, Connected, Releasing, Closed, User, is_busy, is_released}
+use Rattle.turn_bound.proofs.Names.{has_finished, Link, Accounts, Turn, RunOf, arrival, releases, IsCarried, finished_at, served_ends}
+use Rattle.turn_bound.proofs.Names.{NeverBusy, KeepsTime}
 use Rattle.turn_bound.proofs.Truths.{and-two}
-use Rattle.link_account.proofs.Names.{nat_tests, Role, Originator, Answerer, is_originator, of, Outgoing, Arrived, Account, is_connected}
-use Rattle.link_account.proofs.Names.{trying, Said, speak, speak_in, speak_linked, speak_releasing}
-use Rattle.link_run.proofs.Names.{Phase, Detecting, Negotiating, Establishing, Connected, Releasing, Closed, User, is_busy, is_released}
-use Rattle.link_run.proofs.Names.{has_finished, Link, Accounts, Turn, RunOf, arrival, releases, IsCarried}
-use Rattle.turn_bound.proofs.Names.{KeepsTime, NeverBusy, finished_at, is_whole, served_ends}
+use Rattle.link_account.proofs.Names.{Account}
 use Rattle.turn_bound.proofs.Value.{Rates, rates, AreRates, IsOf, Linked, Stands, arrived_weight, arrived_rnrs, unlinked-of, connected-is}
 use Rattle.turn_bound.proofs.Run.{served_account}
 use Rattle.turn_bound.proofs.Speaking.{spoke}

@@ -1,12 +1,10 @@
 -- What an end sends at the answer to its poll is acknowledged, where no line is lost.
-use Rattle.std.proofs.Common.{◌⊎◌, inl, inr, ◌≡◌, ℕ, ◌+◌, ◌-◌, ◌%◌, ◌<◌, ◌≤◌, Bool, true, false, length, arith, refl, sym, ◌∙◌, ap, Option}
-use Rattle.std.proofs.Common.{Some, None}
-use Rattle.link_account.proofs.Names.{is_some, Frame, meant, Sent, Arrived, is_connected, arrives}
+use Rattle.turn_losses.proofs.Names.{◌⊎◌, inl, inr, ◌≡◌, ℕ, ◌+◌, ◌-◌, ◌%◌, ◌<◌, ◌≤◌, Bool, true, false, length, arith, refl, sym, ◌∙◌, ap}
+use Rattle.turn_losses.proofs.Names.{Option, Some, None, is_some, Frame, meant, Sent, Arrived, is_connected, arrives, of_arrived, clash}
+use Rattle.turn_losses.proofs.Names.{is_linked, EndRun, ArrivesLate, TwoEnds, hears_final, is_final}
 use Rattle.turn_losses.proofs.PeriodLaws.{Answers, reply-matches, awaits-on, NoneLost, StayConnected, connected-since}
 use Rattle.turn_losses.proofs.NumberHear.{frame_nr, nr_heard, ns_heard, nr_sent, ns_sent, NumbersHeard, Room}
 use Rattle.turn_losses.proofs.NumberTurn.{NumberTurn}
-use Rattle.turn_losses.proofs.Names.{of_arrived, is_final, is_linked, EndRun, ArrivesLate, TwoEnds, hears_final}
-use Rattle.turn_bound.proofs.Truths.{clash}
 use Rattle.turn_losses.proofs.Kept.{kept-in}
 use Rattle.lapm_frames.specs.declared.arrived.Arrived.TheVariants as arrivals
 

@@ -1,20 +1,18 @@
-use Rattle.std.proofs.Common.{◌≡◌, ℕ, ◌%◌, ◌<◌, ◌&&◌, ◌||◌, not, Bool, true, false, cond, [], arith, refl, sym, ◌∙◌, ap, subst, Option}
-use Rattle.std.proofs.Common.{Some, None, Ok, slice_index_or, ◌⊎◌, inl, inr, ◌+◌, length}
-use Rattle.link_account.proofs.Names.{Frame, I, Rnr, Outgoing, is_outstanding, advanced, resumed, OwnBreaks, ticked, Account, hear, Arrived}
-use Rattle.link_account.proofs.Names.{Said, nr_of, may_send, steps, speak_linked, Role, is_connected, speak, of}
-use Rattle.link_run.proofs.Names.{Connected, Answer, is_busy, is_released, Link}
+use Rattle.turn_losses.proofs.Names.{◌≡◌, ℕ, ◌%◌, ◌<◌, ◌&&◌, ◌||◌, not, Bool, true, false, cond, [], arith, refl, sym, ◌∙◌, ap, Option}
+use Rattle.turn_losses.proofs.Names.{Some, None, Ok, ◌⊎◌, inl, inr, ◌+◌, length, Plain, ConnectedWays, numbered_with, acked, by-linked}
+use Rattle.turn_losses.proofs.Names.{Frame, I, Rnr, Outgoing, advanced, resumed, OwnBreaks, ticked, Account, hear, Arrived, Said, nr_of}
+use Rattle.turn_losses.proofs.Names.{speak_linked, Role, speak, of, ends_wait, Connected, is_busy, is_released, Link, of_arrived, Served}
+use Rattle.turn_losses.proofs.Names.{linked-says, Rates, Sends, rates, connected-is, linked-of, is_final}
+use Rattle.std.proofs.Common.{slice_index_or}
+use Rattle.link_account.proofs.Names.{is_outstanding}
+use Rattle.link_account.proofs.Names.{may_send, steps}
 use Rattle.lapm_sender.specs.Outgoing.{wait_ended, paused_at, after_next, expired}
-use Rattle.link_account.specs.Hear.{ends_wait}
-use Rattle.link_account.proofs.HearWays.{Plain, ConnectedWays, numbered_with, acked, by-linked}
-use Rattle.link_account.specs.Speak.{else_says, where_says, answering, polling, timer_expires, breaking, says_segment, after_timers}
+use Rattle.link_account.specs.Speak.{polling, timer_expires, breaking, after_timers}
 use Rattle.link_account.specs.Speak.{then_tries}
 use Rattle.turn_bound.proofs.StillTurn.{front-next}
 use Rattle.turn_bound.proofs.Truths.{or-true}
-use Rattle.turn_losses.proofs.Names.{of_arrived, Rates, Sends, is_final, Served, rates}
 use Rattle.lapm_frames.specs.declared.arrived.Arrived.TheVariants as arrivals
 use Rattle.lapm_frames.specs.declared.sent.Sent.TheVariants as slots
-use Rattle.turn_bound.proofs.Value.{connected-is, linked-of}
-use Rattle.turn_bound.proofs.Speaking.{linked-says}
 use Rattle.turn_losses.proofs.Trace.{SendsSegment, AnswerTurn}
 use Rattle.turn_losses.proofs.InTurn.{InTurn}
 
@@ -82,12 +80,7 @@ pub record Segment (n : ℕ) (a : Account) (said : Said) : Type 0 where
 
 steps-urgent : (turn n : ℕ) (special : Bool) (a : Account) → a.owes.answer ≡ None → a.owes.reply ≡ false → a.wait.poll ≡ false
     → a.wait.urgent ≡ true → may_send a ≡ Some n → Segment n a (steps turn special a)
-steps-urgent turn n special a e1 e2 e3 e4 e5 = go a.owes.answer a.owes.reply a.wait.poll a.wait.urgent (may_send a) _ _ _ e1 e2 e3 e4 e5
-  where
-    go : (m : Option Answer) (r p u : Bool) (s : Option ℕ) (x y rest : Said) → m ≡ None → r ≡ false → p ≡ false → u ≡ true → s ≡ Some n
-        → Segment n a (else_says (answering m a)
-        (else_says (where_says r x) (else_says (where_says p y) (else_says (cond u (says_segment turn s a) None) rest))))
-    go b r p u s x y rest f1 f2 f3 f4 f5 = grind (arith)
+steps-urgent turn n special a e1 e2 e3 e4 e5 = grind (arith)
 
 pub urgent-says : (turn n : ℕ) (a : Account) (said : Said) → speak_linked turn a ≡ Ok said → timer_expires turn a a.wait.timer ≡ false
     → a.owes.answer ≡ None → a.owes.reply ≡ false → a.wait.poll ≡ false → a.wait.urgent ≡ true
@@ -97,11 +90,7 @@ urgent-says turn n a said h t e1 e2 e3 e4 e5 =
     (sym (ap (λ x. after_timers turn a.special (then_tries turn (cond x (polling turn (expired a.outgoing) a) (Ok a)))) t) ∙ h)
   where
     go : (m : Option OwnBreaks) → after_timers turn a.special (breaking turn m a) ≡ Ok said → Segment n a said
-    go None q = cc
-    go (Some b) q =
-        let k = steps-urgent turn n a.special (record (record a { own_breaks = b }) { special = false }) e1 e2 e3 e4 e5 in
-        let same : steps turn a.special (record (record a { own_breaks = b }) { special = false }) ≡ said = cc in
-        subst (Segment n a) same (record { sent = k.sent; number = k.number; outgoing = k.outgoing })
+    go m q = grind (arith, steps-urgent, steps)
 
 -- where the wait has ended and something is outstanding, it may be sent
 pub front-may : (z : Rates) (before turn : ℕ) (a : Account) → Sends z before turn a.outgoing a.wait.timer → a.numbered ≡ true
@@ -137,8 +126,7 @@ module _ {tries period : ℕ} {link : Link} {role : Role} {turn : ℕ} {a : Acco
           phase = s.phase ∙ (t.phase ∙ connected-is a.phase c)
 
           sends : Sends (rates tries period) (turn + 1) turn b.outgoing b.wait.timer
-          sends = (linked-of (rates tries period) (turn + 1) turn role i.phase b i.b_stands
-              (ap is_connected (sym (s.phase ∙ i.heard.phase)) ∙ ap is_connected phase)).sends
+          sends = grind (arith, linked-of, rates, s, phase)
 
           unexpired : timer_expires turn b b.wait.timer ≡ false
           unexpired = grind (arith, not-expires)
@@ -153,8 +141,7 @@ module _ {tries period : ℕ} {link : Link} {role : Role} {turn : ℕ} {a : Acco
               (ap (λ v. v.awaited) s.longer.outgoing ∙ t.awaited)
               (ap (λ v. v.paused) s.longer.outgoing ∙ t.paused r)
               (ap (λ v. v.from) s.longer.outgoing ∙ (t.from ∙ sym front)) (ap (λ v. v.chosen) s.longer.outgoing ∙ t.chosen)
-              (ap is_outstanding s.longer.outgoing ∙ o)) in
-              subst (λ n. SendsSegment n b said) front (record { sent = g.sent; number = g.number })
+              (ap is_outstanding s.longer.outgoing ∙ o)) in grind (arith, front)
 
           by : (r : Bool) → frame_rnr frame ≡ r → (mid.outgoing.count ≡ 0) ⊎ SendsSegment mid.outgoing.front b said
           by true r = inl (t.busy r)

@@ -1,13 +1,10 @@
 -- What hearing makes of an end's breaks, of what it owes for the other end's, and of its urgent segment.
-use Rattle.std.proofs.Common.{arith, ◌⊎◌, inl, ◌≡◌, ℕ, ◌+◌, ◌%◌, ◌&&◌, List, Bool, true, false, cond, nat_eq, refl, sym, ◌∙◌, ap, Ok}
-use Rattle.link_account.proofs.Names.{Ui, Arrived, BreakWord, Ack, word_in, OwnBreaks, waits, Account, is_connected, hear}
-use Rattle.link_run.proofs.Names.{Connected}
-use Rattle.link_account.proofs.HearWays.{by-linked}
+use Rattle.turn_losses.proofs.Names.{arith, ◌⊎◌, inl, ◌≡◌, ℕ, ◌+◌, ◌%◌, ◌&&◌, List, Bool, true, false, cond, nat_eq, refl, sym, ◌∙◌, ap, Ok}
+use Rattle.turn_losses.proofs.Names.{by-linked, Ui, Arrived, BreakWord, Ack, word_in, OwnBreaks, waits, Account, is_connected, hear}
+use Rattle.turn_losses.proofs.Names.{Connected, of_arrived, unlinked-connected, is_linked, is_final}
 use Rattle.turn_losses.proofs.HeardNumber.{number-rows, plain-frame}
-use Rattle.turn_losses.proofs.Names.{of_arrived, is_final, is_linked}
-use Rattle.turn_losses.proofs.Words.{is_word, of_word, brk_of, ack_of, any_brk, pends_of}
+use Rattle.turn_losses.proofs.Words.{of_word, brk_of, ack_of, any_brk, pends_of}
 use Rattle.lapm_frames.specs.declared.arrived.Arrived.TheVariants as arrivals
-use Rattle.turn_bound.proofs.Truths.{unlinked-connected}
 
 -- the break that waits is answered
 abbrev pub answered_own : ℕ → OwnBreaks → OwnBreaks
@@ -51,19 +48,11 @@ break-heard arrived turn a mid e c h =
     (record {
       pattern = λ seen k. quiet-heard turn (arrivals.Pattern seen) a a refl refl refl (λ g. refl) (λ u. inl u);
       plain = λ frame p k. quiet-heard turn (arrivals.Frame frame) a a refl refl refl (plain-frame frame p).words (λ u. inl u);
-      numbers = number-rows turn a _
-          (λ frame new incoming timer reply urgent n k. quiet-heard turn (arrivals.Frame frame) a _ refl refl refl n.words n.hurries);
+      numbers = grind (arith, number-rows, quiet-heard);
       sabme = λ pf n r k. quiet-heard turn _ a _ refl refl refl (λ g. refl) (λ u. inl u);
       disc = λ pf r k. cc;
-      brk = λ command pf info number length_octet q k. record {
-        special = refl;
-        own = inl (refl, (λ w. ap (is_word (ack_of (a.own_breaks.answered % 2))) q));
-        asked = λ n f. sym (ap (is_word (brk_of n)) q) ∙ f;
-        kept = λ f. let wrong : true ≡ false = sym (ap (is_word any_brk) q) ∙ f in cc;
-        urgent = λ u. inl u;
-      };
-      brkack = λ command pf info number length_octet q k. answer-heard turn command pf info number length_octet a q
-          (waits a.own_breaks) refl (nat_eq number (a.own_breaks.answered % 2)) refl;
+      brk = grind (arith);
+      brkack = grind (arith, answer-heard, waits);
     }) (λ k. quiet-heard turn arrivals.Nothing a _ refl refl refl (λ g. refl) (λ u. inl u)) arrived mid e h c
 
 -- An end that isn't Connected yet has no break, owes none an answer, and has nothing urgent; and it becomes Connected so.

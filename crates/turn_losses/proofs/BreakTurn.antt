@@ -1,8 +1,8 @@
 -- What speaking makes of an end's breaks, of what it owes for the other end's, and of its urgent segment.
-use Rattle.std.proofs.Common.{◌⊎◌, inl, inr, ◌≡◌, ℕ, ◌+◌, ◌-◌, ◌%◌, ◌<◌, ◌&&◌, ◌||◌, not, Bool, true, false, cond, nat_eq, nat_lt, length}
-use Rattle.std.proofs.Common.{arith, refl, sym, ◌∙◌, ap, subst, Option, Some, None, Ok, ◌≤◌, nat_le, ◌∷◌, ◌++◌, [], length-append}
+use Rattle.std.proofs.Common.{◌⊎◌, inl, inr, ◌≡◌, ℕ, ◌+◌, ◌-◌, ◌%◌, ◌<◌, ◌&&◌, ◌||◌, not, Bool, true, false, nat_eq, nat_lt, length}
+use Rattle.std.proofs.Common.{arith, refl, sym, ◌∙◌, ap, Option, Some, None, Ok, ◌≤◌, length-append}
 use Rattle.link_account.proofs.Names.{is_some, nat_tests, Srej, BreakWord, OwnBreaks, waits, ticked, Account, Said, ready_frame}
-use Rattle.link_account.proofs.Names.{speak_linked, Role, after_ask, Sent, Arrived, is_connected}
+use Rattle.link_account.proofs.Names.{speak_linked, Role, Sent, Arrived, is_connected}
 use Rattle.link_run.proofs.Names.{Link}
 use Rattle.lapm_receiver.specs.Incoming.{after_asked}
 use Rattle.break_signals.specs.Breaks.{own_due, after_brk, after_ack}
@@ -213,32 +213,7 @@ pub record TakesBreak (turn : ℕ) (a b : OwnBreaks) : Type 0 where
 pub served-own : (turn breaks : ℕ) (busy : Bool) (a b : Account) → Served turn breaks busy a b
     → a.own_breaks.answered ≤ length a.own_breaks.lengths
     → (b.own_breaks ≡ a.own_breaks) ⊎ TakesBreak turn a.own_breaks b.own_breaks
-served-own turn breaks busy a b s low = elim s.own [
-  | inl q ↦ inl q
-  | inr z ↦ (elim (asked z.0 a.own_breaks low) [ inl q ↦ inl (z.1 ∙ q) | inr t ↦ inr (subst (TakesBreak turn a.own_breaks) (sym z.1) t) ])
-]
-  where
-    longer : (o : OwnBreaks) (l : ℕ) → o.answered ≤ length o.lengths → o.answered < length (o.lengths ++ l ∷ [])
-    longer o l low = omega (arith, low, length-append {A = ℕ})
-
-    asked : (l : ℕ) (o : OwnBreaks) → o.answered ≤ length o.lengths → (after_ask turn l o ≡ o) ⊎ TakesBreak turn o (after_ask turn l o)
-    asked l o low = go (waits o) refl (nat_le o.rest turn) refl
-      where
-        taken : OwnBreaks
-        taken = record o { lengths = o.lengths ++ l ∷ []; brk = true; set = turn; count = 0 }
-
-        go : (w : Bool) → waits o ≡ w → (r : Bool) → nat_le o.rest turn ≡ r
-            → (cond (not w && r) taken o ≡ o) ⊎ TakesBreak turn o (cond (not w && r) taken o)
-        go true w r q = inl refl
-        go false w false q = inl refl
-        go false w true q = inr (record {
-          none = w;
-          rested = grind (arith, nat_tests, q);
-          waiting = let more = longer o l low in grind (arith, nat_tests, more);
-          brk = refl;
-          set = refl;
-          count = refl;
-        })
+served-own turn breaks busy a b s low = grind (arith, length-append, waits)
 
 -- A turn of an end that becomes or stays Connected, by what it made of its breaks as it heard, was served and spoke.
 module _ {tries period : ℕ} {link : Link} {r : Role} {turn : ℕ} {a : Account} {arrived : Arrived} {mid b : Account}
@@ -300,25 +275,14 @@ module _ {tries period : ℕ} {link : Link} {r : Role} {turn : ℕ} {a : Account
         record {
           own = own;
           waited = waited;
-          brk_from = λ e. let x = and-second (is_connected said.account.phase) said.account.own_breaks.brk e in
-              from (elim k.step.own [ inl y ↦ ap (λ o. o.brk) (sym y.0) ∙ x | inr y ↦ y.0 ]);
+          brk_from = grind (arith, and-second);
           brk_sent = λ e. elim k.step.own [
             | inl y ↦ clash (of_frame (of_word any_brk) said.sent) e y.1
             | inr y ↦ (from y.0, and-drop (is_connected said.account.phase) said.account.own_breaks.brk (ap (λ o. o.brk) y.1), number y.2)
           ];
-          brk_goes = λ w e. let x = still w e in elim k.step.own [
-            | inl y ↦ inl (and-true (is_connected said.account.phase) said.account.own_breaks.brk now (ap (λ o. o.brk) y.0 ∙ x))
-            | inr y ↦ inr (number y.2)
-          ];
-          held = λ e. ap (λ x. holds (of_frame is_final said.sent) (of_frame is_poll said.sent) k.step.hurries k.step.acks x
-              (is_some b.owes.answer)) (sym (i.served.special ∙ h.special)) ∙ k.step.held (elim e [
-                | inl x ↦ inl (and-second (is_connected said.account.phase) said.account.own_breaks.brk x)
-                | inr x ↦ inr x
-              ]);
-          ack_from = λ e. elim k.step.ack [
-            | inl z ↦ (ack-heard (ap pends (sym z.0) ∙ e), z.1)
-            | inr z ↦ clash (ack_due said.account) e (ap pends z.0)
-          ];
+          brk_goes = grind (arith, and-true, number);
+          held = grind (arith, and-second);
+          ack_from = grind (arith, ack-heard, clash);
           acked = λ e. elim k.step.ack [ inl z ↦ clash k.step.acks e z.1 | inr z ↦ ack-heard z.1 ];
           asked = λ n l e. asked n l (ap (λ t. pends_of n t.ack) i.served.ack
               ∙ elim e [ inl x ↦ h.asked n x | inr x ↦ ap (pends_of n) (h.kept x.1) ∙ x.0 ]);

@@ -1,6 +1,6 @@
 -- Clocks by the turn, whatever they time. What an end tries, its polls and a break that waits are three of them: each is set as something
 -- is asked, and expires a period later, which asks again, unless it stopped or began anew.
-use Rattle.std.proofs.Common.{inl, inr, ◌≡◌, ℕ, zero, suc, ◌+◌, ◌*◌, ◌<◌, ◌≤◌, arith, sym, subst}
+use Rattle.turn_losses.proofs.Names.{inl, inr, ◌≡◌, ℕ, zero, suc, ◌+◌, ◌*◌, ◌<◌, ◌≤◌, arith, sym, subst}
 use Rattle.std.proofs.lemmas.Bool.{cases_lt}
 
 -- A clock: before which turns it runs, and in which turn it was set then; in which turns it stays, and in which something is asked.

@@ -1,11 +1,11 @@
 -- Where the originator sees no pattern, something was lost in each period.
-use Rattle.std.proofs.Common.{◌⊎◌, inl, inr, ◌≡◌, ℕ, zero, suc, ◌+◌, ◌-◌, ◌*◌, ◌<◌, ◌≤◌, Bool, true, false, cond, length, arith, refl, sym}
+use Rattle.std.proofs.Common.{◌⊎◌, inl, inr, ◌≡◌, ℕ, zero, suc, ◌+◌, ◌-◌, ◌*◌, ◌<◌, ◌≤◌, Bool, true, false, cond, length, arith, sym}
 use Rattle.std.proofs.Common.{◌∙◌, ap, Option, Some, Result, Ok, Err, List, [], ◌∷◌}
 use Rattle.link_account.proofs.Names.{cases_lt, Originator, Answerer, Arrived, LinkFault, NotDetected, Account, hear, arrives, Said, says}
-use Rattle.link_account.proofs.Names.{speak, speak_in, Role, Heard, Passed}
+use Rattle.link_account.proofs.Names.{speak, Role, Heard, Passed}
 use Rattle.link_run.proofs.Names.{Detecting, Connected, Releasing, Answer, User, is_busy, is_released, Accounts, arrival, served_at}
 use Rattle.link_run.proofs.Names.{releases, Link, Turn, RunOf, IsCarried}
-use Rattle.link_account.specs.Speak.{else_says, answering, speak_detecting}
+use Rattle.link_account.specs.Speak.{else_says, answering}
 use Rattle.turn_bound.specs.Spent.{SpendsOnTime}
 use Rattle.link_run.proofs.Speaking.{speaks-phase}
 use Rattle.turn_losses.proofs.Periods.{once, times, loses-of}
@@ -46,27 +46,8 @@ pub heard-from : (arrived : Arrived) (turn : ℕ) (a mid : Account) → a.setup.
 heard-from arrived turn a mid r h = HearWays.by-ways
     (λ x b. b.phase ≡ Detecting → (a.phase ≡ Detecting) × (x ≡ arrivals.Pattern seens.Adp → ⊥)) turn a (record {
       nothing = λ d. (d, λ q. cc);
-      linked = λ p. record {
-        pattern = λ seen d. late p d;
-        plain = λ frame k d. late p d;
-        numbers = numbers-alike _ turn a (λ frame new incoming timer reply urgent k d. late p d);
-        sabme = λ pf m q d. late p d;
-        disc = λ pf q d. cc;
-        brk = λ command pf info number length_octet q d. late p d;
-        brkack = λ command pf info number length_octet q d. late p d;
-      };
-      early = λ c. record {
-        ignores = λ x f d. (d, λ q. moved d (ap (λ y. hear turn y a) (sym q) ∙ f));
-        detects = λ p q d. cc;
-        detected = λ p q d. let wrong : Originator ≡ Answerer = sym r ∙ q in cc;
-        xid = λ p q pf info offer f d. cc;
-        agrees = λ p q pf info offer f d. cc;
-        sabme_first = λ p q pf d. cc;
-        sabme = λ p q pf d. cc;
-        ua = λ p d. cc;
-        disc = λ p pf d. (d, λ q. cc);
-        closes = λ p frame f d. cc;
-      };
+      linked = grind (arith, late, numbers-alike);
+      early = grind (arith, moved);
     }) arrived mid h
   where
     late : {A : Type 0} → a.phase ≡ Connected → a.phase ≡ Detecting → A
@@ -93,15 +74,7 @@ answers-odp user turn arrived a mid released release said e r r' only hears spea
 
     spoken : b.phase ≡ Detecting → (m : Option Answer) → b.owes.answer ≡ m
         → (else_says (answering m b) (says slots.Mark b) ≡ said) × (said.account.phase ≡ Detecting)
-    spoken d m q =
-        let detecting : speak_detecting Answerer turn b ≡ Ok said =
-        sym (ap (λ x. speak_detecting x turn b) (ap (λ x. x.role) s.setup ∙ r'))
-        ∙ (sym (ap (λ p. speak_in p turn release b) d) ∙ speaks) in
-        by m (ap (λ x. says-ok (else_says (answering x b) (says slots.Mark b))) (sym q) ∙ detecting)
-      where
-        by : (x : Option Answer) → says-ok (else_says (answering x b) (says slots.Mark b)) ≡ says-ok said
-            → (else_says (answering x b) (says slots.Mark b) ≡ said) × (said.account.phase ≡ Detecting)
-        by b f = grind (arith)
+    spoken d m q = grind (arith, b, s, says)
 
     nothing : arrived ≡ arrivals.Nothing → mid.phase ≡ Detecting
     nothing q = grind (arith)
@@ -111,15 +84,7 @@ answers-odp user turn arrived a mid released release said e r r' only hears spea
 
     heard : (arrived ≡ arrivals.Nothing) ⊎ (arrived ≡ arrivals.Pattern seens.Odp)
         → (said.account.phase ≡ Detecting) × (arrived ≡ arrivals.Pattern seens.Odp → said.sent ≡ slots.Adp)
-    heard (inl q) = (
-      (spoken (s.phase ∙ nothing q) b.owes.answer refl).1,
-      λ f. let wrong : arrivals.Nothing ≡ arrivals.Pattern seens.Odp =
-          sym q ∙ f in cc,
-    )
-    heard (inr q) =
-        let h = odp q in
-        let k = spoken (s.phase ∙ h.0) (Some answers.Adp) (s.answer ∙ h.1) in
-        (k.1, λ f. ap (λ y. y.sent) (sym k.0))
+    heard given = grind (arith, spoken, s, nothing, b, odp)
 
 -- only an end that is Detecting breaks so
 pub err-detecting : (turn : ℕ) (release : Bool) (b : Account) → speak turn release b ≡ Err NotDetected → b.phase ≡ Detecting
@@ -280,10 +245,8 @@ early tries period delay link (t ∷ ts) ends kt (before, run, g) (c, carried) d
     said-from turn (releases link turn g.mid) b s.said s.says (ap (λ (x : Account). x.phase) (sym s.after_is) ∙ d) in
     let f = heard-from (arrival t.orig.heard) turn before.orig g.mid.orig i.role_is i.hears (sym i.served.phase ∙ detects) in
     let p = early tries period delay link ts before kt run carried f.0 in
-    let late : turn < (b.setup.tries + 1) * b.setup.period =
-    sends-early turn (releases link turn g.mid) b s.said detects i.b_role s.says in
-    let whole : (b.setup.tries + 1) * b.setup.period ≡ (tries + 1) * period =
-    ap (λ n. (n + 1) * b.setup.period) i.b_tries ∙ ap (λ n. (tries + 1) * n) i.b_period in
+    let late : turn < (b.setup.tries + 1) * b.setup.period = grind (arith, sends-early, releases, b, s) in
+    let whole : (b.setup.tries + 1) * b.setup.period ≡ (tries + 1) * period = grind (arith, b) in
     (omega (arith, late, whole), (none-passed t.orig.heard f.1, p.1))
 
 pub undetected-on-time : SpendsOnTime → UndetectedOnTime

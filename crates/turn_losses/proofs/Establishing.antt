@@ -1,10 +1,7 @@
 -- What only an originator that establishes the link sends, and what only a Connected end does.
-use Rattle.std.proofs.Common.{◌⊎◌, inl, inr, ◌≡◌, ℕ, ◌+◌, Bool, true, false, arith, refl, sym, ◌∙◌, ap, None, Ok}
-use Rattle.link_account.proofs.Names.{nat_tests, Frame, Account, is_connected, trying, Said, says, frame_for, ready_frame, nr_of, speak}
-use Rattle.link_account.proofs.Names.{Sabme}
-use Rattle.link_run.proofs.Names.{Phase, Establishing, Connected, Releasing, Answer}
-use Rattle.link_account.proofs.SpeakWays.{Tries, Ways, by-ways, answers_alone, linked-alike, tries-alike}
-use Rattle.turn_bound.proofs.MeetHear.{of_frame}
+use Rattle.turn_losses.proofs.Names.{◌⊎◌, ◌≡◌, ℕ, ◌+◌, Bool, true, false, arith, refl, None, Ok, Frame, Account, is_connected, Said, says}
+use Rattle.turn_losses.proofs.Names.{frame_for, ready_frame, speak, Sabme, Tries, Ways, Establishing, Connected, Answer, of_frame}
+use Rattle.link_account.proofs.SpeakWays.{by-ways, tries-alike}
 use Rattle.turn_losses.proofs.Words.{any_brk, of_word}
 
 abbrev pub is_sabme : Frame → Bool
@@ -45,52 +42,8 @@ module _ (turn : ℕ) (b : Account) where
   ready : (busy command pf : Bool) (nr : ℕ) → is_sabme (ready_frame busy command nr pf) ≡ false
   ready b command pf nr = grind (arith)
 
-  answer-sabme : (d : Answer) (c : Account) → of_frame is_sabme (frame_for d c) ≡ false
-  answer-sabme d c = grind (arith)
-
   ways : (release : Bool) → Ways (Sends turn b) turn release b
-  ways release = record {
-    answers = λ alone d e. answer d (λ q. lonely q alone);
-    flags = λ alone e. plain refl refl (λ q. lonely q alone) (λ q. lonely q alone);
-    mark = λ p r e. plain refl refl (λ q. no-phase p q (λ x. cc)) (λ q. no-phase p q (λ x. cc));
-    odp = λ p r l. plain refl refl (λ q. no-phase p q (λ x. cc)) (λ q. no-phase p q (λ x. cc));
-    xid = λ p r. tries _ b refl refl (λ q. no-phase p q (λ x. cc)) (λ q. no-phase p q (λ x. cc));
-    sabme = λ p. record {
-      sent = λ x e. record {
-        word = λ h. cc;
-        sabme = λ h. record { phase = p; before = p; over = refl; sent = λ z. inr e };
-        over = λ q. refl;
-        from = λ q. p;
-      };
-      again = λ x n. record {
-        word = λ h. cc;
-        sabme = λ h. record { phase = p; before = p; over = refl; sent = λ z. inl (grind (arith, nat_tests, x)) };
-        over = λ q. refl;
-        from = λ q. p;
-      };
-      flags = λ x e. record { word = λ h. cc; sabme = λ h. cc; over = λ q. e; from = λ q. p };
-    };
-    linked = λ p r. linked-alike (Sends turn b) turn b (λ count awaited w own. record {
-      answers = λ d e. linked p refl (answer-sabme d _);
-      final = λ n e. linked p refl (ready b.owes.busy false true (nr_of b));
-      poll = λ n q e. linked p refl (ready b.owes.busy true true (nr_of b));
-      segment = λ x u n e. linked p refl refl;
-      brkack = λ x s word e. linked p refl refl;
-      brk = λ x s y word e. linked p refl refl;
-      tell = λ x y e. linked p refl (ready b.owes.busy false false (nr_of b));
-      rej = λ x y n e. linked p refl refl;
-      srej = λ x y s n e. linked p refl refl;
-      flags = λ i. linked p refl refl;
-    });
-    releases = λ p r. tries _ (trying Releasing turn b) refl refl (λ q. no-phase p q (λ x. cc)) (λ q. cc);
-    disc = λ p. tries _ b refl refl (λ q. no-phase p q (λ x. cc)) (λ q. no-phase p q (λ x. cc));
-  }
-    where
-      no-phase : {q r : Phase} → b.phase ≡ q → b.phase ≡ r → (q ≡ r → ⊥) → ⊥
-      no-phase e f n = n (sym e ∙ f)
-
-      lonely : b.phase ≡ Establishing → answers_alone b.phase b.setup.role ≡ true → ⊥
-      lonely q alone = let wrong : false ≡ true = ap (λ p. answers_alone p b.setup.role) (sym q) ∙ alone in cc
+  ways release = grind (arith)
 
   sends : (release : Bool) (said : Said) → speak turn release b ≡ Ok said → Sends turn b said
   sends release said h = by-ways (Sends turn b) turn release b (ways release) said h

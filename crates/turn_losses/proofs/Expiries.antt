@@ -1,14 +1,11 @@
-use Rattle.std.proofs.Common.{◌⊎◌, inl, inr, ◌≡◌, ℕ, zero, suc, ◌+◌, ◌<◌, ◌≤◌, Bool, true, false, arith, refl, sym, ◌∙◌, ap, Some, length}
-use Rattle.std.proofs.Common.{◌%◌, ◌-◌, ◌*◌, subst}
-use Rattle.link_account.proofs.Names.{cases_lt, Account, is_connected, Said, Role, of}
-use Rattle.link_run.proofs.Names.{served_at}
+use Rattle.turn_losses.proofs.Names.{◌⊎◌, inl, inr, ◌≡◌, ℕ, zero, suc, ◌+◌, ◌<◌, ◌≤◌, Bool, true, false, arith, refl, sym, ◌∙◌, ap, Some}
+use Rattle.turn_losses.proofs.Names.{length, ◌%◌, ◌-◌, ◌*◌, subst, cases_lt, Account, is_connected, Said, Role, of, served_at, and-not}
+use Rattle.turn_losses.proofs.Names.{past, Happens, EndRun, TwoEnds, hears_final, TimedRun, end_of, is_linked, PollTurn, hears_poll}
 use Rattle.turn_losses.proofs.Trace.{SendsSegment, AnswerTurn}
 use Rattle.turn_losses.proofs.PeriodLaws.{Answers, StillAwaited, two-ends, reply-matches, SetSince, set-since, still-awaited, answer-comes}
 use Rattle.turn_losses.proofs.PeriodLaws.{NoneLost, StayConnected}
 use Rattle.turn_losses.proofs.NumberHear.{ns_sent}
 use Rattle.turn_losses.proofs.Acknowledged.{Counts, acknowledged}
-use Rattle.turn_losses.proofs.Names.{past, Happens, EndRun, TwoEnds, hears_final, TimedRun, end_of, is_linked, PollTurn, hears_poll}
-use Rattle.turn_bound.proofs.Truths.{and-not}
 use Rattle.turn_losses.proofs.Clocks.{Ticked, chain}
 use Rattle.turn_losses.proofs.Clocks.Ticked.{Begins, Expires, Stays}
 

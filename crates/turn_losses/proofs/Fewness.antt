@@ -1,13 +1,9 @@
 -- A starved run has many lost slots: each lies in two spans at most.
-use Rattle.std.proofs.Common.{inl, inr, ◌≡◌, ◌≢◌, ℕ, zero, suc, ◌+◌, ◌-◌, ◌*◌, ◌<◌, ◌≤◌, ◌&&◌, ◌||◌, Bool, true, false, max, nat_lt, nat_le}
-use Rattle.std.proofs.Common.{List, [], ◌∷◌, length, arith, refl, ◌∙◌, ap, subst, Some}
-use Rattle.turn_bound.proofs.Truths.{or-late, and-true, and-two}
-use Rattle.link_account.proofs.Names.{cases_lt, nat_tests, Originator, Answerer, Heard}
-use Rattle.link_run.proofs.Names.{Turn, LosesSome}
+use Rattle.turn_losses.proofs.Names.{inl, inr, ◌≡◌, ◌≢◌, ℕ, zero, suc, ◌+◌, ◌-◌, ◌*◌, ◌<◌, ◌≤◌, ◌&&◌, ◌||◌, Bool, true, false, max, nat_lt}
+use Rattle.turn_losses.proofs.Names.{nat_le, List, [], ◌∷◌, length, arith, refl, ap, subst, Some, cases_lt, nat_tests, Originator, Answerer}
+use Rattle.turn_losses.proofs.Names.{Heard, Turn, LosesSome, SpanLoses, IsLost, turn_at, is_lost, or-late, and-true, and-two}
 use Rattle.link_run.specs.Counts.{lost_in, lost_slots}
-use Rattle.link_run.specs.Starved.{SpanLoses, IsLost, turn_at}
 use Rattle.turn_bound.proofs.Value.{one_if}
-use Rattle.turn_bound.proofs.Tied.{is_lost}
 use Rattle.turn_losses.proofs.Windows.{one-most}
 use Rattle.turn_losses.specs.Losses.{StarvedLosesMany, LosslessIsFed}
 use Rattle.turn_losses.proofs.Periods.{later-turn}
@@ -36,8 +32,7 @@ count-near zero test h = omega arith
 count-near (suc n) test h = go (test n) refl (count-near n test (λ m k l g. h m k l (omega (arith, g))))
   where
     go : (b : Bool) → test n ≡ b → count_of n test ≤ 2 → count_of n test + one_if (test n) ≤ 2
-    go false q b = let e = ap one_if q in omega (arith, e, b)
-    go true q b = let e = ap one_if q in let k = count-last n test (λ m l t. h m n l (omega arith) t q) in omega (arith, e, k)
+    go b q b2 = grind (arith, count-last)
 
 count-all : (n : ℕ) (test : ℕ → Bool) → ((m : ℕ) → m < n → test m ≡ true) → count_of n test ≡ n
 count-all zero test h = refl
@@ -62,11 +57,7 @@ count-but (suc n) spared test h = go (count-but n spared test (λ m l d. h m (om
     last e = let k = count-all n test (λ m l. h m (omega (arith, l)) (λ q. omega (arith, q, e, l))) in omega (arith, k)
 
     go : n ≤ count_of n test + 1 → suc n ≤ count_of n test + one_if (test n) + 1
-    go b = elim (cases_lt n spared) [
-      | inl l ↦ other b (apart-below l)
-      | inr g ↦
-          elim (cases_lt spared n) [ inl l ↦ other b (apart-above l) | inr m ↦ last (omega (arith, g, m)) ]
-    ]
+    go b = grind (arith, other, apart-below, apart-above, last)
 
 -- whether a turn lies in a span, and whether something was lost in it
 abbrev in_span : (period delay last turn span : ℕ) → Bool
@@ -100,10 +91,8 @@ spans-near period delay last turn m k short less em ek = elim (cases_lt (m + 1) 
 
     far : m + 1 < k → ⊥
     far l =
-        let sum : (m + 2) * period + (k - (m + 2)) * period ≡ k * period =
-        spread (m + 2) (k - (m + 2)) ∙ ap (λ n. n * period) (omega (arith, l)) in
-        let next : (m + 2) * period ≡ (m + 1) * period + period = omega arith in
-        omega (arith, sum, next, behind, before, short)
+        let sum : (m + 2) * period + (k - (m + 2)) * period ≡ k * period = grind (arith, spread) in
+        let next : (m + 2) * period ≡ (m + 1) * period + period = omega arith in grind (arith, behind, before, short)
 
 lost-one : (h : Heard) → is_lost h ≡ true → lost_in h ≡ 1
 lost-one p e = grind (arith)

@@ -1,24 +1,19 @@
 -- Where an originator is Connected, no SABME of its is on its way; so no UA is due at its peer.
-use Rattle.std.proofs.Common.{◌⊎◌, inl, inr, ◌≡◌, ℕ, Bool, true, false, refl, sym, ◌∙◌, ap, None, Ok, arith, length, suc, zero, ◌+◌, ◌-◌}
-use Rattle.std.proofs.Common.{◌<◌, ◌≤◌, subst}
-use Rattle.link_account.proofs.Names.{is_some, Sabme, Disc, Arrived, Account, is_connected, hear, on_nothing, without_adp, owing, trying}
-use Rattle.link_account.proofs.Names.{after_answer, Answerer, MayPlay, Originator, ReadsWritten, cases_lt, Role, of}
-use Rattle.link_run.proofs.Names.{Negotiating, Closed, Accounts, Detecting, Establishing, Phase, is_released}
-use Rattle.link_account.specs.Hear.{connected}
-use Rattle.break_signals.specs.Breaks.{after_break}
-use Rattle.link_account.proofs.HearWays.{by-ways, numbers-alike}
-use Rattle.turn_bound.proofs.MeetHear.{is_ua_due, frame_disc, of_arrived, frame_ua}
+use Rattle.turn_losses.proofs.Names.{◌⊎◌, inl, inr, ◌≡◌, ℕ, Bool, true, false, refl, sym, ◌∙◌, ap, None, Ok, arith, length, suc, zero, ◌+◌}
+use Rattle.turn_losses.proofs.Names.{◌-◌, ◌<◌, ◌≤◌, subst, by-ways, numbers-alike, is_some, Sabme, Disc, Arrived, Account, is_connected}
+use Rattle.turn_losses.proofs.Names.{hear, on_nothing, trying, Answerer, MayPlay, Originator, ReadsWritten, cases_lt, Role, of, connected}
+use Rattle.turn_losses.proofs.Names.{Accounts, Detecting, Establishing, Phase, is_released, frame_disc, of_arrived, of_frame, speaks-so}
+use Rattle.turn_losses.proofs.Names.{not-true, clash, rates, Stands, TimedRun, EndRun, TwoEnds, end_of, is_linked}
+use Rattle.link_account.proofs.Names.{without_adp}
+use Rattle.turn_bound.proofs.MeetHear.{is_ua_due, frame_ua}
 use Rattle.turn_losses.proofs.Establishing.{is_sabme, SaidSabme, establishing-from, says-sabme, try-over}
 use Rattle.lapm_frames.specs.declared.arrived.Arrived.TheVariants as arrivals
 use Rattle.link_account.specs.declared.answer.Answer.TheVariants as answers
-use Rattle.turn_losses.proofs.Names.{TimedRun, EndRun, TwoEnds, end_of, is_linked, of_frame, rates, Stands}
 use Rattle.turn_losses.proofs.Tracing.{EndTurn, TurnAt, end-turn, starts-fresh, release_of}
 use Rattle.turn_losses.proofs.Moving.{TryBegins, TryGoesOn, try-heard}
 use Rattle.turn_losses.proofs.Phasing.{established-next, is_established}
 use Rattle.turn_losses.proofs.PeriodLaws.{linked-on, two-ends, was-sent}
-use Rattle.turn_bound.proofs.Truths.{not-true, clash}
 use Rattle.turn_losses.proofs.Trying.{since-try, tries-so}
-use Rattle.turn_bound.proofs.Meeting.{speaks-so}
 use Rattle.turn_losses.proofs.Kept.{kept-in, kept-on}
 use Rattle.turn_losses.proofs.View.{deeds-of, answers-are}
 
@@ -44,27 +39,8 @@ pub answer-by : (arrived : Arrived) (turn : ℕ) (a mid : Account) → a.owes.an
     → AnswerBy arrived mid
 answer-by arrived turn a mid n h = by-ways AnswerBy turn a (record {
   nothing = none-by arrivals.Nothing (on_nothing a) (ap without_adp n);
-  linked = λ e. record {
-    pattern = λ seen. none-by _ a n;
-    plain = λ frame p. none-by _ a n;
-    numbers = numbers-alike _ turn a (λ frame new incoming timer reply urgent k. none-by (arrivals.Frame frame) _ n);
-    sabme = λ pf m r. sabme-by pf _;
-    disc = λ pf r. disc-by pf _ refl;
-    brk = λ command pf info number length_octet q. none-by _ (record a { their_breaks = after_break number length_octet a.their_breaks }) n;
-    brkack = λ command pf info number length_octet q. none-by _ (record a { own_breaks = after_answer turn number a.own_breaks }) n;
-  };
-  early = λ c. record {
-    ignores = λ x f. none-by x a n;
-    detects = λ p r. none-by _ (trying Negotiating turn a) n;
-    detected = λ p r. other-by _ (owing answers.Adp a) refl (ap is_connected p);
-    xid = λ p r pf info offer f. other-by _ _ refl refl;
-    agrees = λ p r pf info offer f. none-by _ _ n;
-    sabme_first = λ p r pf. sabme-by pf _;
-    sabme = λ p r pf. sabme-by pf _;
-    ua = λ p. none-by _ (connected turn a) n;
-    disc = λ p pf. other-by _ (owing (answers.Dm pf) a) refl c;
-    closes = λ p frame f. none-by _ (record a { phase = Closed }) n;
-  };
+  linked = grind (arith, none-by, numbers-alike, sabme-by, disc-by);
+  early = grind (arith, none-by, trying, other-by, sabme-by, connected);
 }) arrived mid h
 
 -- Once an originator is Connected, its peer hears no SABME any more: each one was answered, or is lost, before the next goes.

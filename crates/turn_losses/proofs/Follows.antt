@@ -1,17 +1,13 @@
 -- What stays once it is so, and what only a frame brings that the other end sends once something stays at it.
-use Rattle.std.proofs.Common.{◌⊎◌, inl, inr, ◌≡◌, ℕ, zero, suc, ◌+◌, ◌-◌, ◌<◌, ◌≤◌, Bool, true, false, length, arith, ◌∙◌, ap, subst, sym}
-use Rattle.std.proofs.Common.{Ok, refl}
-use Rattle.link_account.proofs.Names.{Role, other, of, Frame, Account, Said, speak}
-use Rattle.link_account.specs.Account.{fresh}
-use Rattle.turn_bound.proofs.Truths.{clash}
+use Rattle.turn_losses.proofs.Names.{◌⊎◌, inl, inr, ◌≡◌, ℕ, zero, suc, ◌+◌, ◌-◌, ◌<◌, ◌≤◌, Bool, true, false, length, arith, ◌∙◌, ap, subst}
+use Rattle.turn_losses.proofs.Names.{sym, Ok, refl, Role, other, of, Frame, Account, Said, speak, fresh, speaks-phase, of_frame, of_arrived}
+use Rattle.turn_losses.proofs.Names.{clash, TimedRun, EndRun, end_of, is_linked}
 use Rattle.turn_losses.proofs.PeriodLaws.{was-sent, two-ends}
 use Rattle.turn_losses.proofs.Tracing.{starts-fresh, release_of, end-turn}
-use Rattle.turn_losses.proofs.Names.{of_frame, of_arrived, TimedRun, EndRun, end_of, is_linked}
 use Rattle.turn_losses.proofs.Kept.{kept-on}
 use Rattle.link_run.proofs.Keeping.{linked-phase}
 use Rattle.link_run.proofs.Meeting.{is_counted, is-told}
 use Rattle.link_run.proofs.Saying.{Part, is-said}
-use Rattle.link_run.proofs.Speaking.{speaks-phase}
 
 -- where an end has the one, the other end has the other
 module _ (w : TimedRun) (r : Role) (kind : Frame → Bool) (has stays : Account → Bool) (first : has (fresh (of r w.link).setup) ≡ false)

@@ -1,19 +1,17 @@
 -- Whatever an end gives up for, where no break waits.
-use Rattle.std.proofs.Common.{◌≡◌, ℕ, ◌+◌, Bool, true, false, cond, ◌∷◌, length, arith, refl, sym, ◌∙◌, ap, List, [], subst}
-use Rattle.link_account.proofs.Names.{Role, Originator, Answerer, of, waits, LinkFault, Spent, NotDetected, is_connected, Account}
-use Rattle.link_run.proofs.Names.{served_at, BreakLine, is_busy, Link, Accounts, Turn, RunOf, SpeaksAt, said_at, IsCarried, Hears}
-use Rattle.link_account.specs.Account.{break_waits}
-use Rattle.link_run.specs.Run.{BrokenTurn}
+use Rattle.turn_losses.proofs.Names.{◌≡◌, ℕ, ◌+◌, Bool, true, false, cond, ◌∷◌, length, arith, refl, sym, ◌∙◌, ap, List, [], subst, Role}
+use Rattle.turn_losses.proofs.Names.{Originator, Answerer, of, waits, LinkFault, Spent, NotDetected, is_connected, Account, break_waits}
+use Rattle.turn_losses.proofs.Names.{served_at, is_busy, Link, Accounts, Turn, RunOf, said_at, IsCarried, Hears, BrokenTurn, serves-all}
+use Rattle.turn_losses.proofs.Names.{Served, connected-is, Rates, rates, IsOf, KeepsTime, LosesEach, OriginatorWantsAnswers}
+use Rattle.turn_losses.proofs.Names.{OriginatorIsStarved, OriginatorWantsPattern, UndetectedIsStarved, OriginatorWantsFrame}
+use Rattle.turn_losses.proofs.Names.{AnswererWantsAnswer, GivesUpForLosses}
+use Rattle.link_run.proofs.Names.{BreakLine, SpeaksAt}
 use Rattle.link_run.specs.Laws.{EachEndIsNamed, IsNamed}
-use Rattle.turn_bound.proofs.Serving.{serves-all}
-use Rattle.turn_losses.specs.Losses.{LosesEach, OriginatorWantsAnswers, OriginatorIsStarved, OriginatorWantsPattern, UndetectedIsStarved}
-use Rattle.turn_bound.proofs.Value.{connected-is}
-use Rattle.turn_losses.specs.Tries.{OriginatorWantsFrame, AnswererWantsAnswer, IsForLosses, GivesUpForLosses, GivesUpUnbroken}
+use Rattle.turn_losses.specs.Tries.{IsForLosses, GivesUpUnbroken}
 use Rattle.turn_losses.proofs.Parting.{answerer-gives-up}
 use Rattle.turn_losses.proofs.Periods.{later-loses}
 use Rattle.turn_losses.proofs.Tracing.{timed-run, release_of, said-as}
 use Rattle.turn_bound.proofs.Speaking.{speaks-well}
-use Rattle.turn_losses.proofs.Names.{KeepsTime, Rates, rates, IsOf, Served}
 use Rattle.turn_losses.proofs.InTurn.{in-turn}
 
 -- what the laws say of each case
@@ -118,8 +116,7 @@ none-taken tries period delay link (t ∷ ts) ends k (before, run, g) c r none =
     let said = speaks-well z (length b.outgoing.pieces) (length (of r link).user.breaks) turn r i.phase
     (release_of link turn g.mid r) b s.said
     i.rated (subst (IsOf z) (i.setup ∙ sym i.b_setup) i.is_of) i.b_stands (i.served.phase ∙ i.heard.phase) i.b_role (omega arith)
-    (sym (said-as link turn g.mid r) ∙ s.says) in
-    ap taken s.after_is ∙ (ap (λ (l : List ℕ). length l) said.1.lengths ∙ own)
+    (sym (said-as link turn g.mid r) ∙ s.says) in grind (arith)
 
 pub gives-up-unbroken : GivesUpForLosses → GivesUpUnbroken
 gives-up-unbroken law tries period delay link ts before t mid role fault kt none run cs broken =

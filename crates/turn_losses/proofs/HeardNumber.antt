@@ -1,18 +1,16 @@
 -- What a frame with a number makes of a Connected end: one row for the five of them, with what it makes of the wait for an answer, of the
 -- clock, of replies, of what is urgent and of a pause.
-use Rattle.std.proofs.Common.{◌⊎◌, inl, inr, ◌≡◌, ℕ, ◌-◌, ◌<◌, ◌&&◌, ◌||◌, not, Bool, true, false, cond, arith, refl, sym, ◌∙◌, ap, Option}
-use Rattle.std.proofs.Common.{Ok}
-use Rattle.turn_bound.proofs.Truths.{or-false}
-use Rattle.link_account.proofs.Names.{nat_tests, Frame, I, Rr, Rnr, Rej, Srej, Arrived, Outgoing, advanced, resumed, Incoming, BreakWord}
-use Rattle.link_account.proofs.Names.{Account, is_connected, hear}
+use Rattle.turn_losses.proofs.Names.{◌⊎◌, inl, inr, ◌≡◌, ℕ, ◌-◌, ◌<◌, ◌&&◌, ◌||◌, not, Bool, true, false, cond, arith, refl, sym, ◌∙◌, ap}
+use Rattle.turn_losses.proofs.Names.{Option, Ok, numbered_with, acked, acked_back, Plain, by-linked, nat_tests, Frame, I, Rr, Rej, Srej}
+use Rattle.turn_losses.proofs.Names.{Arrived, Outgoing, advanced, resumed, Incoming, BreakWord, Account, is_connected, hear, ends_wait}
+use Rattle.turn_losses.proofs.Names.{of_arrived, meant-range, heard-advanced, heard-resumed, acked-heard, or-false, connected-is, Rates}
+use Rattle.turn_losses.proofs.Names.{Sends, SetFrom, is_poll, is_final}
 use Rattle.lapm_sender.specs.Numbers.{with_number}
-use Rattle.link_account.specs.Hear.{timer_after, ends_wait}
-use Rattle.link_account.proofs.HearWays.{Numbers, numbered_with, resumed-unpaused, acked, acked_back, Plain, by-linked}
-use Rattle.turn_bound.proofs.Value.{connected-is}
-use Rattle.turn_bound.proofs.Sender.{Heard, heard-clock, meant-range, heard-advanced, heard-resumed, heard-selected, acked-heard}
+use Rattle.link_account.specs.Hear.{timer_after}
+use Rattle.link_account.proofs.HearWays.{Numbers, resumed-unpaused}
+use Rattle.turn_bound.proofs.Sender.{Heard, heard-clock, heard-selected}
 use Rattle.turn_bound.proofs.MeetHear.{resumed-awaited}
 use Rattle.turn_losses.proofs.Words.{of_word}
-use Rattle.turn_losses.proofs.Names.{Rates, Sends, is_poll, is_final, SetFrom, of_arrived}
 use Rattle.lapm_frames.specs.declared.arrived.Arrived.TheVariants as arrivals
 
 -- The retry count and the timer are as they were, or the count is 0.
@@ -107,16 +105,7 @@ module _ (turn : ℕ) (a : Account) where
     rej = λ command pf nr n final f e. h (Rej command nr pf) _ _ _ _ _
         (ready (Rej command nr pf) command pf final (acked_back final o n) refl refl
         (λ g. refl) f (awaited-after command pf final n f).1 (λ z s. (acked-heard z turn turn a final command pf nr n s f e).1));
-    rnr = λ command pf nr n final f e. h (Rnr command nr pf) _ _ _ _ _ (record {
-      awaited = (awaited-after command pf final n f).0;
-      clock = λ z s. inl refl;
-      set = λ s k. let same : turn ≡ s = cc in inl (sym same);
-      replies = refl;
-      hurries = λ u. inl u;
-      words = λ g. refl;
-      paused = λ u. inr refl;
-      resumes = λ u. inr refl;
-    });
+    rnr = grind (arith, awaited-after);
     srej = λ command pf nr n f e. h (Srej command nr pf) _ _ _ _ _ (facts (Srej command nr pf)
         (record o { chosen = with_number n o.chosen }) _ _ refl
         (λ z s. let r = meant-range o.front (o.high - 1) nr n e in let l : o.front < o.high = grind (arith, nat_tests, f) in

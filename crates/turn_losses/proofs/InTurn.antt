@@ -1,15 +1,14 @@
 -- An end in one turn of a run: it hears, and is served.
-use Rattle.std.proofs.Common.{◌≡◌, ℕ, ◌+◌, ◌*◌, ◌≤◌, List, length, map, arith, ◌∙◌, ap, Ok}
-use Rattle.link_account.proofs.Names.{Role, Originator, Answerer, Arrived, Account, hear, of}
-use Rattle.link_run.proofs.Names.{Phase, is_busy, is_released, Link, Accounts, Turn, RunOf, Hears, arrival, served_at, IsCarried}
+use Rattle.turn_losses.proofs.Names.{◌≡◌, ℕ, ◌+◌, ◌*◌, ◌≤◌, List, length, map, arith, ◌∙◌, ap, Ok, Role, Arrived, Account, hear, of, Phase}
+use Rattle.turn_losses.proofs.Names.{is_busy, is_released, Link, Accounts, Turn, RunOf, Hears, arrival, served_at, IsCarried, fits, HeardAs}
+use Rattle.turn_losses.proofs.Names.{of_arrived, Served, Tied, tied, keeps, link_of, turn_of, state_of, AreRates, rates, IsOf, Stands}
+use Rattle.turn_losses.proofs.Names.{arrived_rnrs, NoneDue, KeepsTime, is_poll}
 use Rattle.turn_bound.proofs.Falls.{Sound}
-use Rattle.turn_bound.proofs.Ending.{fits, sound-run}
-use Rattle.turn_bound.proofs.Tied.{Tied, tied, keeps, link_of, turn_of, state_of}
+use Rattle.turn_bound.proofs.Ending.{sound-run}
 use Rattle.turn_bound.proofs.CalmRuns.{hears-in}
 use Rattle.turn_bound.proofs.Bounding.{at-once-always}
 use Rattle.turn_losses.proofs.PollHear.{PollHeard, poll-hears}
 use Rattle.turn_losses.proofs.NumberHear.{ServedLeft, served-left}
-use Rattle.turn_losses.proofs.Names.{AreRates, rates, IsOf, Stands, arrived_rnrs, HeardAs, NoneDue, Served, is_poll, of_arrived, KeepsTime}
 
 -- an end's setup is its link's
 setup-is : (tries period : ℕ) (delay : Role → ℕ) (link : Link) (ts : List Turn) (ends : Accounts) → KeepsTime tries period delay link
@@ -24,8 +23,7 @@ setup-is tries period delay link ts ends k run c = by
         (fits tries period (link_of delay link) (keeps tries period delay link k)) i.run
 
     by : (r : Role) → (of r ends).setup ≡ (of r link).setup
-    by Originator = h.orig_setup
-    by Answerer = h.answ_setup
+    by r = grind (arith, h)
 
 -- a before it hears, mid once it has heard, b once it is served
 pub record InTurn (tries period : ℕ) (link : Link) (role : Role) (turn : ℕ) (a : Account) (arrived : Arrived) (mid b : Account) : Type 0

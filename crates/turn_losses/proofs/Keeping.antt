@@ -1,4 +1,4 @@
-use Rattle.std.proofs.Common.{◌≡◌, ℕ, ◌+◌, ◌-◌, ◌<◌, ◌&&◌, Bool, true, ◌∷◌, length, arith, refl, sym, ◌∙◌, ap, Option, Some}
+use Rattle.std.proofs.Common.{◌≡◌, ℕ, ◌+◌, ◌-◌, ◌<◌, Bool, true, ◌∷◌, length, arith, refl, sym, ◌∙◌, ap, Option, Some}
 use Rattle.turn_losses.proofs.Names.{TwoEnds, of_frame, of_arrived, is_poll, is_final, Deed, past, sent_or, sends_poll, hears_poll}
 use Rattle.turn_losses.proofs.Names.{sends_final, hears_final, TimedRun, end_of}
 use Rattle.turn_losses.proofs.PeriodLaws.{polls-apart, still-awaited, reply-matches, two-ends, Answers, StillAwaited, looked}
@@ -71,8 +71,7 @@ answers-match tries period delay link ts before t after k run g c role cb h =
     go (d, dt, m) = record {
       polled = polled role refl;
       awaited = ap (λ (x : Accounts). (of role x).outgoing.awaited) (sym m.before_is) ∙ still.awaited;
-      none_due = and-not (is_connected (of role before).phase) (of role before).wait.poll (ap is_connected cb)
-          (ap (λ (x : Accounts). is_connected (of role x).phase && (of role x).wait.poll) (sym m.before_is) ∙ still.none_due);
+      none_due = grind (arith, and-not, still);
     }
       where
         n : ℕ

@@ -1,6 +1,5 @@
 -- What stays from turn to turn.
-use Rattle.std.proofs.Common.{◌⊎◌, inl, inr, ℕ, zero, suc, ◌+◌, ◌<◌, ◌≤◌, arith, subst}
-use Rattle.link_account.proofs.Names.{cases_lt}
+use Rattle.turn_losses.proofs.Names.{◌⊎◌, inl, inr, ℕ, zero, suc, ◌+◌, ◌<◌, ◌≤◌, arith, subst, cases_lt}
 
 pub kept-in : (P : ℕ → Type 0) (s t : ℕ) → s ≤ t → ((u : ℕ) → s ≤ u → u < t → P u → P (u + 1)) → P s → P t
 kept-in P s zero less next h = subst P (omega (arith, less)) h

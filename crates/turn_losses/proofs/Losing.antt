@@ -1,22 +1,18 @@
 -- What is lost in each period of a waiting break, while the other end is Connected.
-use Rattle.std.proofs.Common.{◌⊎◌, inl, inr, ◌≡◌, ℕ, ◌+◌, ◌-◌, ◌*◌, ◌<◌, ◌≤◌, Bool, true, false, ◌∷◌, length, arith, refl, sym, ◌∙◌, ap, Ok}
-use Rattle.std.proofs.Common.{◌%◌, List, subst}
-use Rattle.link_account.proofs.Names.{cases_lt, nat_tests, Role, other, of, waits, Arrived, Account, is_connected, hear, Originator}
-use Rattle.link_account.proofs.Names.{Answerer}
-use Rattle.link_run.proofs.Names.{User, Turn, arrival, Carries, Link, Accounts, Hears, served_at}
-use Rattle.turn_bound.proofs.Truths.{clash, not-true}
+use Rattle.turn_losses.proofs.Names.{◌⊎◌, inl, inr, ◌≡◌, ℕ, ◌+◌, ◌-◌, ◌*◌, ◌<◌, ◌≤◌, Bool, true, false, ◌∷◌, length, arith, refl, sym, ◌∙◌}
+use Rattle.turn_losses.proofs.Names.{ap, Ok, ◌%◌, List, subst, cases_lt, nat_tests, Role, other, of, waits, Arrived, Account, is_connected}
+use Rattle.turn_losses.proofs.Names.{hear, Originator, Answerer, User, Turn, arrival, Carries, Link, Accounts, Hears, served_at, of_frame}
+use Rattle.turn_losses.proofs.Names.{of_arrived, served_account, serves-all, is_lost, clash, not-true, connected-is, unlinked-of, rates}
+use Rattle.turn_losses.proofs.Names.{StandTogether, EndRun, TwoEnds, TimedRun, end_of, is_linked, PeriodLoses, LosesEach}
 use Rattle.turn_losses.proofs.Periods.{once, loses-at, loses-last}
 use Rattle.turn_losses.proofs.PeriodLaws.{is-heard, was-sent, last-heard, two-ends, NoneLost}
 use Rattle.turn_losses.proofs.Expiries.{LostIn, lost-or-none}
-use Rattle.turn_bound.proofs.Value.{connected-is, unlinked-of}
 use Rattle.turn_losses.proofs.Establishing.{is_sabme}
 use Rattle.turn_losses.proofs.BreakHear.{answered_own, break-heard, Unanswered, old-heard}
 use Rattle.turn_losses.proofs.BreakTurn.{waits-not, wait-ends, served-own, Deeds, number_of, brk_due}
 use Rattle.turn_losses.proofs.View.{deeds-of, breaking}
 use Rattle.turn_losses.proofs.Waiting.{BreakPeriod, break-answered, break-periods}
 use Rattle.turn_losses.proofs.Flight.{answers-sabme, sends-sabme-so, answ-no-sabme}
-use Rattle.turn_losses.proofs.Names.{of_frame, of_arrived, serves-all, served_account, is_lost, PeriodLoses, EndRun, TwoEnds, TimedRun}
-use Rattle.turn_losses.proofs.Names.{end_of, rates, is_linked, StandTogether, LosesEach}
 use Rattle.turn_losses.proofs.Words.{ack_of, of_word}
 use Rattle.turn_losses.proofs.Tracing.{starts-fresh}
 use Rattle.turn_losses.proofs.Wanting.{SpendsBreak, peer-connected-at}

@@ -1,15 +1,14 @@
 -- What an originator's try sends and hears, and what ends it.
 use Rattle.std.proofs.Common.{◌⊎◌, inl, inr, ◌≡◌, ℕ, ◌+◌, ◌≤◌, Bool, true, false, nat_eq, arith, refl, sym, ◌∙◌, ap, Option, Some, Ok, Err}
 use Rattle.std.proofs.Common.{Result, not}
-use Rattle.link_account.proofs.Names.{is_some, nat_tests, Role, Originator, Answerer, Frame, Sabme, Disc, Ua, Dm, Ui, Xid, Offer, offer_in}
+use Rattle.link_account.proofs.Names.{is_some, nat_tests, Role, Originator, Answerer, Frame, Sabme, Disc, Ua, Dm, Xid, Offer, offer_in}
 use Rattle.link_account.proofs.Names.{written, Arrived, LinkFault, Account, hear, on_frame, on_nothing, trying, Said, speak, speak_linked}
-use Rattle.link_account.proofs.Names.{false≢true, Sent, says, frame_for, speak_in}
+use Rattle.link_account.proofs.Names.{Sent, says, frame_for, speak_in}
 use Rattle.link_run.proofs.Names.{Phase, Detecting, Negotiating, Establishing, Connected, Releasing, Closed, Answer}
-use Rattle.lapm_frames.specs.declared.seen.Seen.TheVariants.{Adp}
 use Rattle.link_account.specs.Hear.{connected, on_xid_command}
 use Rattle.link_account.specs.Speak.{else_says, answering, speak_answer, speak_negotiating}
 use Rattle.turn_bound.proofs.MeetHear.{of_frame, of_arrived}
-use Rattle.link_account.proofs.HearWays.{by-ways, numbered_with, numbers-alike}
+use Rattle.link_account.proofs.HearWays.{by-ways, numbers-alike}
 use Rattle.link_account.proofs.SpeakWays.{Tries, answers_alone, by-linked, linked-so, linked-alike}
 use Rattle.turn_losses.proofs.PollTurn.{SaidPoll, linked-poll}
 use Rattle.lapm_frames.specs.declared.arrived.Arrived.TheVariants as arrivals
@@ -68,31 +67,8 @@ pub try-heard : (arrived : Arrived) (turn : ℕ) (a mid : Account) → a.setup.r
     → TryHeard turn arrived a mid
 try-heard arrived turn a mid r h = by-ways (λ x b. TryHeard turn x a b) turn a (record {
   nothing = same-try turn arrivals.Nothing a (on_nothing a) a.phase refl refl refl refl;
-  linked = λ e. record {
-    pattern = λ seen. no-try turn (arrivals.Pattern seen) a a Connected e refl;
-    plain = λ frame p. no-try turn (arrivals.Frame frame) a a Connected e refl;
-    numbers = numbers-alike _ turn a (λ frame new incoming timer reply urgent k.
-        no-try turn (arrivals.Frame frame) a (numbered_with a new incoming timer reply urgent) Connected e refl);
-    sabme = λ pf n q. never q;
-    disc = λ pf q. never q;
-    brk = λ command pf info number length_octet q. no-try turn (arrivals.Frame (Ui command pf info)) a a Connected e refl;
-    brkack = λ command pf info number length_octet q. no-try turn (arrivals.Frame (Ui command pf info)) a a Connected e refl;
-  };
-  early = λ c. record {
-    ignores = λ x f p t g. inl (g, refl, unmoved p x t g f);
-    detects = λ e q. begins-try turn (arrivals.Pattern Adp) a Detecting Negotiating (trying Negotiating turn a) e refl (λ w. cc)
-        (λ w. cc) refl refl refl;
-    detected = λ e q. never q;
-    xid = λ e q pf info offer f. never q;
-    agrees = λ e q pf info offer f. begins-try turn (arrivals.Frame (Xid false pf info)) a Negotiating Establishing
-        (trying Establishing turn a) e refl (λ w. cc) (λ w. cc)
-        refl refl refl;
-    sabme_first = λ e q pf. never q;
-    sabme = λ e q pf. never q;
-    ua = λ e. no-try turn (arrivals.Frame (Ua true)) a (connected turn a) Connected refl refl;
-    disc = λ e pf. elim e [ inl q ↦ never q.1 | inr q ↦ no-try turn (arrivals.Frame (Disc pf)) a a Closed q refl ];
-    closes = λ e frame f. no-try turn (arrivals.Frame frame) a (record a { phase = Closed }) Closed refl refl;
-  };
+  linked = grind (arith, no-try, numbers-alike, never);
+  early = grind (arith, unmoved, begins-try, trying, never, no-try, connected);
 }) arrived mid h
   where
     never : {A : Type 0} → a.setup.role ≡ Answerer → A
@@ -100,14 +76,7 @@ try-heard arrived turn a mid r h = by-ways (λ x b. TryHeard turn x a b) turn a 
 
     -- what is ignored doesn't move the try on
     unmoved : (p : Phase) (x : Arrived) → is_trying p ≡ true → a.phase ≡ p → hear turn x a ≡ Ok a → of_arrived (moves_on p) x ≡ false
-    unmoved p arrivals.Nothing t g f = refl
-    unmoved p (arrivals.Pattern seen) t g f = refl
-    unmoved Negotiating (arrivals.Frame frame) t g f = grind (arith)
-    unmoved Establishing (arrivals.Frame frame) t g f = grind (arith)
-    unmoved Releasing (arrivals.Frame frame) t g f = grind (arith)
-    unmoved Detecting (arrivals.Frame frame) t g f = cc
-    unmoved Connected (arrivals.Frame frame) t g f = cc
-    unmoved Closed (arrivals.Frame frame) t g f = cc
+    unmoved p x t g f = grind (arith)
 
 -- Speaking: its timer expires and the frame goes again, or it stands and the frame goes where it is due.
 abbrev pub TriesAgain : Phase → ℕ → Account → Said → Type 0
@@ -144,11 +113,7 @@ try-says turn release b said r long offers h = SpeakWays.by-ways (TrySaid turn b
   xid = λ p q. tries Negotiating _ p offers;
   sabme = λ p. tries Establishing _ p refl;
   linked = λ p q. linked-so _ _ turn b (λ s k m t f. untried Connected p refl m t (sym k.phase ∙ f)) (linked-poll turn b);
-  releases = λ p q. record {
-    sent = λ x e m t f. inr (p, sym f, refl, refl, ap (λ y. asks y (Disc true)) (sym f));
-    again = λ x e. absurd (late x);
-    flags = λ x e. absurd (false≢true (sym e));
-  };
+  releases = grind (arith, late);
   disc = λ p. tries Releasing _ p refl;
 }) said h
   where

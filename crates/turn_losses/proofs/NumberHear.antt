@@ -1,20 +1,21 @@
 -- What a Connected end makes of the numbers that it hears.
-use Rattle.std.proofs.Common.{◌⊎◌, inl, inr, ◌≡◌, ℕ, ◌%◌, ◌<◌, ◌≤◌, Bool, true, false, List, length, length-append, arith, refl, sym, ◌∙◌}
-use Rattle.std.proofs.Common.{ap, subst, Option, Some, None, Ok, zero, suc, ◌+◌, min}
-use Rattle.turn_losses.proofs.Names.{Rates, Sends, served_account, is_linked}
-use Rattle.turn_bound.proofs.Sender.{Heard, heard-advanced, heard-resumed, acked-heard, meant-range}
-use Rattle.link_account.proofs.Names.{Frame, I, Rr, Rnr, Rej, meant, Outgoing, resumed, Incoming, after_take, after_kind, kind_of, offset}
-use Rattle.link_account.proofs.Names.{Took, InOrder, Sent, Arrived, Account, is_connected, hear, Offer, Terms, IsAllowed, agree, with_piece}
+use Rattle.turn_losses.proofs.Names.{◌⊎◌, ◌≡◌, ℕ, ◌%◌, ◌<◌, ◌≤◌, Bool, true, false, List, length, length-append, arith, refl, sym, ◌∙◌, ap}
+use Rattle.turn_losses.proofs.Names.{subst, Option, Some, None, Ok, zero, suc, ◌+◌, by-linked, acked, acked_back, Plain, Frame, I, Rr, Rnr}
+use Rattle.turn_losses.proofs.Names.{Rej, meant, Outgoing, resumed, Incoming, Sent, Arrived, Account, is_connected, hear, Offer, IsAllowed}
+use Rattle.turn_losses.proofs.Names.{Phase, User, served_account, heard-advanced, heard-resumed, acked-heard, meant-range}
+use Rattle.turn_losses.proofs.Names.{unlinked-connected, Rates, Sends, connected-is, is_linked}
+use Rattle.std.proofs.Common.{min}
+use Rattle.turn_bound.proofs.Sender.{Heard}
+use Rattle.link_account.proofs.Names.{after_take, after_kind, kind_of, offset}
+use Rattle.link_account.proofs.Names.{Took, InOrder, Terms, agree, with_piece}
 use Rattle.link_account.proofs.Names.{wants}
 use Rattle.lapm_receiver.specs.Incoming.{kind_at}
-use Rattle.link_account.proofs.HearWays.{by-linked, acked, acked_back, Plain, by-early}
-use Rattle.turn_bound.proofs.Value.{connected-is}
+use Rattle.link_account.proofs.HearWays.{by-early}
 use Rattle.lapm_frames.specs.declared.sent.Sent.TheVariants as slots
 use Rattle.lapm_frames.specs.declared.arrived.Arrived.TheVariants as arrivals
-use Rattle.link_run.proofs.Names.{Phase, User, offered_at, offered_times, room_for}
+use Rattle.link_run.proofs.Names.{offered_at, offered_times}
 use Rattle.xid_params.specs.Terms.{lowered}
 use Rattle.turn_bound.proofs.Serving.{served-by}
-use Rattle.turn_bound.proofs.Truths.{unlinked-connected}
 
 -- the N(R) of a frame that acknowledges, and the N(S) of an I frame
 abbrev pub frame_nr : Frame → Option ℕ
@@ -126,30 +127,15 @@ numbers-heard z arrived turn a mid c s e = by-linked (λ x b. NumbersHeard x a b
   pattern = λ seen. heard-same _ a a refl refl refl refl refl;
   plain = λ frame p. let k = plain-none frame p in heard-same _ a a k.0 k.1 refl refl refl;
   numbers = record {
-    i = λ ns nr pf info n m. let r = meant-range a.outgoing.front a.outgoing.high nr n m in
-        heard-number (I ns nr pf info) nr n a _ refl m (fronted n a.outgoing _
-        (heard-advanced z turn turn a.outgoing a.wait.timer n s r.0 r.1) refl) (takes-of ns info a.incoming) refl refl;
+    i = grind (arith, meant-range, heard-number, fronted, heard-advanced, takes-of);
     rr = λ command pf nr n final f m. heard-number (Rr command nr pf) nr n a _ refl m (fronted n a.outgoing _
         (heard-resumed a.outgoing _ (acked-heard z turn turn a final command pf nr n s f m).0)
         (resumed-front _ ∙ (acked-front final a.outgoing n).0)) (same-taken a.incoming) refl refl;
     rej = λ command pf nr n final f m. heard-number (Rej command nr pf) nr n a _ refl m (fronted n a.outgoing _
         (heard-resumed a.outgoing _ (acked-heard z turn turn a final command pf nr n s f m).1)
         (resumed-front _ ∙ (acked-front final a.outgoing n).1)) (same-taken a.incoming) refl refl;
-    rnr = λ command pf nr n final f m.
-        let k = (acked-heard z turn turn a final command pf nr n s f m).0 in
-        heard-number (Rnr command nr pf) nr n a _ refl m
-        (record { window = k.window; pieces = k.pieces; front = (acked-front final a.outgoing n).0; advance = inr refl })
-        (same-taken a.incoming) refl refl;
-    srej = λ command pf nr n f m. record {
-      window = refl;
-      pieces = refl;
-      front_low = omega arith;
-      advance = inl refl;
-      acked = λ r g. cc;
-      incoming = same-taken a.incoming;
-      numbered = λ s g. cc;
-      special = refl;
-    };
+    rnr = grind (arith, acked-heard, heard-number, acked-front, same-taken);
+    srej = grind (arith, same-taken);
   };
   sabme = λ pf n r. heard-same _ a _ refl refl refl refl refl;
   disc = λ pf r. heard-same _ a _ refl refl refl refl refl;
@@ -206,8 +192,4 @@ pub record ServedLeft (a b : Account) : Type 0 where
   pub room : HasRoom a.outgoing → HasRoom b.outgoing
 
 pub served-left : (user : User) (turn : ℕ) (released : Bool) (a : Account) → ServedLeft a (served_account user turn released a)
-served-left user turn released a = let s = served-by user turn released a in subst (ServedLeft a) (sym s.is) (record {
-  taken = refl;
-  owed = refl;
-  room = λ h. offers-room (room_for s.from) user.file s.from (subst HasRoom (sym s.from_is) h);
-})
+served-left user turn released a = let s = served-by user turn released a in grind (arith, offers-room)

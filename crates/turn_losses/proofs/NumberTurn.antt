@@ -1,22 +1,16 @@
 -- What a Connected end tells as it speaks.
-use Rattle.std.proofs.Common.{◌⊎◌, inl, inr, ◌≡◌, ℕ, ◌%◌, ◌||◌, Bool, true, false, cond, length, refl, sym, ◌∙◌, ap, Option, Some, None, Ok}
-use Rattle.std.proofs.Common.{zero, suc, ◌+◌, ◌≤◌, List, arith}
-use Rattle.turn_losses.proofs.Names.{rates, is_linked}
-use Rattle.turn_bound.proofs.Value.{linked-of, connected-is}
-use Rattle.link_account.proofs.Names.{is_some, is_originator, Outgoing, Incoming, OwnBreaks, Account, Said, nr_of, frame_for, ready_frame}
-use Rattle.link_account.proofs.Names.{speak_linked, Role, Sent, Arrived, is_connected, speak, IsAllowed}
-use Rattle.link_run.proofs.Names.{Answer, Link}
-use Rattle.lapm_sender.specs.Outgoing.{next_among}
-use Rattle.lapm_receiver.specs.Incoming.{after_asked}
+use Rattle.turn_losses.proofs.Names.{◌⊎◌, inl, inr, ◌≡◌, ℕ, ◌%◌, ◌||◌, Bool, true, false, cond, length, refl, sym, ◌∙◌, ap, Option, Some}
+use Rattle.turn_losses.proofs.Names.{None, Ok, zero, suc, ◌+◌, ◌≤◌, List, arith, after_asked, is_some, Outgoing, Incoming, OwnBreaks}
+use Rattle.turn_losses.proofs.Names.{Account, Said, nr_of, frame_for, ready_frame, speak_linked, Role, Sent, Arrived, is_connected, speak}
+use Rattle.turn_losses.proofs.Names.{IsAllowed, Steps, linked-alike, next-keeps, Answer, Link, fits, linked-says, rates, linked-of}
+use Rattle.turn_losses.proofs.Names.{connected-is, is_linked}
 use Rattle.link_account.specs.Account.{Wait}
 use Rattle.link_account.specs.Speak.{says_frame}
 use Rattle.turn_losses.proofs.NumberHear.{frame_nr, frame_ns, nr_sent, ns_sent, NumbersHeard, numbers-heard, Room, Fits, begins-roomy}
-use Rattle.link_account.proofs.SpeakWays.{Steps, by-linked, linked-alike, retimed, next-keeps}
-use Rattle.turn_bound.proofs.Speaking.{linked-says}
+use Rattle.link_account.proofs.SpeakWays.{by-linked, retimed}
 use Rattle.turn_losses.proofs.InTurn.{InTurn}
 use Rattle.turn_losses.proofs.PollTurn.{SaidPoll, poll-speaks}
 use Rattle.turn_losses.proofs.HeardNumber.{PausedHeard, paused-hears}
-use Rattle.turn_bound.proofs.Ending.{fits}
 
 -- the sender's part but for what waits and goes next
 pub record SameFront (o new : Outgoing) : Type 0 where
@@ -83,23 +77,14 @@ linked-numbers turn a said e = by-linked (NumbersSaid a.special a) turn a (linke
         numbered = refl;
         tells = λ nr f. let same : nr_of a ≡ nr = cc in sym same;
         told = λ h k. inl refl;
-        segment = λ ns f. (next-keeps b.outgoing).awaited
-            ∙ unawaited (is_originator a.setup.role || a.numbered) awaited a.outgoing.paused (next_among a.outgoing.chosen b.outgoing) n q;
+        segment = grind (arith, next-keeps, b, unawaited);
       };
       brkack = λ before s word q. says-special a.special a _ s still refl refl refl refl refl refl;
       brk = λ before s k word q. says-special a.special a _ s still refl refl refl refl refl refl;
       tell = λ before x q. ready false false _ still refl refl;
       rej = λ before x n q. says-nr a.special a _ still (asked-taken n a.incoming).0 refl refl refl;
-      srej = λ before x s n q. says-special a.special a _ s still (asked-taken n a.incoming).0 refl
-          (asked-taken n a.incoming).1 refl refl refl;
-      flags = λ i. record {
-        outgoing = still;
-        taken = refl;
-        numbered = refl;
-        tells = λ nr f. cc;
-        told = λ h k. let wrong : true ≡ false = sym h ∙ i.owed in cc;
-        segment = λ ns f. cc;
-      };
+      srej = grind (arith, says-special, still, asked-taken);
+      flags = grind (arith, still);
     }
       where
         b : Account
@@ -146,17 +131,13 @@ module _ {tries period : ℕ} {link : Link} {role : Role} {turn : ℕ} {a : Acco
   numbers = linked-numbers turn b said (linked-says turn release b said (connected-is b.phase polled.0) now speaks).0
 
   room-said : Room mid → Room said.account
-  room-said r =
-      let b-room = i.left.room r.pieces in
-      let f = numbers.outgoing.front in let v = numbers.outgoing.window in let q = ap length numbers.outgoing.pieces in
-      let bw = ap (λ o. o.window) i.served.longer.outgoing in let w = r.window in
-      record { window = omega (arith, v, bw, w); pieces = omega (arith, f, v, q, b-room) }
+  room-said r = grind (arith, numbers)
 
   pub begins-turn : a.wait.timer ≡ None → Fits a.terms → IsAllowed a.setup.offer → is_linked a.phase ≡ false → Begins said.account
-  begins-turn untimed fits own ua = record {
-    room = room-said (record { window = w.0; pieces = let p = w.1 in omega (arith, p) });
-    count = zero-count said.account.outgoing.count refl;
-  }
+  begins-turn untimed fits own ua = assumption (
+    room-said (record { window = w.0; pieces = let p = w.1 in omega (arith, p) }),
+    zero-count said.account.outgoing.count refl,
+  )
     where
       w : (mid.outgoing.window ≤ 127) × (length mid.outgoing.pieces ≡ 0) × (mid.outgoing.count ≡ 0)
       w = (begins-roomy arrived turn a mid ua fits own i.hears).so connected
@@ -191,9 +172,7 @@ module _ {tries period : ℕ} {link : Link} {role : Role} {turn : ℕ} {a : Acco
     tells = λ nr e. numbers.tells nr e ∙ ap (λ (l : List (List ℕ)). length l % 128) i.left.taken;
     told = λ o n. to-mid (numbers.told (i.left.owed ∙ o) (i.served.answer ∙ (i.polls.answer ca connected n ∙ i.none_due.answer)));
     segment = numbers.segment;
-    room = λ r. let low = heard.front_low in let w = heard.window in let p = ap length heard.pieces in let rw' = r.window in let rp =
-        r.pieces in
-        room-said (record { window = omega (arith, w, rw'); pieces = omega (arith, low, w, p, rp) });
+    room = grind (arith, heard, room-said);
   }
     where
       heard : NumbersHeard arrived a mid
@@ -207,5 +186,4 @@ module _ {tries period : ℕ} {link : Link} {role : Role} {turn : ℕ} {a : Acco
           ⊎ ((b.special ≡ false) × (said.account.special ≡ true) × (said.account.incoming.owed ≡ true))
           → (is_some (nr_sent said.sent) ≡ true)
           ⊎ ((a.special ≡ false) × (said.account.special ≡ true) × (said.account.incoming.owed ≡ true))
-      to-mid (inl x) = inl x
-      to-mid (inr (x, y, z)) = inr (sym special ∙ x, y, z)
+      to-mid given = grind (arith, special)

@@ -1,19 +1,19 @@
 -- The numbers of both ends of a run.
-use Rattle.std.proofs.Common.{inl, inr, ◌≡◌, ℕ, zero, suc, ◌+◌, ◌%◌, ◌<◌, ◌≤◌, Bool, true, false, cond, List, length, length-append, arith}
-use Rattle.std.proofs.Common.{refl, sym, ◌∙◌, ap, subst, Option, Some}
-use Rattle.link_account.proofs.Names.{Role, Originator, Answerer, other, of, IsPrefixOf, IsAllowed, Account, is_connected, MayPlay}
-use Rattle.link_run.proofs.Names.{Link, Accounts, Spoken, Turn, RunsOver}
+use Rattle.turn_losses.proofs.Names.{inl, inr, ◌≡◌, ℕ, zero, suc, ◌+◌, ◌%◌, ◌<◌, ◌≤◌, Bool, true, false, cond, List, length, length-append}
+use Rattle.turn_losses.proofs.Names.{arith, refl, sym, ◌∙◌, ap, subst, Option, Some, Role, Originator, Answerer, other, of, IsAllowed}
+use Rattle.turn_losses.proofs.Names.{Account, is_connected, MayPlay, Link, Accounts, Spoken, Turn, unlinked-of, rates, is_linked, past}
+use Rattle.turn_losses.proofs.Names.{sent_or, TimedRun, end_of}
+use Rattle.link_account.proofs.Names.{IsPrefixOf}
+use Rattle.link_run.proofs.Names.{RunsOver}
 use Rattle.link_account.specs.Account.{first_terms}
 use Rattle.link_account.specs.Laws.{TakesInOrder, AcknowledgesTaken}
 use Rattle.link_run.specs.Laws.{RunsArePlays, HearingsArePlays, IsPlayed}
 use Rattle.link_run.specs.Overheard.{AgreesByXid, has_passed, is_xid, agreed_terms}
 use Rattle.turn_losses.proofs.Tracing.{release_of, end-turn, starts-fresh}
-use Rattle.turn_bound.proofs.Value.{unlinked-of}
 use Rattle.turn_losses.proofs.NumberHear.{ns_sent, Room, Fits, fits-second}
 use Rattle.turn_losses.proofs.NumberTurn.{NumberTurn, number-turn, Begins, begins-turn}
 use Rattle.turn_losses.proofs.Acknowledged.{Counts}
 use Rattle.turn_losses.proofs.Expiries.{SendsFirst, end-answered}
-use Rattle.turn_losses.proofs.Names.{rates, is_linked, past, sent_or, TimedRun, end_of}
 
 -- what the laws of plays and of frames say
 pub record Plays : Type 0 where
@@ -37,13 +37,11 @@ taken-offered : Plays → (link : Link) → MayPlay link.orig.setup link.answ.se
 taken-offered laws link m ends line p Originator =
     let h = prefix-length _ _ (laws.in_order link.orig.setup link.answ.setup p.events m).0 in
     let x = ap (λ (a : Account). length a.outgoing.pieces) (p.is_at Originator).account_is in
-    let y = ap (λ (a : Account). length a.incoming.taken) (p.is_at Answerer).account_is in
-    omega (arith, h, x, y)
+    let y = ap (λ (a : Account). length a.incoming.taken) (p.is_at Answerer).account_is in grind (arith)
 taken-offered laws link m ends line p Answerer =
     let h = prefix-length _ _ (laws.in_order link.orig.setup link.answ.setup p.events m).1 in
     let x = ap (λ (a : Account). length a.outgoing.pieces) (p.is_at Answerer).account_is in
-    let y = ap (λ (a : Account). length a.incoming.taken) (p.is_at Originator).account_is in
-    omega (arith, h, x, y)
+    let y = ap (λ (a : Account). length a.incoming.taken) (p.is_at Originator).account_is in grind (arith)
 
 pub allowed : (link : Link) → MayPlay link.orig.setup link.answ.setup → (r : Role) → IsAllowed (of r link).setup.offer
 allowed link m r = grind (arith)

@@ -1,18 +1,17 @@
 -- What holds of polls and their answers in every run.
+use Rattle.std.proofs.lemmas.Option.{slice_get_past}
 use Rattle.std.specs.Prelude.{◌≡◌, ℕ, ◌+◌, ◌<◌, ◌≤◌, true, false}
 use Rattle.link_account.specs.Account.{Account, is_connected}
-use Rattle.turn_losses.proofs.Names.{poll_due, EndRun, sends_poll, hears_poll, sends_final, hears_final, is_lost, past, sent_or, of_frame}
-use Rattle.turn_losses.proofs.Names.{of_arrived, ArrivesLate, arrives-flag, TimedRun, end_of, is_poll, is_final, TwoEnds, is_linked}
-use Rattle.std.proofs.Common.{inl, inr, zero, suc, ◌-◌, Bool, cond, List, [], ◌∷◌, length, arith, refl, sym, ◌∙◌, ap, subst, Some, None}
-use Rattle.std.proofs.Common.{◌⊎◌, ◌*◌}
-use Rattle.link_account.proofs.Names.{Role, Frame, Sent, Arrived, arrives, slice_get, other, of}
-use Rattle.link_run.proofs.Names.{arrival, sent_in, Carries, Turn}
+use Rattle.turn_losses.proofs.Names.{inl, inr, zero, suc, ◌-◌, Bool, cond, length, arith, refl, sym, ◌∙◌, ap, subst, Some, ◌⊎◌, ◌*◌, Role}
+use Rattle.turn_losses.proofs.Names.{Frame, Sent, Arrived, arrives, slice_get, other, of, arrival, sent_in, Carries, Turn, of_frame}
+use Rattle.turn_losses.proofs.Names.{of_arrived, arrives-flag, is_lost, clash, not-true, is-true, or-late, poll_due, EndRun, sends_poll}
+use Rattle.turn_losses.proofs.Names.{hears_poll, sends_final, hears_final, past, sent_or, ArrivesLate, TimedRun, end_of, TwoEnds, is_linked}
+use Rattle.turn_losses.proofs.Names.{is_poll, is_final}
 use Rattle.turn_bound.proofs.Tied.{sent_of, none-heard, one-heard}
 use Rattle.turn_losses.proofs.PollsFresh.{WasSent, Polls, Fresh, polls-fresh, sent-soon, sent-apart}
 use Rattle.turn_losses.proofs.Tracing.{past-all, past-length, starts-fresh}
 use Rattle.lapm_frames.specs.declared.arrived.Arrived.TheVariants as arrivals
 use Rattle.turn_losses.proofs.Kept.{kept-in, kept-on}
-use Rattle.turn_bound.proofs.Truths.{clash, not-true, is-true, or-late}
 use Rattle.turn_losses.proofs.Clocks.{last}
 
 -- What a response with F = 1 answers: a poll sent a round trip before, which became due in that turn or the one before it; none became due
@@ -36,11 +35,6 @@ pub looked : (w : TimedRun) → (k t : ℕ) → t + k < length w.ts → slice_ge
 looked w zero t l = ap (λ n. slice_get (past w.ts n) 0) (omega arith) ∙ ap (λ us. slice_get us 0) (w.trace.grows t (omega (arith, l)))
 looked w (suc k) t l = grind (arith, looked w k t (omega (arith, l)))
 
-get-none : {A : Type 0} (xs : List A) (k : ℕ) → length xs ≤ k → slice_get xs k ≡ None
-get-none [] k l = refl
-get-none (x ∷ xs) zero l = absurd (omega (arith, l))
-get-none (x ∷ xs) (suc k) l = get-none xs k (omega (arith, l))
-
 -- what a line carries in a turn of a run, or in the one behind it
 pub carries-late : (w : TimedRun) (t : ℕ) → t ≤ length w.ts → (x : Turn) → Carries w.delay (past w.ts t) x → (role : Role)
     → ArrivesLate (w.delay (other role)) t (is_lost (of role x).heard) (end_of w (other role)).slot (arrival (of role x).heard)
@@ -53,7 +47,7 @@ carries-late w t within x carries role = record { early = early; late = late }
     one = w.keeps.delays (other role)
 
     early : t < d → arrival (of role x).heard ≡ arrivals.Nothing
-    early l = grind (arith, past-length, none-heard, get-none)
+    early l = grind (arith, past-length, none-heard, slice_get_past)
 
     late : d ≤ t → arrival (of role x).heard ≡ cond (is_lost (of role x).heard) arrivals.Nothing
         (arrives ((end_of w (other role)).slot (t - d)))
@@ -338,10 +332,8 @@ answer-comes {period} {turns} {e} {o} k s within m ce co lost =
         (co (q + e.delay + 1) (omega (arith, low)) (omega (arith, high, k.other_delay))) in
         let answered : hears_final e (q + e.delay + o.delay) ≡ true =
         is-heard is_final k.hears (q + e.delay) (omega (arith, high, within))
-        (lost (q + e.delay + o.delay) (omega (arith, low, k.own_delay)) (omega (arith, high))).0 ∙ replied in
-        (q + e.delay + o.delay, omega (arith, low), omega (arith, high), answered)
+        (lost (q + e.delay + o.delay) (omega (arith, low, k.own_delay)) (omega (arith, high))).0 ∙ replied in grind (arith)
 
     go : (sends_poll e s ≡ true) ⊎ (sends_poll e (s + 1) ≡ true)
         → (u : ℕ) × (s + (e.delay + o.delay) ≤ u) × (u ≤ s + (e.delay + o.delay) + 1) × (hears_final e u ≡ true)
-    go (inl x) = from s (omega arith) (omega arith) x
-    go (inr x) = from (s + 1) (omega arith) (omega arith) x
+    go given = grind (arith, from)

@@ -1,9 +1,6 @@
 -- A loss of a turn as one of a period, counted back from the last turn.
-use Rattle.std.proofs.Common.{◌≡◌, inl, inr, ℕ, ◌+◌, ◌-◌, ◌*◌, ◌<◌, ◌≤◌, true, List, ◌∷◌, length, arith, sym, subst, Some}
-use Rattle.link_account.proofs.Names.{Role, other, of, Heard}
-use Rattle.link_run.proofs.Names.{Turn, LosesSome}
-use Rattle.link_run.specs.Starved.{IsLost, turn_at}
-use Rattle.turn_losses.proofs.Names.{is_lost, PeriodLoses, TimedRun, end_of}
+use Rattle.turn_losses.proofs.Names.{◌≡◌, inl, inr, ℕ, ◌+◌, ◌-◌, ◌*◌, ◌<◌, ◌≤◌, true, List, ◌∷◌, length, arith, sym, subst, Some, Role}
+use Rattle.turn_losses.proofs.Names.{other, of, Heard, Turn, LosesSome, IsLost, turn_at, is_lost, TimedRun, end_of, PeriodLoses}
 use Rattle.turn_losses.proofs.Expiries.{LostIn}
 use Rattle.turn_losses.proofs.Keeping.{turn-is}
 

@@ -1,13 +1,10 @@
 -- How the phases of both ends stand together between the turns of a run.
-use Rattle.std.proofs.Common.{◌≡◌, ℕ, ◌<◌, true, length, map, ◌⊎◌, inl, inr, ◌+◌, ◌≤◌, Bool, false, refl, sym, ◌∙◌, ap, subst, Ok}
-use Rattle.link_run.proofs.Names.{is_released, is_closed, Accounts, Phase, Detecting, Negotiating, Establishing}
-use Rattle.turn_bound.proofs.Meeting.{Meets, meets-run, speaks-so}
-use Rattle.turn_bound.proofs.Ending.{fits}
-use Rattle.turn_bound.proofs.Tied.{Tied, tied, keeps, link_of, turn_of, state_of}
-use Rattle.turn_losses.proofs.Names.{rates, is_begun, TimedRun, past, Stands, of_frame, of_arrived, end_of}
-use Rattle.link_account.proofs.Names.{Originator, Answerer, Arrived, Account, hear, Said, speak}
-use Rattle.link_account.proofs.HearWays.{numbers-alike}
-use Rattle.link_run.proofs.Speaking.{speaks-phase}
+use Rattle.turn_losses.proofs.Names.{arith, ◌≡◌, ℕ, ◌<◌, true, length, map, ◌⊎◌, inl, inr, ◌+◌, ◌≤◌, Bool, false, refl, sym, ◌∙◌, ap, subst}
+use Rattle.turn_losses.proofs.Names.{Ok, numbers-alike, Originator, Answerer, Arrived, Account, hear, Said, speak, is_released, is_closed}
+use Rattle.turn_losses.proofs.Names.{Accounts, Phase, Detecting, Negotiating, Establishing, speaks-phase, fits, is_begun, of_frame}
+use Rattle.turn_losses.proofs.Names.{of_arrived, speaks-so, Tied, tied, keeps, link_of, turn_of, state_of, rates, Stands, TimedRun, past}
+use Rattle.turn_losses.proofs.Names.{end_of}
+use Rattle.turn_bound.proofs.Meeting.{Meets, meets-run}
 use Rattle.turn_losses.proofs.Establishing.{is_sabme, says-sabme}
 use Rattle.turn_losses.proofs.Tracing.{release_of, end-turn}
 use Rattle.turn_losses.proofs.Follows.{follows}
@@ -24,42 +21,14 @@ met w u l =
     let i : Tied w.delay w.link (past w.ts u) (w.state u) = tied w.delay w.link (past w.ts u) (w.state u) w.keeps.delays h.run h.carried in
     let m : Meets (state_of (w.state u) i.forward i.back) = meets-run (rates w.tries w.period) (link_of w.delay w.link)
     (map turn_of (past w.ts u)) (state_of (w.state u) i.forward i.back)
-    (fits w.tries w.period (link_of w.delay w.link) (keeps w.tries w.period w.delay w.link w.keeps)) i.run in
-    record { closed = m.closed; begun = m.begun }
+    (fits w.tries w.period (link_of w.delay w.link) (keeps w.tries w.period w.delay w.link w.keeps)) i.run in grind (arith)
 
 -- An answerer begins only once the originator establishes the link.
 
 -- only a SABME begins an answerer
 begun-by : (arrived : Arrived) (turn : ℕ) (a mid : Account) → a.setup.role ≡ Answerer → (a.phase ≡ Establishing → ⊥)
     → hear turn arrived a ≡ Ok mid → is_begun mid.phase ≡ true → (is_begun a.phase ≡ true) ⊎ (of_arrived is_sabme arrived ≡ true)
-begun-by arrived turn a mid er n h = HearWays.by-ways
-    (λ x b. is_begun b.phase ≡ true → (is_begun a.phase ≡ true) ⊎ (of_arrived is_sabme x ≡ true)) turn a (record {
-      nothing = λ c. inl c;
-      linked = λ p. record {
-        pattern = λ seen c. inl c;
-        plain = λ frame k c. inl c;
-        numbers = numbers-alike _ turn a (λ frame new incoming timer reply urgent k c. inl c);
-        sabme = λ pf m r c. inl c;
-        disc = λ pf r c. inl (ap is_begun p);
-        brk = λ command pf info number length_octet q c. inl c;
-        brkack = λ command pf info number length_octet q c. inl c;
-      };
-      early = λ e. record {
-        ignores = λ x f c. inl c;
-        detects = λ p r. never r;
-        detected = λ p r c. inl c;
-        xid = λ p r pf info offer f c. cc;
-        agrees = λ p r pf info offer f. never r;
-        sabme_first = λ p r pf c. inr refl;
-        sabme = λ p r pf c. inr refl;
-        ua = λ p c. absurd (n p);
-        disc = λ p pf c. inl c;
-        closes = λ p frame f c. inl (ap is_begun p);
-      };
-    }) arrived mid h
-  where
-    never : {A : Type 0} → a.setup.role ≡ Originator → A
-    never r = let wrong : Answerer ≡ Originator = sym er ∙ r in cc
+begun-by arrived turn a mid er n h = grind (arith, numbers-alike)
 
 -- An originator that establishes the link, or did.
 abbrev pub is_established : Phase → Bool
@@ -72,28 +41,8 @@ pub stays-established : (arrived : Arrived) (turn : ℕ) (a mid : Account) → h
     → is_established mid.phase ≡ true
 stays-established arrived turn a mid h c = HearWays.by-ways (λ x b. is_established b.phase ≡ true) turn a (record {
   nothing = c;
-  linked = λ p. record {
-    pattern = λ seen. c;
-    plain = λ frame k. c;
-    numbers = numbers-alike _ turn a (λ frame new incoming timer reply urgent k. c);
-    sabme = λ pf m r. c;
-    disc = λ pf r. refl;
-    brk = λ command pf info number length_octet q. c;
-    brkack = λ command pf info number length_octet q. c;
-  };
-  early = λ e. record {
-    ignores = λ x f. c;
-    detects = λ p r. let wrong : true ≡ false = sym c ∙ ap is_established p in cc;
-    detected = λ p r. c;
-    xid = λ p r pf info offer f.
-        let wrong : true ≡ false = sym c ∙ elim p [ inl q ↦ ap is_established q | inr q ↦ ap is_established q ] in cc;
-    agrees = λ p r pf info offer f. refl;
-    sabme_first = λ p r pf. refl;
-    sabme = λ p r pf. refl;
-    ua = λ p. refl;
-    disc = λ p pf. c;
-    closes = λ p frame f. refl;
-  };
+  linked = grind (arith, numbers-alike);
+  early = grind (arith);
 }) arrived mid h
 
 -- and as it speaks

@@ -1,10 +1,8 @@
-use Rattle.std.proofs.Common.{arith, ◌⊎◌, inr, ◌≡◌, ℕ, ◌||◌, Bool, true, false, refl, sym, ◌∙◌, Option, Some, None, Ok}
-use Rattle.link_account.proofs.Names.{Role, Originator, Answerer, Arrived, Account, is_connected, hear, on_nothing}
-use Rattle.link_run.proofs.Names.{Phase, Connected}
-use Rattle.link_account.proofs.HearWays.{ConnectedWays, EarlyWays, by-ways}
-use Rattle.turn_bound.proofs.Truths.{or-false}
+use Rattle.turn_losses.proofs.Names.{arith, ◌⊎◌, inr, ◌≡◌, ℕ, ◌||◌, Bool, true, false, refl, Option, Some, None, Ok, ConnectedWays, by-ways}
+use Rattle.turn_losses.proofs.Names.{Role, Originator, Answerer, Arrived, Account, is_connected, hear, on_nothing, Phase, Connected}
+use Rattle.turn_losses.proofs.Names.{of_arrived, or-false, SetFrom, is_linked, is_poll}
+use Rattle.link_account.proofs.HearWays.{EarlyWays}
 use Rattle.turn_losses.proofs.HeardNumber.{number-rows, plain-frame}
-use Rattle.turn_losses.proofs.Names.{is_poll, of_arrived, SetFrom, is_linked}
 
 -- what hearing makes of an end's polls and replies
 pub record PollHeard (role : Role) (turn : ℕ) (polled : Bool) (a b : Account) : Type 0 where
@@ -47,20 +45,7 @@ stays-heard role turn polled p a b e f c w n = grind (arith)
 
 linked-ways : (role : Role) (turn : ℕ) (a : Account) → a.phase ≡ Connected
     → ConnectedWays (λ x b. PollHeard role turn (of_arrived is_poll x) a b) turn a
-linked-ways role turn a e = record {
-  pattern = λ seen. same a e refl false refl refl refl (λ h. refl);
-  plain = λ frame p. same a e refl (is_poll frame) (plain-frame frame p).poll refl refl (λ h. refl);
-  numbers = number-rows turn a _ (λ frame new incoming timer reply urgent n.
-      connected-heard role turn (is_poll frame) a _ e e refl n.set n.replies (λ h. refl) (λ h. refl));
-  sabme = λ pf n r. same _ e refl false refl refl refl (λ h. let wrong : true ≡ false = sym h ∙ n in cc);
-  disc = λ pf r. ended-heard role turn false a _ refl refl refl refl;
-  brk = λ command pf info number length_octet q. same _ e refl false refl refl refl (λ h. refl);
-  brkack = λ command pf info number length_octet q. same _ e refl false refl refl refl (λ h. refl);
-}
-  where
-    same : (b : Account) → b.phase ≡ Connected → b.wait ≡ a.wait → (polled : Bool) → polled ≡ false → b.owes.reply ≡ a.owes.reply
-        → b.numbered ≡ a.numbered → (b.numbered ≡ true → b.owes.answer ≡ a.owes.answer) → PollHeard role turn polled a b
-    same b f w polled q r n t = grind (arith, connected-heard, or-false)
+linked-ways role turn a e = grind (arith, plain-frame, number-rows, connected-heard, ended-heard, or-false)
 
 early-ways : (role : Role) (turn : ℕ) (a : Account) → a.setup.role ≡ role → is_connected a.phase ≡ false
     → EarlyWays (λ x b. PollHeard role turn (of_arrived is_poll x) a b) turn a
@@ -69,11 +54,11 @@ early-ways role turn a er c = grind (arith)
 -- every end hears so
 pub poll-hears : (role : Role) (arrived : Arrived) (turn : ℕ) (a : Account) → a.setup.role ≡ role → a.owes.answer ≡ None
     → (mid : Account) → hear turn arrived a ≡ Ok mid → PollHeard role turn (of_arrived is_poll arrived) a mid
-poll-hears role arrived turn a er none mid h = by-ways (λ x b. PollHeard role turn (of_arrived is_poll x) a b) turn a (record {
-  nothing = nothing a.phase refl;
-  linked = linked-ways role turn a;
-  early = early-ways role turn a er;
-}) arrived mid h
+poll-hears role arrived turn a er none mid h = by-ways (λ x b. PollHeard role turn (of_arrived is_poll x) a b) turn a (assumption (
+  nothing a.phase refl,
+  linked-ways role turn a,
+  early-ways role turn a er,
+)) arrived mid h
   where
     nothing : (p : Phase) → a.phase ≡ p → PollHeard role turn false a (on_nothing a)
     nothing p e = grind (arith, connected-heard, set-same, or-false, stays-heard)

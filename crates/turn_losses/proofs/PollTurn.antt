@@ -1,17 +1,14 @@
-use Rattle.std.proofs.Common.{◌⊎◌, inl, inr, ◌≡◌, ℕ, ◌+◌, ◌&&◌, ◌||◌, not, Bool, true, false, arith, refl, sym, ◌∙◌, ap, Option, Some, None}
-use Rattle.std.proofs.Common.{Ok, ◌≤◌, cond}
-use Rattle.turn_bound.proofs.Truths.{or-late, unlinked-connected, and-second, and-true, clash, and-drop}
-use Rattle.link_account.proofs.Names.{Frame, Account, is_connected, trying, Said, frame_for, nr_of, ready_frame, speak, Role, Originator}
-use Rattle.link_account.proofs.Names.{Answerer}
-use Rattle.link_run.proofs.Names.{Connected, Releasing, Answer, Phase, is_closed, is_released}
+use Rattle.std.proofs.lemmas.Bool.{cases_Bool}
+use Rattle.turn_losses.proofs.Names.{◌⊎◌, inl, inr, ◌≡◌, ℕ, ◌+◌, ◌&&◌, ◌||◌, not, Bool, true, false, arith, refl, sym, ◌∙◌, ap, Option}
+use Rattle.turn_losses.proofs.Names.{Some, None, Ok, ◌≤◌, cond, Frame, Account, is_connected, trying, Said, frame_for, nr_of, ready_frame}
+use Rattle.turn_losses.proofs.Names.{speak, Role, Originator, Answerer, linked-so, Steps, steps-so, Tries, Ways, next-keeps, Connected}
+use Rattle.turn_losses.proofs.Names.{Releasing, Answer, Phase, is_closed, is_released, OneDue, of_frame, keeps, or-late, unlinked-connected}
+use Rattle.turn_losses.proofs.Names.{and-second, and-true, clash, and-drop, NoneDue, SetFrom, is_linked, poll_due, PollTurn, is_poll}
+use Rattle.turn_losses.proofs.Names.{is_final}
 use Rattle.link_account.specs.Speak.{running}
-use Rattle.link_account.proofs.SpeakWays.{linked-so, Before, Steps, steps-so, ConnectedWays, Tries, Ways, by-ways, answers-unconnected}
-use Rattle.link_account.proofs.SpeakWays.{next-keeps}
+use Rattle.link_account.proofs.SpeakWays.{Before, ConnectedWays, by-ways, answers-unconnected}
 use Rattle.turn_losses.proofs.PollHear.{set-same, PollHeard, linked-connected}
-use Rattle.turn_losses.proofs.Names.{is_poll, is_final, of_frame, SetFrom, is_linked, NoneDue, poll_due, PollTurn}
-use Rattle.turn_bound.proofs.AtMostOne.{OneDue}
 use Rattle.turn_losses.proofs.Trace.{Early}
-use Rattle.turn_bound.proofs.Tied.{keeps}
 
 -- What the nine steps make of an end's polls and replies, once its timers are done.
 pub record StepPoll (turn : ℕ) (a : Account) (said : Said) : Type 0 where
@@ -51,47 +48,10 @@ answer-quiet d a = grind (arith)
 
 steps-poll : (turn : ℕ) (special : Bool) (a : Account) → Steps (StepPoll turn a) turn special a
 steps-poll turn special a = record {
-  answers = λ d e. let q = answer-quiet d a in record {
-    phase = refl;
-    numbered = refl;
-    timer = set-same turn a.wait.timer;
-    sent = λ h. let wrong : true ≡ false = sym h ∙ q.0 in cc;
-    kept = λ h. (h, (λ n. let wrong : None ≡ Some d = sym n ∙ e in cc));
-    final = λ h. let wrong : true ≡ false = sym h ∙ q.1 in cc;
-    replies = λ n k. let wrong : None ≡ Some d = sym n ∙ e in cc;
-    goes = λ h. inr h;
-    awaited = refl;
-    count = refl;
-    runs = λ s h. h;
-  };
-  final = λ n e. let k = ready-kinds a.owes.busy false true (nr_of a) in record {
-    phase = refl;
-    numbered = refl;
-    timer = set-same turn a.wait.timer;
-    sent = λ h. let wrong : true ≡ false = sym h ∙ k.0 in cc;
-    kept = λ h. (h, (λ n. (e, k.1)));
-    final = λ h. e;
-    replies = λ n h. k.1;
-    goes = λ h. inr h;
-    awaited = refl;
-    count = refl;
-    runs = λ s h. h;
-  };
-  poll = λ n r e. let k = ready-kinds a.owes.busy true true (nr_of a) in record {
-    phase = refl;
-    numbered = refl;
-    timer = set-same turn a.wait.timer;
-    sent = λ h. (e, refl);
-    kept = λ h. cc;
-    final = λ h. let wrong : true ≡ false = sym h ∙ k.1 in cc;
-    replies = λ n h. let wrong : true ≡ false = sym h ∙ r in cc;
-    goes = λ h. inl k.0;
-    awaited = refl;
-    count = refl;
-    runs = λ s h. h;
-  };
-  segment = λ k u n e. quiet turn a _ k refl refl (set-running turn a.wait.timer) refl refl refl (next-keeps a.outgoing).awaited
-      (next-keeps a.outgoing).count (running-runs turn a.wait.timer);
+  answers = grind (arith, answer-quiet, set-same);
+  final = grind (arith, ready-kinds, nr_of, set-same);
+  poll = grind (arith, ready-kinds, nr_of, set-same);
+  segment = grind (arith, quiet, set-running, next-keeps, running-runs);
   brkack = λ k s word e. still k _ refl refl (refl, refl) refl refl;
   brk = λ k s w word e. still k _ refl refl (refl, refl) refl refl;
   tell = λ k w e. let q = ready-kinds a.owes.busy false false (nr_of a) in still k _ refl refl (refl, refl) q.0 q.1;
@@ -146,8 +106,7 @@ other-speaks turn a said f l p n x y = grind (arith)
 
 poll-ways : (turn : ℕ) (release : Bool) (a : Account) → Ways (SpeakPoll turn a) turn release a
 poll-ways turn release a = record {
-  answers = λ alone d e. let q = answer-quiet d a in
-      other-speaks turn a _ (answers-unconnected a.phase a.setup.role alone) refl refl refl q.0 q.1;
+  answers = grind (arith, answer-quiet, other-speaks, answers-unconnected);
   flags = λ alone e. other-speaks turn a _ (answers-unconnected a.phase a.setup.role alone) refl refl refl refl refl;
   mark = λ p r e. other-speaks turn a _ (ap is_connected p) refl refl refl refl refl;
   odp = λ p r l. other-speaks turn a _ (ap is_connected p) refl refl refl refl refl;
@@ -182,9 +141,6 @@ connected-released p e = grind (arith)
 connected-closed : (p : Phase) → is_connected p ≡ true → is_closed p ≡ false
 connected-closed p e = grind (arith)
 
-either-bool : (b : Bool) → (b ≡ true) ⊎ (b ≡ false)
-either-bool b = grind (arith)
-
 -- b is the account once it has heard, c once it has spoken
 pub poll-turn : (period turn : ℕ) (role : Role) (polled final : Bool) (a b : Account) (said : Said) → 1 ≤ period
     → PollHeard role turn polled a b → SpeakPoll turn b said → OneDue role b → NoneDue a → Early role a
@@ -194,7 +150,7 @@ pub poll-turn : (period turn : ℕ) (role : Role) (polled final : Bool) (a b : A
     → (is_connected a.phase ≡ true → (count ≡ 0) ⊎ ((count ≡ a.outgoing.count) × (b.wait.timer ≡ a.wait.timer)))
     → (made : Bool) × PollTurn period turn role polled final made count said.sent a said.account
 poll-turn period turn role polled final a b said some h k one none early untimed silent q wait count same-count keeps =
-    go (either-bool (is_connected said.account.phase))
+    go (cases_Bool (is_connected said.account.phase))
   where
     c : Account
     c = said.account
@@ -204,7 +160,7 @@ poll-turn period turn role polled final a b said some h k one none early untimed
     unlinked-before e = sym k.linked ∙ e
 
     unlinked-first : is_linked b.phase ≡ false → is_linked a.phase ≡ false
-    unlinked-first e = elim (either-bool (is_linked a.phase)) [ inl x ↦ clash (is_linked b.phase) (h.linked x) e | inr x ↦ x ]
+    unlinked-first e = elim (cases_Bool (is_linked a.phase)) [ inl x ↦ clash (is_linked b.phase) (h.linked x) e | inr x ↦ x ]
 
     stays-linked : is_linked a.phase ≡ true → is_linked c.phase ≡ true
     stays-linked e = k.linked ∙ h.linked e
@@ -221,17 +177,17 @@ poll-turn period turn role polled final a b said some h k one none early untimed
 
     -- an answerer that has heard no I frame and no supervisory frame polls for nothing
     silent-poll : is_connected c.phase ≡ true → role ≡ Answerer → c.numbered ≡ false → c.wait.poll ≡ true → ⊥
-    silent-poll e r n p = grind (arith, either-bool, clash)
+    silent-poll e r n p = grind (arith, cases_Bool, clash)
 
     early-silent : role ≡ Answerer → is_connected c.phase ≡ true → c.numbered ≡ false → c.wait.poll ≡ false
-    early-silent r e n = elim (either-bool c.wait.poll) [ inl p ↦ absurd (silent-poll e r n p) | inr p ↦ p ]
+    early-silent r e n = elim (cases_Bool c.wait.poll) [ inl p ↦ absurd (silent-poll e r n p) | inr p ↦ p ]
 
     after-early : Early role c
     after-early = record { poll = early-poll; numbered = early-numbered; silent = early-silent }
 
     -- no answer is due where a poll is held up
     no-answer : is_connected c.phase ≡ true → is_connected b.phase ≡ true → SaidPoll turn b said → c.wait.poll ≡ true → b.owes.answer ≡ None
-    no-answer e f l p = grind (arith, connected-closed, either-bool, silent-poll, clash)
+    no-answer e f l p = grind (arith, connected-closed, cases_Bool, silent-poll, clash)
 
     held : is_connected c.phase ≡ true → poll_due c ≡ true → polled ≡ true
     held e d = grind (arith, and-second, reply-heard, no-answer)
@@ -353,7 +309,7 @@ poll-turn period turn role polled final a b said some h k one none early untimed
     )
       where
         none-kept : (l.made ≡ false → b.wait.poll ≡ true) → ⊥
-        none-kept w = grind (arith, either-bool, clash)
+        none-kept w = grind (arith, cases_Bool, clash)
 
     go : (is_connected c.phase ≡ true) ⊎ (is_connected c.phase ≡ false)
         → (made : Bool) × PollTurn period turn role polled final made count said.sent a c

@@ -1,6 +1,6 @@
 -- Polls and their answers, by the turn.
 use Rattle.std.specs.Prelude.{◌≡◌, ℕ, ◌+◌, ◌-◌, ◌<◌, ◌≤◌, Bool, true, false}
-use Rattle.std.proofs.Common.{◌⊎◌, inl, inr, zero, suc, arith, refl, sym, ◌∙◌, subst}
+use Rattle.turn_losses.proofs.Names.{◌⊎◌, inl, inr, zero, suc, arith, refl, sym, ◌∙◌, subst}
 use Rattle.std.proofs.lemmas.Bool.{cases_lt}
 use Rattle.turn_losses.proofs.Clocks.{last}
 
@@ -41,14 +41,11 @@ fresh-turn period delay turns due made sent heard due' made' sent' heard' long s
             before zero q d = let wrong : true ≡ false = sym d ∙ o.none_at_first in cc
             before (suc z) q d =
                 let made-before : made' z ≡ true = fresh' z (omega (arith, q, less)) (subst (λ n. due' n ≡ true) (omega arith) d) in
-                let far : z + period ≤ x + 1 = o.apart z (x + 1) (omega (arith, q)) inside made-before h in
-                omega (arith, far, long, q)
+                let far : z + period ≤ x + 1 = o.apart z (x + 1) (omega (arith, q)) inside made-before h in grind (arith)
 
         second-made : (b : Bool) → made' (x + 1) ≡ b → ⊥
         second-made true k = first-made k (made' x) refl
-        second-made false k =
-            let late : due' (x + 1) ≡ true = o.sent_from (x + 1) inside second k in
-            let wrong : true ≡ false = sym late ∙ o.sent_done x (omega (arith, inside)) first in cc
+        second-made false k = grind (arith)
 
     go : (b : Bool) → made t ≡ b → made t ≡ true
     go true k = k

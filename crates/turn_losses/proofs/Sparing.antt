@@ -1,25 +1,20 @@
 -- While an answerer's break waits, the originator isn't told to release.
-use Rattle.std.proofs.Common.{◌⊎◌, inl, inr, ◌≡◌, ℕ, ◌+◌, ◌<◌, ◌≤◌, Bool, true, false, length, arith, refl, sym, ◌∙◌, ap, Ok, ◌≢◌, ◌-◌, ◌*◌}
-use Rattle.std.proofs.Common.{max, List, ◌∷◌, subst, cond, nat_lt}
-use Rattle.link_account.proofs.Names.{Originator, Answerer, ReadsWritten, waits, Arrived, Account, is_connected, MayPlay, hear, cases_lt}
-use Rattle.link_account.proofs.Names.{Role, of, other, nat_tests, LinkFault}
-use Rattle.link_run.proofs.Names.{Phase, Releasing, Closed, User, is_released, is_closed, served_at, Detecting, Establishing, Accounts}
-use Rattle.link_run.proofs.Names.{Turn, Hears, arrival, Carries, LosesSome}
-use Rattle.turn_bound.proofs.MeetHear.{o-hears}
+use Rattle.turn_losses.proofs.Names.{◌⊎◌, inl, inr, ◌≡◌, ℕ, ◌+◌, ◌<◌, ◌≤◌, Bool, true, false, length, arith, refl, sym, ◌∙◌, ap, Ok, ◌≢◌}
+use Rattle.turn_losses.proofs.Names.{◌-◌, ◌*◌, max, List, ◌∷◌, subst, cond, nat_lt, Originator, Answerer, ReadsWritten, waits, Arrived}
+use Rattle.turn_losses.proofs.Names.{Account, is_connected, MayPlay, hear, cases_lt, Role, of, other, nat_tests, LinkFault, break_waits}
+use Rattle.turn_losses.proofs.Names.{Phase, Releasing, Closed, User, is_released, is_closed, served_at, Detecting, Establishing, Accounts}
+use Rattle.turn_losses.proofs.Names.{Turn, Hears, arrival, Carries, LosesSome, BrokenTurn, SpanLoses, IsStarved, turn_at, o-hears, is_begun}
+use Rattle.turn_losses.proofs.Names.{of_frame, of_arrived, served_account, is_lost, clash, is-true, not-true, connected-is, StandTogether}
+use Rattle.turn_losses.proofs.Names.{is_linked, TimedRun, end_of, EndRun, TwoEnds, PeriodLoses, GivesUpForLosses}
 use Rattle.turn_bound.proofs.Serving.{serves-own}
-use Rattle.turn_bound.proofs.Truths.{clash, is-true, not-true}
 use Rattle.turn_losses.proofs.PollHear.{linked-connected}
-use Rattle.turn_bound.proofs.Value.{connected-is}
 use Rattle.turn_losses.proofs.PeriodLaws.{two-ends, connected-since, is-heard, last-heard, linked-on}
 use Rattle.turn_losses.proofs.Moving.{try-heard, asks, moves_on}
 use Rattle.turn_losses.proofs.Parting.{told-at, connected-or, parted-each, all-but-last}
 use Rattle.turn_losses.proofs.BreakHear.{break-heard}
 use Rattle.turn_losses.proofs.View.{waits-are, deeds-of}
-use Rattle.turn_losses.proofs.Names.{served_account, is_linked, TimedRun, end_of, is_begun, of_frame, of_arrived, is_lost, PeriodLoses}
-use Rattle.turn_losses.proofs.Names.{EndRun, TwoEnds, StandTogether, GivesUpForLosses}
 use Rattle.turn_losses.proofs.Tracing.{end-turn, last-turn, release_of, timed-run}
 use Rattle.turn_losses.proofs.Kept.{kept-in, all-or-one}
-use Rattle.link_run.specs.Starved.{SpanLoses, IsStarved, turn_at}
 use Rattle.turn_losses.proofs.Keeping.{turn-is}
 use Rattle.turn_losses.proofs.Periods.{lost-is, later-turn, newest, times, once}
 use Rattle.turn_losses.proofs.Phasing.{is_established, stays-established, begun-established}
@@ -29,8 +24,6 @@ use Rattle.turn_losses.proofs.Flight.{no-sabme-heard, only-establishing}
 use Rattle.turn_losses.proofs.Waiting.{BreakPeriod}
 use Rattle.turn_losses.proofs.Losing.{connected-loses, LastWait, periods-of, number-small, none-last, last-wait, originator-breaks}
 use Rattle.turn_losses.proofs.Words.{ack_of, of_word}
-use Rattle.link_account.specs.Account.{break_waits}
-use Rattle.link_run.specs.Run.{BrokenTurn}
 use Rattle.turn_losses.proofs.Numbering.{Plays}
 use Rattle.turn_losses.proofs.Wanting.{SpendsTries, LastTry, SpendsBreak, connected-spends, last-tries, originator-each, all-but-one}
 use Rattle.turn_losses.proofs.Wanting.{answerer-each}
@@ -112,12 +105,10 @@ abbrev heard_by : TimedRun → Accounts → ℕ → Account
 heard_by w mid u = cond (nat_lt u (length w.ts)) (w.deed u).mid.orig mid.orig
 
 heard-early : (w : TimedRun) (mid : Accounts) (u : ℕ) → u < length w.ts → heard_by w mid u ≡ (w.deed u).mid.orig
-heard-early w mid u l = let b : nat_lt u (length w.ts) ≡ true = grind (arith, nat_tests, l) in
-    ap (λ b. cond b (w.deed u).mid.orig mid.orig) b
+heard-early w mid u l = let b : nat_lt u (length w.ts) ≡ true = grind (arith, nat_tests, l) in grind (arith)
 
 heard-last : (w : TimedRun) (mid : Accounts) → heard_by w mid (length w.ts) ≡ mid.orig
-heard-last w mid = let b : nat_lt (length w.ts) (length w.ts) ≡ false = grind (arith, nat_tests) in
-    ap (λ b. cond b (w.deed (length w.ts)).mid.orig mid.orig) b
+heard-last w mid = let b : nat_lt (length w.ts) (length w.ts) ≡ false = grind (arith, nat_tests) in grind (arith)
 
 -- While the originator isn't linked up to its end, a period loses a SABME or a UA, or did so a delay before it.
 unlinked-loses : ReadsWritten → (w : TimedRun) → MayPlay w.link.orig.setup w.link.answ.setup → (t : Turn) → Carries w.delay w.ts t

@@ -1,19 +1,17 @@
-use Rattle.std.proofs.Common.{◌⊎◌, inl, inr, ◌≡◌, ℕ, suc, ◌+◌, ◌<◌, ◌≤◌, Bool, true, false, cond, nat_lt, List, [], ◌∷◌, length, arith}
-use Rattle.std.proofs.Common.{refl, sym, ◌∙◌, ap, subst, None, Ok}
-use Rattle.turn_bound.proofs.Value.{linked-of, unlinked-of}
-use Rattle.link_account.proofs.Names.{nat_tests, Role, Originator, Answerer, Arrived, Account, is_connected, Said, speak, cases_lt, of}
-use Rattle.link_run.proofs.Names.{Phase, is_busy, is_closed, is_released, Link, Accounts, Turn, RunOf, GoingTurn, start, arrival, served_at}
-use Rattle.link_run.proofs.Names.{said_at, releases, Carries, IsCarried, Hears}
-use Rattle.turn_bound.proofs.AtMostOne.{OneDue, one-hears}
+use Rattle.turn_losses.proofs.Names.{◌⊎◌, inl, inr, ◌≡◌, ℕ, suc, ◌+◌, ◌<◌, ◌≤◌, Bool, true, false, cond, nat_lt, List, [], ◌∷◌, length}
+use Rattle.turn_losses.proofs.Names.{arith, refl, sym, ◌∙◌, ap, subst, None, Ok, nat_tests, Role, Originator, Answerer, Arrived, Account}
+use Rattle.turn_losses.proofs.Names.{is_connected, Said, speak, cases_lt, of, fresh, Phase, is_busy, is_closed, is_released, Link, Accounts}
+use Rattle.turn_losses.proofs.Names.{Turn, RunOf, start, arrival, served_at, said_at, releases, Carries, IsCarried, Hears, OneDue}
+use Rattle.turn_losses.proofs.Names.{of_arrived, Served, linked-of, unlinked-of, Rates, rates, Stands, KeepsTime, Deed, Happens, Trace}
+use Rattle.turn_losses.proofs.Names.{TimedRun, past, sent_or, is_linked, PollTurn, end_of, is_poll, is_final}
+use Rattle.link_run.proofs.Names.{GoingTurn}
+use Rattle.turn_bound.proofs.AtMostOne.{one-hears}
 use Rattle.turn_losses.proofs.PollHear.{PollHeard}
 use Rattle.turn_losses.proofs.PollTurn.{poll-speaks, poll-turn}
 use Rattle.turn_losses.proofs.InTurn.{InTurn, in-turn}
 use Rattle.turn_losses.proofs.Answering.{end-answers}
 use Rattle.turn_losses.proofs.HeardNumber.{CountKept, count-hears, await-hears}
 use Rattle.turn_losses.proofs.Trace.{Early}
-use Rattle.turn_losses.proofs.Names.{Rates, rates, Stands, Served, Deed, Happens, Trace, TimedRun, past, sent_or, is_poll, is_final}
-use Rattle.turn_losses.proofs.Names.{of_arrived, is_linked, PollTurn, KeepsTime, end_of}
-use Rattle.link_account.specs.Account.{fresh}
 
 served-heard : (role : Role) (turn breaks : ℕ) (busy polled : Bool) (a b c : Account) → Served turn breaks busy b c
     → PollHeard role turn polled a b → PollHeard role turn polled a c
@@ -233,8 +231,7 @@ traced tries period delay link [] ends k run c = record {
   trace = record {
     starts = run;
     happens = λ t l. let none : ⊥ = omega (arith, l) in absurd none;
-    grows = λ t l. let none : ⊥ =
-        omega (arith, l) in absurd none;
+    grows = λ t l. let none : ⊥ = grind (arith) in absurd none;
   };
   last = refl;
   early = λ role. subst (λ x. Early role (of role x)) (sym run) (begins role);

@@ -1,13 +1,10 @@
 -- The tries of an originator by the turn: when each went, and what is lost where none is answered.
-use Rattle.std.proofs.Common.{◌⊎◌, inl, inr, ◌≡◌, ℕ, ◌+◌, ◌-◌, ◌*◌, ◌<◌, ◌≤◌, Bool, true, false, length, arith, refl, sym, ◌∙◌, ap, subst}
-use Rattle.std.proofs.Common.{Ok, Err}
-use Rattle.turn_bound.proofs.MeetHear.{o-hears}
-use Rattle.turn_bound.proofs.Truths.{clash, not-true}
-use Rattle.link_account.proofs.Names.{is_some, cases_lt, Originator, Answerer, offer_in, written, ReadsWritten, Sent, Arrived, Account}
-use Rattle.link_account.proofs.Names.{MayPlay, Said, speak, Spent, is_connected}
-use Rattle.link_account.proofs.SpeakWays.{why-broken}
-use Rattle.link_run.proofs.Names.{Phase, Negotiating, Establishing, Releasing, is_released, is_closed, arrival, Link, Accounts, served_at}
-use Rattle.link_run.proofs.Names.{releases}
+use Rattle.turn_losses.proofs.Names.{◌⊎◌, inl, inr, ◌≡◌, ℕ, ◌+◌, ◌-◌, ◌*◌, ◌<◌, ◌≤◌, Bool, true, false, length, arith, refl, sym, ◌∙◌, ap}
+use Rattle.turn_losses.proofs.Names.{subst, Ok, Err, is_some, cases_lt, Originator, Answerer, offer_in, written, ReadsWritten, Sent}
+use Rattle.turn_losses.proofs.Names.{Arrived, Account, MayPlay, Said, speak, Spent, is_connected, why-broken, Phase, Negotiating}
+use Rattle.turn_losses.proofs.Names.{Establishing, Releasing, is_released, is_closed, arrival, Link, Accounts, served_at, releases, o-hears}
+use Rattle.turn_losses.proofs.Names.{is_begun, of_frame, of_arrived, clash, not-true, rates, Stands, is_linked, sent_or, EndRun, TwoEnds}
+use Rattle.turn_losses.proofs.Names.{TimedRun, end_of, LosesEach, OriginatorWantsFrame}
 use Rattle.turn_losses.proofs.Numbering.{allowed}
 use Rattle.turn_losses.proofs.Follows.{numbered-linked}
 use Rattle.turn_losses.proofs.Tracing.{release_of, EndTurn, end-turn, timed-run, last-turn, starts-fresh}
@@ -17,13 +14,10 @@ use Rattle.turn_losses.proofs.Moving.{is_trying, asks, moves_on, TryGoesOn, TryB
 use Rattle.turn_losses.proofs.Moving.{can_answer, AnswerDue, answer-due, says-due}
 use Rattle.turn_losses.proofs.Phasing.{Met, met, is_established, begun-established}
 use Rattle.turn_losses.proofs.Clocks.{Ticked, Unanswered, last, chain}
-use Rattle.turn_losses.proofs.Names.{rates, Stands, is_begun, of_frame, of_arrived, is_linked, sent_or, EndRun, TwoEnds, TimedRun, end_of}
-use Rattle.turn_losses.proofs.Names.{LosesEach}
 use Rattle.turn_losses.proofs.Clocks.Ticked.{Begins, Expires, Stays}
 use Rattle.turn_losses.proofs.InTurn.{InTurn}
 use Rattle.turn_losses.proofs.Periods.{once, loses-of}
 use Rattle.turn_losses.proofs.Wanting.{all-but-one}
-use Rattle.turn_losses.specs.Tries.{OriginatorWantsFrame}
 
 -- A turn after which an end tries: the try begins in it, or goes on unanswered, and goes again or not.
 abbrev pub GoesUnanswered : Phase → Arrived → Account → Type 0

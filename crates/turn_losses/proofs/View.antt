@@ -1,16 +1,14 @@
 -- Each turn of a run after which an end is Connected, by its breaks.
-use Rattle.std.proofs.Common.{◌⊎◌, inl, inr, ◌≡◌, ℕ, ◌+◌, ◌<◌, ◌≤◌, Bool, true, false, length, arith, refl, sym, ◌∙◌, ap, subst}
-use Rattle.link_account.proofs.Names.{is_some, cases_lt, Role, of, waits, Arrived, Account, is_connected}
-use Rattle.turn_bound.proofs.Value.{linked-of, unlinked-of, Linked, IsAck, connected-is}
-use Rattle.turn_bound.proofs.Speaking.{linked-says}
-use Rattle.link_run.proofs.Names.{arrival, served_at}
-use Rattle.turn_bound.proofs.Truths.{clash}
+use Rattle.turn_losses.proofs.Names.{◌⊎◌, inl, inr, ◌≡◌, ℕ, ◌+◌, ◌<◌, ◌≤◌, Bool, true, false, length, arith, refl, sym, ◌∙◌, ap, subst}
+use Rattle.turn_losses.proofs.Names.{is_some, cases_lt, Role, of, waits, Arrived, Account, is_connected, arrival, served_at, of_frame}
+use Rattle.turn_losses.proofs.Names.{linked-says, clash, linked-of, unlinked-of, IsAck, connected-is, Rates, rates, is_linked, sent_or}
+use Rattle.turn_losses.proofs.Names.{TimedRun, end_of}
+use Rattle.turn_bound.proofs.Value.{Linked}
 use Rattle.turn_losses.proofs.Tracing.{release_of, TurnAt, EndTurn, end-turn}
 use Rattle.turn_losses.proofs.BreakHear.{quiet-heard, break-heard, old-heard}
 use Rattle.turn_losses.proofs.BreakTurn.{SaidBreaks, breaks-said, Deeds, BreakTurn, break-turn}
 use Rattle.turn_losses.proofs.Windows.{Breaking}
 use Rattle.turn_losses.proofs.Establishing.{word-connected}
-use Rattle.turn_losses.proofs.Names.{Rates, rates, of_frame, is_linked, sent_or, TimedRun, end_of}
 use Rattle.turn_losses.proofs.Words.{any_brk, of_word}
 
 -- a turn of a run
@@ -60,15 +58,7 @@ turn-of w r u l c = moved (by (i.polls.from mid-connected))
 
     moved : (d : Deeds) × (d.answers ≡ is_some b.owes.answer) × BreakTurn w.period u arrived g.said.sent d a g.said.account
         × (waits g.said.account.own_breaks ≡ waits b.own_breaks) → (d : Deeds) × TurnOf w r u d
-    moved (d, q, x, y) = (
-      d,
-      (
-        q,
-        subst (λ y. BreakTurn w.period u arrived y d a (of r (w.state (u + 1)))) (sym g.slot)
-            (subst (BreakTurn w.period u arrived g.said.sent d a) (sym g.after) x),
-        ap (λ (x : Account). waits x.own_breaks) g.after ∙ y,
-      ),
-    )
+    moved d = grind (arith, arrived, a, g, waits)
 
     by : (is_connected a.phase ≡ true) ⊎ (is_linked a.phase ≡ false) → (d : Deeds) × (d.answers ≡ is_some b.owes.answer)
         × BreakTurn w.period u arrived g.said.sent d a g.said.account × (waits g.said.account.own_breaks ≡ waits b.own_breaks)

@@ -1,13 +1,11 @@
 -- A break that waits by the turn: when its BRK became due, and what is lost before it becomes due again.
-use Rattle.std.proofs.Common.{inl, inr, ◌≡◌, ℕ, ◌+◌, ◌-◌, ◌*◌, ◌%◌, ◌<◌, ◌≤◌, true, false, arith, refl, sym, ◌∙◌, ap}
-use Rattle.link_account.proofs.Names.{cases_lt, waits, Account, is_connected}
-use Rattle.turn_bound.proofs.Truths.{clash}
+use Rattle.turn_losses.proofs.Names.{inl, inr, ◌≡◌, ℕ, ◌+◌, ◌-◌, ◌*◌, ◌%◌, ◌<◌, ◌≤◌, true, false, arith, refl, sym, ◌∙◌, ap, cases_lt}
+use Rattle.turn_losses.proofs.Names.{waits, Account, is_connected, of_frame, of_arrived, clash, EndRun, TwoEnds}
 use Rattle.turn_losses.proofs.PeriodLaws.{was-sent, is-heard, turned, NoneLost}
 use Rattle.turn_losses.proofs.Clocks.{Ticked, chain}
 use Rattle.turn_losses.proofs.BreakTurn.{Deeds, OwnTurn, wait-ends, BreakTurn, number_of, brk_due}
 use Rattle.turn_losses.proofs.Windows.{Breaking, brk-goes, ack-goes}
-use Rattle.turn_losses.proofs.Names.{of_frame, of_arrived, EndRun, TwoEnds}
-use Rattle.turn_losses.proofs.Clocks.Ticked.{Begins, Expires, Stays}
+use Rattle.turn_losses.proofs.Clocks.Ticked.{Begins, Expires}
 use Rattle.turn_losses.proofs.BreakTurn.OwnTurn.{Stays as OwnStays, Ends, Takes, Expires as OwnExpires}
 use Rattle.turn_losses.proofs.Words.{ack_of, any_brk, brk_of, of_word}
 
@@ -41,8 +39,7 @@ ticks {period} {turns} number {e} {d} h t l y = by x.own
 
     by : OwnTurn period t (e.heard t) (d t).made (e.account t).own_breaks (e.account (t + 1)).own_breaks
         → Ticked period t (λ u. Waits number (e.account u)) (λ v. Unit {0}) (Made d) (IsSet e) (count_of e)
-    by (OwnStays m n q) = let count = ap (λ o. o.count) q in Stays (was (ap waits (sym q) ∙ y.waiting) (ap (λ o. o.answered) q))
-        (λ s r. ap (λ o. o.set) q ∙ r) (λ n r. omega (arith, count, r)) tt
+    by (OwnStays m n q) = grind (arith, was, waits)
     by (Ends m w v r) = clash (waits (e.account (t + 1)).own_breaks) y.waiting v
     by (Takes m w r v s z) = Begins s z m
     by (OwnExpires m w s n q) = let count = ap (λ o. o.count) q in Expires (e.account t).own_breaks.set

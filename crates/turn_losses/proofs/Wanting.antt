@@ -1,29 +1,26 @@
 -- Why a Connected end breaks, and what was lost then.
-use Rattle.std.proofs.Common.{◌⊎◌, inl, inr, ◌≡◌, ℕ, ◌+◌, ◌*◌, ◌<◌, ◌≤◌, Bool, true, false, length, arith, sym, ◌∙◌, ap, Some, Err, subst}
-use Rattle.std.proofs.Common.{◌≢◌, max, List, ◌∷◌}
-use Rattle.link_account.proofs.Names.{Role, other, of, waits, Arrived, LinkFault, Account, is_connected, speak, IsAllowed, MayPlay}
-use Rattle.link_account.proofs.Names.{false≢true, cases_lt, Originator, Answerer}
-use Rattle.turn_bound.proofs.Value.{linked-of, connected-is}
-use Rattle.link_run.proofs.Names.{Connected, Phase, Turn, Accounts, Hears, arrival, served_at, Link, releases, is_released}
+use Rattle.turn_losses.proofs.Names.{◌⊎◌, inl, inr, ◌≡◌, ℕ, ◌+◌, ◌*◌, ◌<◌, ◌≤◌, Bool, true, false, length, arith, sym, ◌∙◌, ap, Some, Err}
+use Rattle.turn_losses.proofs.Names.{subst, ◌≢◌, max, List, ◌∷◌, Role, other, of, waits, Arrived, LinkFault, Account, is_connected, speak}
+use Rattle.turn_losses.proofs.Names.{IsAllowed, MayPlay, cases_lt, Originator, Answerer, why-broken, Connected, Phase, Turn, Accounts}
+use Rattle.turn_losses.proofs.Names.{Hears, arrival, served_at, Link, releases, is_released, SpanLoses, IsStarved, of_arrived, clash}
+use Rattle.turn_losses.proofs.Names.{is-true, linked-of, connected-is, Rates, rates, Sends, Stands, StandTogether, is_linked, EndRun}
+use Rattle.turn_losses.proofs.Names.{TwoEnds, TimedRun, end_of, past, PeriodLoses, LosesEach, OriginatorWantsAnswers, OriginatorIsStarved}
+use Rattle.turn_losses.proofs.Names.{AnswererWantsAnswers, is_poll}
+use Rattle.link_account.proofs.Names.{false≢true}
 use Rattle.turn_losses.proofs.Periods.{once, loses-of, later-turn}
-use Rattle.link_account.proofs.SpeakWays.{Breaks, why-broken}
+use Rattle.link_account.proofs.SpeakWays.{Breaks}
 use Rattle.turn_losses.proofs.HeardNumber.{CountKept, count-hears}
 use Rattle.turn_losses.proofs.PeriodLaws.{two-ends, connected-since}
 use Rattle.turn_losses.proofs.Expiries.{period-loses, Uncleared, expiries}
 use Rattle.turn_losses.proofs.Acknowledged.{Counts}
-use Rattle.turn_losses.proofs.Names.{Rates, rates, Sends, PeriodLoses, LosesEach, is_linked, EndRun, TwoEnds, TimedRun, end_of}
-use Rattle.turn_losses.proofs.Names.{StandTogether, past, of_arrived, is_poll, Stands}
 use Rattle.turn_losses.proofs.Numbering.{Plays, allowed, fits-at, counts-of}
 use Rattle.turn_losses.proofs.NumberHear.{begins-roomy}
 use Rattle.turn_losses.proofs.InTurn.{InTurn}
 use Rattle.turn_losses.proofs.Tracing.{last-turn, timed-run, silent-of, end-turn}
-use Rattle.link_run.specs.Starved.{SpanLoses, IsStarved}
 use Rattle.turn_bound.specs.Together.{Together}
-use Rattle.turn_losses.specs.Losses.{OriginatorWantsAnswers, OriginatorIsStarved, AnswererWantsAnswers}
 use Rattle.turn_losses.proofs.Clocks.{last}
 use Rattle.turn_losses.proofs.PollHear.{PollHeard, linked-connected}
 use Rattle.turn_losses.proofs.Follows.{numbered-linked}
-use Rattle.turn_bound.proofs.Truths.{clash, is-true}
 
 -- the segments' clock expires with the last try
 pub record SpendsTries (turn : ℕ) (b : Account) : Type 0 where

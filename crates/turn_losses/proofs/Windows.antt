@@ -1,14 +1,13 @@
 -- How often something happens in some turns that follow one another.
-use Rattle.std.proofs.Common.{◌⊎◌, inl, inr, ◌≡◌, ℕ, zero, suc, ◌+◌, ◌-◌, ◌<◌, ◌≤◌, Bool, true, false, cond, arith, refl, ap, ◌&&◌, nat_le}
-use Rattle.std.proofs.Common.{sym, ◌∙◌, ◌*◌, subst, Option, Some, None}
+use Rattle.turn_losses.proofs.Names.{◌⊎◌, inl, inr, ◌≡◌, ℕ, zero, suc, ◌+◌, ◌-◌, ◌<◌, ◌≤◌, Bool, true, false, cond, arith, refl, ap, ◌&&◌}
+use Rattle.turn_losses.proofs.Names.{nat_le, sym, ◌∙◌, ◌*◌, subst, Option, Some, None, nat_tests, OwnBreaks, waits, is_connected, BreakWord}
+use Rattle.turn_losses.proofs.Names.{of_frame, of_arrived, not-true, and-two, and-drop, clash, EndRun, TwoEnds, sends_poll, sends_final}
+use Rattle.turn_losses.proofs.Names.{hears_final, is_poll}
 use Rattle.std.proofs.lemmas.Bool.{cases_lt}
 use Rattle.turn_losses.proofs.BreakTurn.{holds, Deeds, OwnTurn, made-set, BreakTurn, brk_due, number_of, ack_due}
-use Rattle.link_account.proofs.Names.{nat_tests, OwnBreaks, waits, is_connected, BreakWord}
-use Rattle.turn_bound.proofs.Truths.{not-true, and-two, and-drop, clash}
 use Rattle.turn_losses.proofs.PollHear.{linked-connected}
 use Rattle.turn_losses.proofs.PeriodLaws.{was-sent, turned, polls-apart, reply-matches, connected-since}
 use Rattle.turn_losses.proofs.BreakTurn.OwnTurn.{Stays, Ends, Takes, Expires}
-use Rattle.turn_losses.proofs.Names.{of_frame, of_arrived, is_poll, EndRun, TwoEnds, sends_poll, sends_final, hears_final}
 use Rattle.turn_losses.proofs.Words.{any_brk, of_word, ack_of, brk_of, pends_of, pends}
 use Rattle.turn_losses.proofs.Kept.{kept-in, until}
 use Rattle.turn_losses.proofs.Moving.{asks}
@@ -43,8 +42,7 @@ hits-sum f from m zero = grind (arith)
 hits-sum f from m (suc n) =
     let again = hits-sum f from m n in
     let same : hits f from (m + suc n) ≡ hits f from (m + n) + one_if (f (from + (m + n))) = ap (hits f from) (next m n) in
-    let place : one_if (f (from + (m + n))) ≡ one_if (f (from + m + n)) = ap (λ x. one_if (f x)) (omega arith) in
-    omega (arith, again, same, place)
+    let place : one_if (f (from + (m + n))) ≡ one_if (f (from + m + n)) = ap (λ x. one_if (f x)) (omega arith) in grind (arith)
   where
     next : (x y : ℕ) → x + suc y ≡ suc (x + y)
     next x y = omega arith
@@ -61,8 +59,7 @@ twice f apart turns h from n l w = elim (cases_lt n apart) [
         let first = once f apart turns h from apart (omega arith) (omega (arith, w, more)) in
         let second = once f apart turns h (from + apart) (n - apart) (omega (arith, l)) (omega (arith, w, more)) in
         let sum = hits-sum f from apart (n - apart) in
-        let whole = ap (hits f from) (back apart n more) in
-        omega (arith, first, second, sum, whole)
+        let whole = ap (hits f from) (back apart n more) in grind (arith)
       where
         back : (a m : ℕ) → a ≤ m → a + (m - a) ≡ m
         back a m g = omega (arith, g)
@@ -237,15 +234,7 @@ module _ {period turns : ℕ} {e o : EndRun} {d : ℕ → Deeds} (k : TwoEnds pe
   is-below a b e = grind (arith, nat_tests, e)
 
   apart : (x y : ℕ) → x < y → y < turns → was_made x ≡ true → was_made y ≡ true → x + 8 ≤ y
-  apart x y less within p q =
-      let a = and-two (nat_le o.delay x) (is_connected (o.account (x - o.delay + 1)).phase && (d (x - o.delay)).made) p in
-      let b = and-two (nat_le o.delay y) (is_connected (o.account (y - o.delay + 1)).phase && (d (y - o.delay)).made) q in
-      let a' = and-two (is_connected (o.account (x - o.delay + 1)).phase) (d (x - o.delay)).made a.1 in
-      let b' = and-two (is_connected (o.account (y - o.delay + 1)).phase) (d (y - o.delay)).made b.1 in
-      let lx = below o.delay x a.0 in let ly = below o.delay y b.0 in
-      let far = made-apart (turned k) h (x - o.delay) (y - o.delay) (omega (arith, less, lx, ly))
-      (omega (arith, within)) a'.1 b'.1 a'.0 b'.0 in
-      omega (arith, far, lx, ly)
+  apart x y less within p q = grind (arith, and-two, below, made-apart, turned)
 
   each : (t : ℕ) → t < turns → one_if (was_due (t + 1)) + one_if (heard_brk t) ≤ one_if (was_due t) + one_if (was_made t)
   each t within = go (cases_lt t o.delay)
@@ -277,21 +266,13 @@ module _ {period turns : ℕ} {e o : EndRun} {d : ℕ → Deeds} (k : TwoEnds pe
           from c (inr x) = inr (both (λ t. is_connected (o.account (t + 1)).phase && (d t).made) (ap (λ b. b && (d u).made) c ∙ x))
 
           due : was_due (t + 1) ≡ true → (was_due t ≡ true) ⊎ (was_made t ≡ true)
-          due q =
-              let x = (and-two (nat_le o.delay (t + 1)) (brk_due (o.account (t + 1 - o.delay))) q).1 in
-              let y = ap (λ n. brk_due (o.account n)) (sym next) ∙ x in
-              let c = (and-two (is_connected (o.account (u + 1)).phase) (o.account (u + 1)).own_breaks.brk y).0 in
-              from c ((turn c).brk_from y)
+          due q = grind (arith, and-two, next, u, from, turn) steps 400000
 
           heard : heard_brk t ≡ true → ((was_due t ≡ true) ⊎ (was_made t ≡ true)) × (was_due (t + 1) ≡ false)
           heard q =
               let sent = (heard-so q).1 in
               let c = h.says u (omega (arith, within)) sent in
-              let x = (turn c).brk_sent sent in (
-                from c x.0,
-                ap (λ n. nat_le o.delay (t + 1) && brk_due (o.account n)) next
-                    ∙ and-drop (nat_le o.delay (t + 1)) (brk_due (o.account (u + 1))) x.1,
-              )
+              let x = (turn c).brk_sent sent in grind (arith, from, next, and-drop, u) steps 400000
 
   pub brks-heard : (s n : ℕ) → n ≤ 16 → s + n ≤ turns → hits (λ t. of_arrived (of_word any_brk) (e.heard t)) s n ≤ 3
   brks-heard s n l w =
@@ -350,8 +331,7 @@ brk-goes {period} {turns} {e} {o} {d} {d'} k h h' first s within c ws na due = e
         let four = acks-few k h h' first s 14 (omega arith) within c in
         let five = after-acks (λ t. (e.account t).special) (λ t. (d t).acks) s 14
         (λ t a b q. (turn t a (omega (arith, b))).special_own q (all t a (omega (arith, b)))) in
-        let zero-answers = no-hits (λ t. (d t).answers) s 14 na in
-        omega (arith, held, one, one', two, four, five, zero-answers)
+        let zero-answers = no-hits (λ t. (d t).answers) s 14 na in grind (arith)
 
     step : (t : ℕ) → s ≤ t → t < s + 14 → ((u : ℕ) → s ≤ u → u < t → brk_due (e.account (u + 1)) ≡ true)
         → (of_frame (of_word (brk_of (number_of (e.account (t + 1))))) (e.slot t) ≡ true) ⊎ (brk_due (e.account (t + 1)) ≡ true)
@@ -403,8 +383,7 @@ ack-goes {period} {turns} {e} {o} {d} k h x number small within c same na asks =
         (λ t a b q. absurd ((turn t a (omega (arith, b))).special_ack q (any-due (e.account (t + 1)).their_breaks.ack (all t a (omega
         (arith, b))))))
         in
-        let zero-answers = no-hits (λ t. (d t).answers) x 6 na in
-        omega (arith, held, one, one', two, none, five, zero-answers)
+        let zero-answers = no-hits (λ t. (d t).answers) x 6 na in grind (arith)
 
     step : (t : ℕ) → x ≤ t → t < x + 6 → ((u : ℕ) → x ≤ u → u < t → pends_of number (e.account (u + 1)).their_breaks.ack ≡ true)
         → (of_frame (of_word (ack_of number)) (e.slot t) ≡ true) ⊎ (pends_of number (e.account (t + 1)).their_breaks.ack ≡ true)

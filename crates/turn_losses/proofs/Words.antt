@@ -1,6 +1,6 @@
 -- The words of breaks, as they are heard, sent and due.
-use Rattle.std.proofs.Common.{ℕ, Bool, true, false, nat_eq, Option, Some, None, Result, Ok, Err}
-use Rattle.link_account.proofs.Names.{Frame, Ui, BreakWord, Brk, Ack, BreakFault, word_in}
+use Rattle.turn_losses.proofs.Names.{ℕ, Bool, true, false, nat_eq, Option, Some, None, Result, Ok, Err, Frame, Ui, BreakWord, Ack, word_in}
+use Rattle.link_account.proofs.Names.{Brk, BreakFault}
 
 -- the words of breaks in a frame
 abbrev pub is_word : (BreakWord → Bool) → Result BreakWord BreakFault → Bool

@@ -80,10 +80,7 @@ pub record IsChosen {X : Type 0} (c : Trellis X) (samples : List X) (sample : X)
 -- a survivor costs no more than another sequence to its state
 pub least_cost : {X : Type 0} (c : Trellis X) (samples : List X) (p q : List ℕ) → (q ≡ p) ⊎ Beats c.distance samples p q
     → cost c.distance p samples ≤ cost c.distance q samples
-least_cost c samples p q (inl e) = let same : cost c.distance q samples ≡ cost c.distance p samples =
-    ap (λ l. cost c.distance l samples) e in omega arith
-least_cost c samples p q (inr (inl less)) = omega arith
-least_cost c samples p q (inr (inr (equal, less))) = omega arith
+least_cost c samples p q given = grind (arith)
 
 -- another sequence is the chosen one, or is beaten by it
 abbrev Decided : {X : Type 0} → Trellis X → List X → List ℕ → List ℕ → Type 0
@@ -94,10 +91,10 @@ pub survivor-more : {X : Type 0} (c : Trellis X) (samples : List X) (sample : X)
     → ((s t label : ℕ) → c.next s label ≡ Some to → c.next t label ≡ Some to → s ≡ t)
     → ((state : ℕ) (labels : List ℕ) → IsSequence c samples labels state → (kept : List ℕ) × IsSurvivor c samples kept state)
     → IsChosen c samples sample to a → IsSurvivor c (samples ++ sample ∷ []) (a.labels ++ a.label ∷ []) to
-survivor-more {X} c samples sample to a once kept chosen = record {
-  sequence = sequence-more c samples sample a.labels a.before a.label to a.survivor.sequence a.branch;
-  best = against;
-}
+survivor-more {X} c samples sample to a once kept chosen = assumption (
+  sequence-more c samples sample a.labels a.before a.label to a.survivor.sequence a.branch,
+  against,
+)
   where
     cost_a : cost c.distance (a.labels ++ a.label ∷ [])
         (samples ++ sample ∷ []) ≡ cost c.distance a.labels samples + c.distance a.label sample
@@ -106,10 +103,8 @@ survivor-more {X} c samples sample to a once kept chosen = record {
     same_label : (q : List ℕ) (l : ℕ) → length q ≡ length samples → a.label ≡ l → (q ≡ a.labels) ⊎ Beats c.distance samples a.labels q
         → Decided c (samples ++ sample ∷ []) (a.labels ++ a.label ∷ []) (q ++ l ∷ [])
     same_label q l n e (inl same) = inl (rw (same, e) refl)
-    same_label q l n e (inr (inl less)) = let d : c.distance a.label sample ≡ c.distance l sample = ap (λ x. c.distance x sample) e in
-        inr (inl (omega (arith, cost_a, cost-snoc c.distance q samples l sample n)))
-    same_label q l n e (inr (inr (equal, less))) = let d : c.distance a.label sample ≡ c.distance l sample =
-        ap (λ x. c.distance x sample) e in
+    same_label q l n e (inr (inl less)) = grind (arith, cost_a, cost-snoc)
+    same_label q l n e (inr (inr (equal, less))) = let d : c.distance a.label sample ≡ c.distance l sample = grind (arith) in
         inr (inr (omega (arith, cost_a, cost-snoc c.distance q samples l sample n), rw e (Less-front a.labels q l less)))
 
     cheaper : (p q : List ℕ) (l : ℕ) → length q ≡ length samples

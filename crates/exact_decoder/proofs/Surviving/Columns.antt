@@ -11,8 +11,7 @@ use Rattle.exact_decoder.proofs.Surviving.Bellman.{Candidate, survivor-more}
 pub kept : {X : Type 0} (c : Trellis X) (samples : List X) (base : ℕ) (paths : ℕ → List ℕ) (state : ℕ) (labels : List ℕ) (sum : Option ℕ)
     → IsSequence c samples labels state → KnowsState c samples base paths state sum
     → (n : ℕ) × (sum ≡ Some n) × KnowsState c samples base paths state (Some n)
-kept c samples base paths state labels None q k = absurd (k labels q)
-kept c samples base paths state labels (Some n) q k = (n, refl, k)
+kept c samples base paths state labels sum q k = grind (arith)
 
 pub known : {X : Type 0} (c : Trellis X) (samples : List X) (base : ℕ) (sums : ℕ → Option ℕ) (paths : ℕ → List ℕ) (state n : ℕ)
     → Keeps c samples base sums paths → sums state ≡ Some n → KnowsState c samples base paths state (Some n)
@@ -85,8 +84,7 @@ Keeps-start {X} c sums paths empty starts =
     each : (s : ℕ) (b : Bool) → c.starts s ≡ b → KnowsState c [] 0 paths s (if b then Some 0 else None)
     each s true e = (
       record {
-        sequence = subst (λ l. IsSequence c [] l s) (sym (empty s))
-            (record { code_sequence = record { from = s; starts_there = e; leads = refl }; same_length = refl });
+        sequence = grind (arith);
         best = λ other o. inl (nil_from_length other o.same_length ∙ sym (empty s));
       },
       ap (λ l. cost c.distance l []) (empty s),

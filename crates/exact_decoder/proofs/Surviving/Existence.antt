@@ -1,10 +1,9 @@
 -- Each state that a sequence leads to has a survivor.
 use Rattle.exact_decoder.proofs.Names.{◌≡◌, ℕ, zero, suc, ◌+◌, ◌<◌, ◌≤◌, ◌⊎◌, inl, inr, Bool, true, false, List, [], ◌∷◌, ◌++◌, length}
 use Rattle.exact_decoder.proofs.Names.{arith, append_assoc, refl, sym, ◌∙◌, ap, subst, Option, Some, None, eq-or-lt_of_le, cases_lt}
-use Rattle.exact_decoder.proofs.Names.{cases_eq, false≢true, append-nil, nil_from_length, length_push, IsSurvivor, Trellis, IsSequence}
+use Rattle.exact_decoder.proofs.Names.{cases_eq, append-nil, nil_from_length, length_push, IsSurvivor, Trellis, IsSequence}
 use Rattle.exact_decoder.proofs.Names.{HasLaws, Leads-front, Leads, cost}
 use Rattle.exact_decoder.proofs.Surviving.Snoc.{snoc_of}
-use Rattle.exact_decoder.proofs.Surviving.Release.{survivor-one}
 use Rattle.exact_decoder.proofs.Surviving.Bellman.{Candidate, IsChosen, sequence-more, survivor-more}
 
 -- a state has a survivor, or never sequence leads to it
@@ -17,22 +16,13 @@ price c samples sample to a = cost c.distance a.labels samples + c.distance a.la
 
 enters-once : {X : Type 0} (c : Trellis X) (states labels steps : ℕ) → HasLaws c states labels steps → (s u label to : ℕ)
     → c.next s label ≡ Some to → c.next u label ≡ Some to → s ≡ u
-enters-once c states labels steps laws s u label to e f =
-    let a = laws.bounded s label to e in
-    let b = laws.bounded u label to f in
-    laws.enters_once s u label to a.0 b.0 a.1 e f
+enters-once c states labels steps laws s u label to e f = grind (arith)
 
 -- candidates with one label have one price
 one-price : {X : Type 0} (c : Trellis X) (states labels steps : ℕ) (samples : List X) (sample : X) (to : ℕ) → HasLaws c states labels steps
     → (a b : Candidate c samples to) → a.label ≡ b.label
     → cost c.distance a.labels samples + c.distance a.label sample ≡ cost c.distance b.labels samples + c.distance b.label sample
-one-price c states labels steps samples sample to laws a b e =
-    let same : a.before ≡ b.before = enters-once c _ _ _ laws _ _ _ _ (subst (λ l. c.next a.before l ≡ Some to) e a.branch) b.branch in
-    let one : a.labels ≡ b.labels =
-    survivor-one c samples _ _ _ (subst (λ s. IsSurvivor c samples a.labels s) same a.survivor) b.survivor in
-    let p : cost c.distance a.labels samples ≡ cost c.distance b.labels samples = ap (λ l. cost c.distance l samples) one in
-    let d : c.distance a.label sample ≡ c.distance b.label sample = ap (λ l. c.distance l sample) e in
-    omega arith
+one-price c states labels steps samples sample to laws a b e = grind (arith)
 
 -- the candidate with one label from a state below n
 abbrev FoundBelow : {X : Type 0} → Trellis X → List X → ℕ → ℕ → ℕ → Type 0
@@ -179,11 +169,7 @@ decided-more {X} c states labels steps samples sample laws decided to =
         let here = subst (λ l. IsSequence c (samples ++ sample ∷ []) l to) cut.2 q in
         let parts = Leads-front c.next here.code_sequence.from cut.0 cut.1 to here.code_sequence.leads in
         let n : length cut.0 ≡ length samples = omega (arith, here.same_length, length_push cut.0 cut.1, length_push samples sample) in
-        let front : IsSequence c samples cut.0 parts.0 =
-        record {
-          code_sequence = record { from = here.code_sequence.from; starts_there = here.code_sequence.starts_there; leads = parts.1 };
-          same_length = n;
-        } in
+        let front : IsSequence c samples cut.0 parts.0 = grind (arith) in
         let k = kept decided parts.0 cut.0 front in
         nothing (record { before = parts.0; labels = k.0; label = cut.1; survivor = k.1; branch = parts.2 })
         (laws.bounded parts.0 cut.1 to parts.2).1
@@ -209,8 +195,7 @@ decided-start {X} c state = each (c.starts state) refl
   where
     no-start : c.starts state ≡ false → (labels : List ℕ) → IsSequence c [] labels state → ⊥
     no-start e labels q =
-        let l = subst (λ k. IsSequence c [] k state) (nil_from_length labels q.same_length) q in
-        false≢true (sym e ∙ ap c.starts (sym l.code_sequence.leads) ∙ l.code_sequence.starts_there)
+        let l = subst (λ k. IsSequence c [] k state) (nil_from_length labels q.same_length) q in grind (arith)
 
     each : (b : Bool) → c.starts state ≡ b → Decided c [] state
     each true e = inl (

@@ -65,21 +65,11 @@ lost-once c depth samples (Some m) (Some n) h k = ap Some (elim (cases_eq m n) [
 -- the first samples stay the same
 pub over-more : {X : Type 0} (c : Trellis X) (depth : ℕ) (samples more : List X) (n : ℕ) → n ≤ length samples → IsOver c depth samples n
     → IsOver c depth (samples ++ more) n
-over-more c depth samples more n within h =
-    record {
-      front = h.front;
-      released = subst (λ l. IsReleased c l h.front) (sym (take-append-le n samples more within)) h.released;
-      over = h.over;
-    }
+over-more c depth samples more n within h = grind (arith, take-append-le)
 
 pub over-before : {X : Type 0} (c : Trellis X) (depth : ℕ) (samples more : List X) (n : ℕ) → n ≤ length samples
     → IsOver c depth (samples ++ more) n → IsOver c depth samples n
-over-before c depth samples more n within h =
-    record {
-      front = h.front;
-      released = subst (λ l. IsReleased c l h.front) (take-append-le n samples more within) h.released;
-      over = h.over;
-    }
+over-before c depth samples more n within h = grind (arith, take-append-le)
 
 pub lost-stays : {X : Type 0} (c : Trellis X) (depth : ℕ) (samples more : List X) (symbol : ℕ) → IsLost c depth samples symbol
     → IsLost c depth (samples ++ more) symbol

@@ -21,33 +21,12 @@ least-below {X} c samples each (suc n) = next (each n) (least-below c samples ea
   where
     at-last : (labels : List ℕ) (state : ℕ) (other : List ℕ) → IsSurvivor c samples labels n → IsSurvivor c samples other state
         → state < suc n → n ≤ state → cost c.distance other samples ≡ cost c.distance labels samples
-    at-last labels state other s v l m =
-        let e : state ≡ n = omega arith in
-        ap (λ k. cost c.distance k samples) (survivor-one c samples other labels n (subst (λ t. IsSurvivor c samples other t) e v) s)
+    at-last labels state other s v l m = grind (arith)
 
     next : Decided c samples n → LeastBelow c samples n → LeastBelow c samples (suc n)
-    next (inr never) (inl (labels, end, s, best)) = inl (
-      labels,
-      end,
-      s,
-      λ state other l v. elim (cases_lt state n) [
-        | inl less ↦ best state other less v
-        | inr more ↦ let e : state ≡ n = omega arith in absurd (never other (subst (λ t. IsSequence c samples other t) e v.sequence))
-      ],
-    )
-    next (inr never) (inr none) = inr (λ state other l v. elim (cases_lt state n) [
-      | inl less ↦ none state other less v
-      | inr more ↦ let e : state ≡ n = omega arith in never other (subst (λ t. IsSequence c samples other t) e v.sequence)
-    ])
-    next (inl (new, s)) (inr none) = inl (
-      new,
-      n,
-      s,
-      λ state other l v. elim (cases_lt state n) [
-        | inl less ↦ absurd (none state other less v)
-        | inr more ↦ omega (arith, at-last new state other s v l more)
-      ],
-    )
+    next (inr never) (inl (labels, end, s, best)) = grind (arith)
+    next (inr never) (inr none) = grind (arith)
+    next (inl (new, s)) (inr none) = grind (arith, at-last)
     next (inl (new, s)) (inl (labels, end, t, best)) = elim (cases_lt (cost c.distance new samples) (cost c.distance labels samples)) [
       | inl cheaper ↦ inl (
         new,
@@ -112,10 +91,7 @@ released-is_least c states labels steps samples front laws r =
 -- whether a list is a prefix of another
 prefix-decided : (a b : List ℕ) → IsPrefixOf a b ⊎ (IsPrefixOf a b → ⊥)
 prefix-decided [] b = inl (b, refl)
-prefix-decided (x ∷ a) [] = inr (λ p. not-cons x (a ++ p.0) (sym p.1))
-  where
-    not-cons : (x : ℕ) (l : List ℕ) → [] ≡ x ∷ l → ⊥
-    not-cons x l q = cc
+prefix-decided (x ∷ a) [] = grind (arith)
 prefix-decided (x ∷ a) (y ∷ b) = both (cases_eq x y) (prefix-decided a b)
   where
     head : (r : List ℕ) → x ∷ (a ++ r) ≡ y ∷ b → x ≡ y
@@ -138,10 +114,7 @@ common-decided {X} c samples front each (suc n) = next (each n) (common-decided 
   where
     with-last : ((labels : List ℕ) → IsSurvivor c samples labels n → IsPrefixOf front labels) → CommonBelow c samples front n
         → CommonBelow c samples front (suc n)
-    with-last last h = λ state labels l v. elim (cases_lt state n) [
-      | inl less ↦ h state labels less v
-      | inr more ↦ let e : state ≡ n = omega arith in last labels (subst (λ t. IsSurvivor c samples labels t) e v)
-    ]
+    with-last last h = grind (arith)
 
     next : Decided c samples n → CommonBelow c samples front n ⊎ (IsCommon c samples front → ⊥)
         → CommonBelow c samples front (suc n) ⊎ (IsCommon c samples front → ⊥)

@@ -1,11 +1,10 @@
-use Rattle.exact_decoder.proofs.Names.{◌≡◌, ◌<◌, ◌-◌, ℕ, ◌∷◌, [], ap, sym, subst, arith, length, length-append, take, Splits}
+use Rattle.exact_decoder.proofs.Names.{◌≡◌, ◌-◌, ap, sym, subst, arith, length-append, take, Splits}
 use Rattle.exact_decoder.proofs.Walking.{back-one, first-long, first-more}
 use Rattle.exact_decoder.proofs.back.release_one.Goals as goal
 
 pub put_behind-requires-clause-room : goal.put_behind-requires-clause-room
 put_behind-requires-clause-room g c =
-    let i = c.loop-back.invariant in
-    omega (arith, c.requires.room, i.back.1.splits.count, first-long c.loop-back.labels c.loop-back.agreed i.agreed)
+    let i = c.loop-back.invariant in grind (arith, first-long)
 
 pub returns : goal.returns
 returns g c =
@@ -15,8 +14,7 @@ returns g c =
     let first = take agreed c.loop-back.labels in
     let (left, back) = i.back in
     let all : c.loop-back.back ≡ c.args.unreleased = omega (arith, c.requires.from, c.loop-back.auto, c.loop-back-test.false) in
-    let left_is : left ≡ c.args.from - c.args.agreed =
-    omega (arith, all, i.moved, back.splits.count, first-long c.loop-back.labels agreed i.agreed) in
+    let left_is : left ≡ c.args.from - c.args.agreed = grind (arith, first-long) in
     subst (λ l. Splits g.row.STATES columns c.args.unreleased (c.args.from - c.args.agreed) l) (sym c.shorten.ensures)
     (subst (λ n. Splits g.row.STATES columns n (c.args.from - c.args.agreed) first) all
     (subst (λ m. Splits g.row.STATES columns c.loop-back.back m first) left_is back.splits))
@@ -27,14 +25,8 @@ loop-back-preserved g c =
     let here = c.choice-choice.result in
     let first = take c.loop-back.agreed c.loop-back.labels in
     record {
-      state = subst (λ n. n < g.row.STATES) (ap (λ c. c.before) (sym c.choice-choice.ensures))
-          (c.column.ensures.column.before c.loop-back.state i.state);
-      agreed = omega (
-        arith,
-        ap length c.put_behind.ensures,
-        first-long c.loop-back.labels c.loop-back.agreed i.agreed,
-        length-append {A = ℕ} first (here.label ∷ []),
-      );
+      state = grind (arith);
+      agreed = grind (arith, first-long, length-append);
       moved = omega (arith, i.moved);
       back = (
         i.back.0,

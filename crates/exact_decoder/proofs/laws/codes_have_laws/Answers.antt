@@ -3,10 +3,10 @@ use Rattle.exact_decoder.proofs.laws.codes_have_laws.Goals as goal
 
 pub returns : goal.returns
 returns g c = has-laws g.C.TrellisCode.table g.C.TrellisCode.points g.row.STATES g.row.LABELS g.C.TrellisCode.REACH
-    (record {
-      bounded = g.met.C.TrellisCode.bounded;
-      within = g.met.C.TrellisCode.within;
-      enters_once = g.met.C.TrellisCode.enters_once;
-      some_steps = g.met.C.TrellisCode.reach_some;
-      reaches = g.met.C.TrellisCode.reaches;
-    })
+    (assumption (
+      g.met.C.TrellisCode.bounded,
+      g.met.C.TrellisCode.within,
+      g.met.C.TrellisCode.enters_once,
+      g.met.C.TrellisCode.reach_some,
+      g.met.C.TrellisCode.reaches,
+    ))

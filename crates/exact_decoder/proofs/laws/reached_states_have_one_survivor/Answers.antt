@@ -7,13 +7,13 @@ use Rattle.exact_decoder.proofs.laws.reached_states_have_one_survivor.Goals as g
 pub returns : goal.returns
 returns g c =
     let code : IsCodeTable g.C.TrellisCode.table g.row.STATES g.row.LABELS g.C.TrellisCode.REACH =
-    record {
-      bounded = g.met.C.TrellisCode.bounded;
-      within = g.met.C.TrellisCode.within;
-      enters_once = g.met.C.TrellisCode.enters_once;
-      some_steps = g.met.C.TrellisCode.reach_some;
-      reaches = g.met.C.TrellisCode.reaches;
-    } in
+    assumption (
+      g.met.C.TrellisCode.bounded,
+      g.met.C.TrellisCode.within,
+      g.met.C.TrellisCode.enters_once,
+      g.met.C.TrellisCode.reach_some,
+      g.met.C.TrellisCode.reaches,
+    ) in
     record {
       each = λ starts are samples sequence end q.
           reached-survives (trellis_of g.C.TrellisCode.table g.C.TrellisCode.points starts) _ _ _ samples _ _

@@ -1,4 +1,4 @@
-use Rattle.exact_decoder.proofs.Names.{◌≡◌, ℕ, ◌+◌, ◌*◌, ◌/◌, ◌^◌, ◌<◌, List, [], ◌∷◌, ◌++◌, length, arith, lit<, refl, sym, ◌∙◌, ap, subst}
+use Rattle.exact_decoder.proofs.Names.{◌≡◌, ℕ, ◌+◌, ◌*◌, ◌/◌, ◌^◌, ◌<◌, List, [], ◌∷◌, ◌++◌, length, arith, lit<, refl, sym, ◌∙◌, ap}
 use Rattle.exact_decoder.proofs.Names.{ints, put_chunk_whole, w16, cast_signed, cast_unsigned, ℤ, zip2, pick_l, Advances, words, coordinate}
 use Rattle.exact_decoder.proofs.Names.{sample_at, nearest_000, nearest_001, nearest_010, nearest_011, nearest_100, nearest_101, nearest_110}
 use Rattle.exact_decoder.proofs.Names.{nearest_111, choice_by, Choice, point_of, Sample, way_before, way_subset}
@@ -17,11 +17,7 @@ half-key metric state small few = omega arith
 -- the step of lists that are equal
 same_step : (a b : Sample) (p q m n : List ℕ) (c d : List Choice) → a ≡ b → p ≡ q → m ≡ n → c ≡ d
     → Advances point_of 8 4 8 4 way_before way_subset a p m c → Advances point_of 8 4 8 4 way_before way_subset b q n d
-same_step a b p q m n c d i j k l h =
-    subst (λ s. Advances point_of 8 4 8 4 way_before way_subset s q n d) i
-    (subst (λ s. Advances point_of 8 4 8 4 way_before way_subset a s n d) j
-    (subst (λ s. Advances point_of 8 4 8 4 way_before way_subset a p s d) k
-    (subst (λ s. Advances point_of 8 4 8 4 way_before way_subset a p m s) l h)))
+same_step a b p q m n c d i j k l h = grind (arith)
 
 pub returns : goal.returns
 returns v =

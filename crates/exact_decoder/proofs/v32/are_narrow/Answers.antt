@@ -1,5 +1,5 @@
-use Rattle.exact_decoder.proofs.Names.{◌≡◌, ◌%◌, nat_eq, true, List, ℕ, [], ◌∷◌, bit_and, slice_index, take, arith, ◌∙◌, ap, subst}
-use Rattle.exact_decoder.proofs.Names.{take_all, tops_compared, zip2, mask_l, IsNarrow}
+use Rattle.exact_decoder.proofs.Names.{◌≡◌, ◌%◌, nat_eq, true, List, ℕ, [], ◌∷◌, bit_and, take, arith, ◌∙◌, ap, subst}
+use Rattle.exact_decoder.proofs.Names.{take_all, tops_compared, zip2, mask_l}
 use Rattle.std.proofs.Common.{w64}
 use Rattle.exact_decoder.proofs.Vectors.{lanes-are, each_of_eight}
 use Rattle.exact_decoder.proofs.Narrow.{are-set, narrow-lane}
@@ -19,12 +19,4 @@ returns c told =
     let tests = ap mask_l (tops_compared w64 nat_eq (zip2 bit_and (take 8 sums) masks) zeros)
     ∙ ap (λ xs. mask_l (zip2 nat_eq (zip2 bit_and xs masks) zeros)) lanes in
     let set = are-set _ _ _ _ _ _ _ _ (subst (λ n. nat_eq (n % 18446744073709551616) 255 ≡ true) tests told) in
-    each_of_eight (λ s. IsNarrow (slice_index sums s) s)
-    (narrow-lane sums 0 (c.requires.small 0 (omega arith)) (c.requires.states 0 (omega arith)) set.a_set)
-    (narrow-lane sums 1 (c.requires.small 1 (omega arith)) (c.requires.states 1 (omega arith)) set.b_set)
-    (narrow-lane sums 2 (c.requires.small 2 (omega arith)) (c.requires.states 2 (omega arith)) set.c_set)
-    (narrow-lane sums 3 (c.requires.small 3 (omega arith)) (c.requires.states 3 (omega arith)) set.d_set)
-    (narrow-lane sums 4 (c.requires.small 4 (omega arith)) (c.requires.states 4 (omega arith)) set.e_set)
-    (narrow-lane sums 5 (c.requires.small 5 (omega arith)) (c.requires.states 5 (omega arith)) set.f_set)
-    (narrow-lane sums 6 (c.requires.small 6 (omega arith)) (c.requires.states 6 (omega arith)) set.g_set)
-    (narrow-lane sums 7 (c.requires.small 7 (omega arith)) (c.requires.states 7 (omega arith)) set.h_set)
+    grind (arith, each_of_eight, narrow-lane)

@@ -1,4 +1,4 @@
-use Rattle.exact_decoder.proofs.Names.{min, [], ◌∷◌, ◌∙◌, arith, zip2}
+use Rattle.exact_decoder.proofs.Names.{[], ◌∷◌, arith}
 use Rattle.exact_decoder.proofs.Vectors.{both, turned}
 use Rattle.exact_decoder.proofs.v32.enter_first.Goals as goal
 
@@ -11,6 +11,4 @@ returns c' a b c d k l m n p q r s ee es eo la lb lc ld lk ll lp lq =
     let e3 = c'.plus-3.ensures c d a b k k k k (turned (2 ∷ 3 ∷ 0 ∷ 1 ∷ []) _ _ ee) (turned (0 ∷ 0 ∷ 0 ∷ 0 ∷ []) _ _ es) (omega arith)
     (omega arith) (omega arith) (omega arith) in
     let e4 = c'.plus-4.ensures b a d c l l l l (turned (1 ∷ 0 ∷ 3 ∷ 2 ∷ []) _ _ ee) (turned (1 ∷ 1 ∷ 1 ∷ 1 ∷ []) _ _ es) (omega arith)
-    (omega arith) (omega arith) (omega arith) in
-    c'.lesser-3.ensures ∙ both (zip2 min) _ _ _ _ (c'.lesser.ensures ∙ both (zip2 min) _ _ _ _ e1 e2)
-    (c'.lesser-2.ensures ∙ both (zip2 min) _ _ _ _ e3 e4)
+    (omega arith) (omega arith) (omega arith) in grind (arith, both)

@@ -1,4 +1,4 @@
-use Rattle.exact_decoder.proofs.Names.{min, [], ◌∷◌, ◌∙◌, arith, zip2}
+use Rattle.exact_decoder.proofs.Names.{[], ◌∷◌, arith}
 use Rattle.exact_decoder.proofs.Vectors.{both, turned}
 use Rattle.exact_decoder.proofs.v32.enter_second.Goals as goal
 
@@ -11,6 +11,4 @@ returns c' a b c d k l m n p q r s eo' es eo la lb lc ld lm ln lr ls =
     let e3 = c'.plus-3.ensures b c d a r r r r (turned (1 ∷ 2 ∷ 3 ∷ 0 ∷ []) _ _ eo') (turned (2 ∷ 2 ∷ 2 ∷ 2 ∷ []) _ _ eo) (omega arith)
     (omega arith) (omega arith) (omega arith) in
     let e4 = c'.plus-4.ensures c b a d s s s s (turned (2 ∷ 1 ∷ 0 ∷ 3 ∷ []) _ _ eo') (turned (3 ∷ 3 ∷ 3 ∷ 3 ∷ []) _ _ eo) (omega arith)
-    (omega arith) (omega arith) (omega arith) in
-    c'.lesser-3.ensures ∙ both (zip2 min) _ _ _ _ (c'.lesser.ensures ∙ both (zip2 min) _ _ _ _ e1 e2)
-    (c'.lesser-2.ensures ∙ both (zip2 min) _ _ _ _ e3 e4)
+    (omega arith) (omega arith) (omega arith) in grind (arith, both)

@@ -12,5 +12,4 @@ pub returns : goal.returns
 returns c' a b c d p q r s el eh =
     let t = c'.lesser-of_two.ensures ∙ both (zip2 min) _ _ _ _ el eh in
     let f = c'.lesser-of_four.ensures ∙ both (zip2 min) _ _ _ _ t (turned (2 ∷ 3 ∷ 0 ∷ 1 ∷ []) _ _ t) in
-    let g = c'.lesser.ensures ∙ both (zip2 min) _ _ _ _ f (turned (1 ∷ 0 ∷ 3 ∷ 2 ∷ []) _ _ f) in
-    (min (min (min a p) (min c r)) (min (min b q) (min d s)), refl, g ∙ all a b c d p q r s)
+    let g = c'.lesser.ensures ∙ both (zip2 min) _ _ _ _ f (turned (1 ∷ 0 ∷ 3 ∷ 2 ∷ []) _ _ f) in grind (arith)

@@ -1,6 +1,5 @@
-use Rattle.std.proofs.Common.{◌≡◌, ℕ, ◌-◌, ◌%◌, ◌^◌, map, [], ◌∷◌, ap, ◌∙◌, arith, replicate, Fits, w8}
+use Rattle.std.proofs.Common.{◌≡◌, ℕ, ◌-◌, ◌%◌, ◌^◌, ap, ◌∙◌, arith, replicate, Fits, w8}
 use lib.Bits.{bit_and, and_le_r}
-use lib.Lanes.{zip2}
 use Rattle.std.proofs.lemmas.Simd.{Each1-zip2, Each2-splat, Each1-all}
 use Rattle.std.proofs.lemmas.Nat.{and_mask}
 use Rattle.exact_decoder.proofs.Vectors.{eight}
@@ -18,7 +17,4 @@ masked a m k e = ap (bit_and a) e ∙ and_mask a k
 
 pub returns : goal.returns
 returns v k a b c d e f g h em el =
-    let m = v.args.mask in
-    ap (λ v. map (λ a. a) (zip2 bit_and v (m ∷ m ∷ m ∷ m ∷ m ∷ m ∷ m ∷ m ∷ []))) el
-    ∙ eight _ _ _ _ _ _ _ _ _ _ _ _ _ _ _ _ (masked a m k em) (masked b m k em) (masked c m k em) (masked d m k em) (masked e m k em)
-    (masked f m k em) (masked g m k em) (masked h m k em)
+    let m = v.args.mask in grind (arith, eight, masked)

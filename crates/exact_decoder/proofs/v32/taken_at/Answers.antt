@@ -1,4 +1,4 @@
-use Rattle.exact_decoder.proofs.Names.{◌≡◌, ℕ, ◌+◌, ◌<◌, List, length, [], ◌∷◌, slice_index, refl, ◌∙◌, sym, ap, subst, arith, take_all}
+use Rattle.exact_decoder.proofs.Names.{◌≡◌, ℕ, ◌+◌, ◌<◌, List, length, [], ◌∷◌, slice_index, refl, ◌∙◌, sym, ap, subst, arith}
 use Rattle.std.specs.Simd.Lanes.{Each1}
 use Rattle.exact_decoder.proofs.Vectors.{lanes-are, each_of_eight}
 use Rattle.exact_decoder.proofs.v32.taken_at.Goals.{After-places_of}
@@ -13,15 +13,10 @@ places live = eight_of (slice_index live) (eight_of (λ s. slice_index live s + 
 
 eight-more : (f : ℕ → ℕ) (rest : List ℕ) → ((s : ℕ) → s < 8 → f s < 16) → Each1 (λ place. place < 16) rest
     → Each1 (λ place. place < 16) (eight_of f rest)
-eight-more f rest h r =
-    let w : Each1 (λ place. place < 16) (f 4 ∷ f 5 ∷ f 6 ∷ f 7 ∷ rest) =
-    (h 4 (omega arith), (h 5 (omega arith), (h 6 (omega arith), (h 7 (omega arith), r)))) in
-    (h 0 (omega arith), (h 1 (omega arith), (h 2 (omega arith), (h 3 (omega arith), w))))
+eight-more f rest h r = grind (arith)
 
 each-within : (live : List ℕ) → ((s : ℕ) → s < 8 → slice_index live s < 8) → Each1 (λ place. place < 16) (places live)
-each-within live within =
-    eight-more (slice_index live) (eight_of (λ s. slice_index live s + 8) []) (λ s l. omega (arith, within s l))
-    (eight-more (λ s. slice_index live s + 8) [] (λ s l. omega (arith, within s l)) tt)
+each-within live within = grind (arith, eight-more)
 
 place-before : (live : List ℕ) (s : ℕ) → s < 8 → slice_index (places live) s ≡ slice_index live s
 place-before live = each_of_eight (λ s. slice_index (places live) s ≡ slice_index live s) refl refl refl refl refl refl refl refl
@@ -30,14 +25,7 @@ place-label : (live : List ℕ) (s : ℕ) → s < 8 → slice_index (places live
 place-label live = each_of_eight (λ s. slice_index (places live) (s + 8) ≡ slice_index live s + 8) refl refl refl refl refl refl refl refl
 
 are-places : (c : After-places_of) → c.places_of.result ≡ places c.args.live.now
-are-places c =
-    let live = c.args.live.now in
-    let within = c.requires.within in
-    c.places_of.ensures (slice_index live 0) (slice_index live 1) (slice_index live 2) (slice_index live 3) (slice_index live 4)
-    (slice_index live 5) (slice_index live 6) (slice_index live 7)
-    (take_all 8 live (omega (arith, c.requires.long)) ∙ lanes-are live c.requires.long)
-    (within 0 (omega arith)) (within 1 (omega arith)) (within 2 (omega arith)) (within 3 (omega arith)) (within 4 (omega arith))
-    (within 5 (omega arith)) (within 6 (omega arith)) (within 7 (omega arith))
+are-places c = grind (arith, lanes-are)
 
 pub looked_up-requires-clause-long : goal.looked_up-requires-clause-long
 looked_up-requires-clause-long c = ap length (are-places (goal.at.looked_up-requires-clause-long c).After-places_of)

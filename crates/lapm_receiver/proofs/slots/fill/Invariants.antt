@@ -1,4 +1,4 @@
-use Rattle.std.proofs.Common.{◌≡◌, replicate, None}
+use Rattle.lapm_receiver.proofs.Names.{◌≡◌, replicate, None}
 use Rattle.circular_buffer.specs.Buffer.{buffer}
 use Rattle.lapm_receiver.proofs.slots.fill.Given as goal
 

@@ -1,7 +1,6 @@
-use Rattle.std.proofs.Common.{◌≡◌, suc, ◌+◌, ◌-◌, ◌≤◌, true, false, length, drop, sym, ap, ◌∙◌, arith}
-use Rattle.std.specs.Prelude.{is_some, slice_get}
+use Rattle.lapm_receiver.proofs.Names.{◌≡◌, suc, ◌+◌, ◌-◌, ◌≤◌, true, false, length, drop, sym, ap, ◌∙◌, arith, is_some, slice_get}
+use Rattle.lapm_receiver.proofs.Names.{any_held, info_at, missing_among}
 use Rattle.std.proofs.lemmas.List.{drop_all}
-use Rattle.lapm_receiver.specs.Slots.{any_held, info_at, missing_among}
 use Rattle.lapm_receiver.proofs.Rows.{full-slot, found-slot, low-slot, last-slot, copied-some}
 use Rattle.lapm_receiver.proofs.slots.least_missing.Goals as goal
 use Rattle.lapm_receiver.proofs.slots.least_missing.Goals.{else-later-via-then-later+else-low-number, else-later-via-else-later}

@@ -6,13 +6,14 @@ use Rattle.line_run.proofs.direction.heard_is_sent.Goals as goal
 
 pub returns : goal.returns
 returns c =
-    let seen : AreSeen = record {
-      plain = record { patterns = c.patterns_are_plain.ensures.patterns; marks = c.patterns_are_plain.ensures.marks };
-      stay = c.sights_stay.ensures;
-      sent = c.seen_is_sent.ensures;
-    } in
-    record {
-      heard = heard-where DisplacesNoneBefore 138 96 undisplaced seen;
-      never_chance = never-chance;
-      passes = passes-where DisplacesNoneBefore 138 96 undisplaced seen;
-    }
+    let seen : AreSeen = assumption (
+      c.patterns_are_plain.ensures.patterns,
+      c.patterns_are_plain.ensures.marks,
+      c.sights_stay.ensures,
+      c.seen_is_sent.ensures,
+    ) in
+    assumption (
+      heard-where DisplacesNoneBefore 138 96 undisplaced seen,
+      never-chance,
+      passes-where DisplacesNoneBefore 138 96 undisplaced seen,
+    )

@@ -5,12 +5,10 @@ use Rattle.line_run.proofs.direction.received_is_sent.Goals as goal
 
 pub returns : goal.returns
 returns c =
-    let seen : AreSeen = record {
-      plain = record { patterns = c.patterns_are_plain.ensures.patterns; marks = c.patterns_are_plain.ensures.marks };
-      stay = c.sights_stay.ensures;
-      sent = c.seen_is_sent.ensures;
-    } in
-    record {
-      nothing_else = received-where DisplacesNoneBefore 138 96 undisplaced seen;
-      all = sent-where DisplacesNoneBefore 138 96 undisplaced seen;
-    }
+    let seen : AreSeen = assumption (
+      c.patterns_are_plain.ensures.patterns,
+      c.patterns_are_plain.ensures.marks,
+      c.sights_stay.ensures,
+      c.seen_is_sent.ensures,
+    ) in
+    assumption (received-where DisplacesNoneBefore 138 96 undisplaced seen, sent-where DisplacesNoneBefore 138 96 undisplaced seen)

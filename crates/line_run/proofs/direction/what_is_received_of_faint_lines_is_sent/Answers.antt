@@ -5,14 +5,15 @@ use Rattle.line_run.proofs.direction.what_is_received_of_faint_lines_is_sent.Goa
 
 pub returns : goal.returns
 returns c =
-    let seen : AreSeen = record {
-      plain = record { patterns = c.patterns_are_plain.ensures.patterns; marks = c.patterns_are_plain.ensures.marks };
-      stay = c.sights_stay.ensures;
-      sent = c.seen_is_sent.ensures;
-    } in
-    record {
-      nothing_else = received-where IsFaintBefore 215 504 faint seen;
-      all = sent-where IsFaintBefore 215 504 faint seen;
-      heard = heard-where IsFaintBefore 215 504 faint seen;
-      passes = passes-where IsFaintBefore 215 504 faint seen;
-    }
+    let seen : AreSeen = assumption (
+      c.patterns_are_plain.ensures.patterns,
+      c.patterns_are_plain.ensures.marks,
+      c.sights_stay.ensures,
+      c.seen_is_sent.ensures,
+    ) in
+    assumption (
+      received-where IsFaintBefore 215 504 faint seen,
+      sent-where IsFaintBefore 215 504 faint seen,
+      heard-where IsFaintBefore 215 504 faint seen,
+      passes-where IsFaintBefore 215 504 faint seen,
+    )

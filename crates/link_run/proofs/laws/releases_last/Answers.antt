@@ -7,17 +7,10 @@ returns c =
     let knowing : KnowingLaws =
     record { reads = c.reads_allowed.ensures; keeps = c.keeps_taken.ensures; written = c.reads_written.ensures.read } in
     let plays : PlayLaws =
-    record {
-      in_order = c.plays.ensures.in_order;
-      taken = c.acknowledgements.ensures.taken;
-      breaks = c.plays.ensures.breaks;
-      answers = c.acknowledgements.ensures.breaks;
-    } in
-    let laws : OldLaws = record {
-      knowing = knowing;
-      plays = plays;
-      by_number = c.numbers_on_the_line.ensures.segments;
-      offered = c.frames_on_the_line.ensures.offered;
-      breaks = c.numbers_on_the_line.ensures.breaks;
-    } in
+    assumption (c.plays.ensures.in_order, c.acknowledgements.ensures.taken, c.plays.ensures.breaks, c.acknowledgements.ensures.breaks) in
+    let laws : OldLaws = assumption (
+      c.numbers_on_the_line.ensures.segments,
+      c.frames_on_the_line.ensures.offered,
+      c.numbers_on_the_line.ensures.breaks,
+    ) in
     releases_last laws

@@ -6,9 +6,7 @@ use Rattle.noise_script.proofs.batch.add_hit.Goals as goal
 pub returns-then-ne-clause-grow : goal.returns-then-ne-clause-grow
 returns-then-ne-clause-grow c =
     let hit = c.args.hit.now in
-    let own : same_role hit.role c.args.sender ≡ false = search rules in
-    apart (same_role hit.role c.args.sender) hit.from hit.count c.args.start (λ place. record { re = hit.re; im = hit.im })
-    c.args.sums.now own
+    let own : same_role hit.role c.args.sender ≡ false = search rules in grind (arith, apart)
 
 pub loop-place-init : goal.loop-place-init
 loop-place-init c =

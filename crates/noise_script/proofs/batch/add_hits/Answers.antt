@@ -5,8 +5,7 @@ use Rattle.noise_script.proofs.batch.add_hits.Goals as goal
 
 pub loop-hit-init : goal.loop-hit-init
 loop-hit-init c =
-    let by : ℕ → Hit → Offset = λ place. hit_offset c.args.sender (c.args.start + place) in
-    record { grow = no-line by c.args.hits.now c.args.sums.now; small = c.requires.clear }
+    let by : ℕ → Hit → Offset = λ place. hit_offset c.args.sender (c.args.start + place) in grind (arith, no-line)
 
 pub loop-hit-preserved : goal.loop-hit-preserved
 loop-hit-preserved c =

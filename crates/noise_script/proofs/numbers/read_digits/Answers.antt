@@ -5,8 +5,7 @@ use Rattle.noise_script.proofs.numbers.read_digits.Goals as goal
 pub overflow_mul-value : goal.overflow_mul-value
 overflow_mul-value c =
     let small = tenfold-fits c.args.word.now c.loop-octet.octet-index c.loop-octet.value 0 c.loop-octet-test.true c.if-word-gt20.false
-    c.loop-octet.invariant.digits c.loop-octet.invariant.value (omega arith) in
-    omega (arith, small)
+    c.loop-octet.invariant.digits c.loop-octet.invariant.value (omega arith) in grind (arith)
 
 pub overflow_add-value : goal.overflow_add-value
 overflow_add-value c =
@@ -16,11 +15,10 @@ overflow_add-value c =
     omega (arith, small)
 
 pub loop-octet-preserved : goal.loop-octet-preserved
-loop-octet-preserved c = record {
-  value = digit-more _ _ _ _ c.loop-octet-test.true c.loop-octet.invariant.value c.from.ensures;
-  digits = digits-more _ _ c.loop-octet-test.true c.loop-octet.invariant.digits
-      (sym c.is_ascii_digit.ensures.value ∙ c.if-not-is_ascii_digit.false);
-}
+loop-octet-preserved c = assumption (
+  digit-more _ _ _ _ c.loop-octet-test.true c.loop-octet.invariant.value c.from.ensures,
+  digits-more _ _ c.loop-octet-test.true c.loop-octet.invariant.digits (sym c.is_ascii_digit.ensures.value ∙ c.if-not-is_ascii_digit.false),
+)
 
 pub returns-clause-small : goal.returns-clause-small
 returns-clause-small c =

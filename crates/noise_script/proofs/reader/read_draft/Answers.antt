@@ -20,9 +20,7 @@ loop-rest-smaller c = c.next_line.ensures.shorter
 pub returns-in_err-add_line-clause-fault : goal.returns-in_err-add_line-clause-fault
 returns-in_err-add_line-clause-fault c =
     let h = c.loop-rest.invariant.holds in
-    let q = err_from_is_err_and c.from_residual.result c.from_residual.ensures.1 in
-    rw (q.1, q.2) (fault-of _ _ _ c.next_line.result.1.now _ _ _ _ h c.next_line.ensures.lines refl
-    (c.in_err-add_line.ensures.fault h.said h.holds h.allowed))
+    let q = err_from_is_err_and c.from_residual.result c.from_residual.ensures.1 in grind (arith, fault-of)
 
 pub returns-clause-ok : goal.returns-clause-ok
 returns-clause-ok c =

@@ -1,5 +1,5 @@
-use Rattle.noise_script.proofs.Names.{◌≡◌, [], ◌∷◌, length, refl, sym, subst, arith, ints, err_from_is_err_and, w16, cast_signed}
-use Rattle.noise_script.proofs.Names.{cast_unsigned, Reads, SignedIs, words_of}
+use Rattle.noise_script.proofs.Names.{◌≡◌, [], ◌∷◌, length, refl, arith, ints, err_from_is_err_and, w16, cast_signed}
+use Rattle.noise_script.proofs.Names.{cast_unsigned, words_of}
 use Rattle.noise_script.specs.Forms.{count, symbol, coordinate}
 use Rattle.noise_script.proofs.Words.{fails-here, fails-later, fails-behind, spells-here, spells-behind, spells-none, one-less, three-less}
 use Rattle.noise_script.proofs.reading.read_hit.Goals as goal
@@ -30,20 +30,8 @@ returns c =
     omega (arith, ints, re.spells.not_below, re.spells.not_above) in
     let im_is : cast_signed w16 (cast_unsigned w16 c.in_ok-im.im) ≡ c.in_ok-im.im =
     omega (arith, ints, im.spells.not_below, im.spells.not_above) in
-    let none : length (words_of c.in_ok-im.field-0-1.now) ≡ 0 =
-    omega (
-      arith,
-      c.requires,
-      three-less symbol count _ _ _ _ _ c.in_ok-role.ensures.ok,
-      one-less coordinate _ _ _ re,
-      one-less coordinate _ _ _ im,
-    ) in
+    let none : length (words_of c.in_ok-im.field-0-1.now) ≡ 0 = grind (arith, three-less, symbol, count, one-less, coordinate) in
     record {
       form_is = refl;
-      each = spells-behind symbol count (coordinate ∷ coordinate ∷ []) _ _ _ _ _ _ c.in_ok-role.ensures.ok
-          (spells-here coordinate (coordinate ∷ []) _ _ _ _
-          (subst (λ z. Reads coordinate (words_of c.in_ok-role.words.now) (SignedIs z) (words_of c.in_ok-re.words.now)) (sym re_is) re)
-          (spells-here coordinate [] _ _ _ _
-          (subst (λ z. Reads coordinate (words_of c.in_ok-re.words.now) (SignedIs z) (words_of c.in_ok-im.field-0-1.now)) (sym im_is) im)
-          (spells-none (words_of c.in_ok-im.field-0-1.now) none)));
+      each = grind (arith, spells-behind, symbol, count, coordinate, spells-here, spells-none);
     }

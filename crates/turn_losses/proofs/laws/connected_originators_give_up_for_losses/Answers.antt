@@ -4,14 +4,11 @@ use Rattle.turn_losses.proofs.laws.connected_originators_give_up_for_losses.Goal
 
 pub returns : goal.returns
 returns c =
-    let laws : Plays = record {
-      runs = c.runs_are_plays.ensures.runs;
-      hearings = c.runs_are_plays.ensures.hearings;
-      in_order = c.plays.ensures.in_order;
-      acked = c.acknowledgements.ensures.taken;
-      agrees = c.frames_tell_how_far_ends_are.ensures.agrees;
-    } in
-    record {
-      each_period = originator-wants laws c.ends_stand_together.ensures;
-      starved = originator-starved laws c.ends_stand_together.ensures;
-    }
+    let laws : Plays = assumption (
+      c.runs_are_plays.ensures.runs,
+      c.runs_are_plays.ensures.hearings,
+      c.plays.ensures.in_order,
+      c.acknowledgements.ensures.taken,
+      c.frames_tell_how_far_ends_are.ensures.agrees,
+    ) in
+    assumption (originator-wants laws c.ends_stand_together.ensures, originator-starved laws c.ends_stand_together.ensures)

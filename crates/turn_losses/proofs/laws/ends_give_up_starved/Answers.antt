@@ -1,4 +1,4 @@
-use Rattle.std.proofs.Common.{arith}
+use Rattle.turn_losses.proofs.Names.{arith}
 use Rattle.turn_losses.proofs.Sparing.{gives-up-starved}
 use Rattle.turn_losses.proofs.laws.ends_give_up_starved.Goals as goal
 

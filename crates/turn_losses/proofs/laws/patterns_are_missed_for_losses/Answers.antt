@@ -2,8 +2,8 @@ use Rattle.turn_losses.proofs.Detecting.{wants-pattern, undetected-starved, unde
 use Rattle.turn_losses.proofs.laws.patterns_are_missed_for_losses.Goals as goal
 
 pub returns : goal.returns
-returns c = record {
-  on_time = undetected-on-time c.tries_are_spent_on_time.ensures;
-  each_period = wants-pattern c.tries_are_spent_on_time.ensures;
-  starved = undetected-starved c.tries_are_spent_on_time.ensures;
-}
+returns c = assumption (
+  undetected-on-time c.tries_are_spent_on_time.ensures,
+  wants-pattern c.tries_are_spent_on_time.ensures,
+  undetected-starved c.tries_are_spent_on_time.ensures,
+)

@@ -44,11 +44,11 @@ pub returns-in-None-clause-stands : goal.returns-in-None-clause-stands
 returns-in-None-clause-stands c = λ past h.
     let found = subst (λ v. Finds v past) (sym (ap (λ v. v.finding) c.self.view_is ∙ c.gather.ensures.finding)) h.finds in
     let now = subst (λ v. GathersNow v.gathering past c.args.bit) (sym c.self.view_is) (c.gather.ensures.gathers past c.args.bit h) in
-    record {
-      finds = c.push.ensures.stands past found;
-      gathers = gathers-next past c.args.bit _ now;
-      lends = none-lent past c.args.bit (c.in-None.ensures.answer past found).1;
-    }
+    assumption (
+      c.push.ensures.stands past found,
+      gathers-next past c.args.bit _ now,
+      none-lent past c.args.bit (c.in-None.ensures.answer past found).1,
+    )
 
 pub returns-in-Some-Closed-clause-value : goal.returns-in-Some-Closed-clause-value
 returns-in-Some-Closed-clause-value c = λ past h. is_answer past c.args.bit _ (returns-in-Some-Closed-clause-answer c past h)

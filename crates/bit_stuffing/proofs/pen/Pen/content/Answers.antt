@@ -1,4 +1,4 @@
-use Rattle.bit_stuffing.proofs.Names.{◌+◌, ◌*◌, ◌≤◌, take, drop, get_or, length, ◌++◌, arith, ◌∙◌, ap, sym, subst, written, stuffed}
+use Rattle.bit_stuffing.proofs.Names.{◌+◌, ◌*◌, ◌≤◌, take, drop, get_or, length, arith, ◌∙◌, ap, sym, subst, written, stuffed}
 use Rattle.bit_stuffing.proofs.Names.{room_behind, octet_bits, bits_of, SLOT}
 use Rattle.bit_stuffing.proofs.Written.{next-written, next-left, next-fits, left-in, octets-part, octets-split, room_behind-in}
 use Rattle.bit_stuffing.proofs.pen.Pen.content.Goals as goal
@@ -38,9 +38,7 @@ loop-octet-preserved c =
     let octets = c.args.octets.now in
     let part = octets-part octets i (omega arith) in
     record {
-      bits = next-written start now (bits_of (take i octets)) c.args.room c.loop-octet.left
-          c.requires.some c.loop-octet.invariant.left c.loop-octet.invariant.bits next
-          (octet_bits (get_or octets i 0)) c.content_octet-left.ensures.written ∙ ap (λ t. start ++ stuffed c.args.room t) (sym part);
+      bits = grind (arith, next-written);
       left = c.content_octet-left.ensures.room
           ∙ next-left start now (bits_of (take i octets)) c.args.room c.loop-octet.left
           c.requires.some c.loop-octet.invariant.left c.loop-octet.invariant.bits (octet_bits (get_or octets i 0))

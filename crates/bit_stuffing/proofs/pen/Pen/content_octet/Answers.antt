@@ -1,4 +1,4 @@
-use Rattle.bit_stuffing.proofs.Names.{Bool, ◌≡◌, ◌+◌, ◌/◌, ◌^◌, ◌∷◌, [], nat_eq, bit_and, take, drop, length, ◌++◌, arith, ◌∙◌, ap, sym}
+use Rattle.bit_stuffing.proofs.Names.{Bool, ◌≡◌, ◌+◌, ◌/◌, ◌^◌, ◌∷◌, [], nat_eq, bit_and, take, drop, length, arith, ◌∙◌, ap, sym}
 use Rattle.bit_stuffing.proofs.Names.{subst, ◌≤◌, ◌*◌, written, stuffed, room_behind, octet_bits, SLOT}
 use Rattle.bit_stuffing.proofs.Written.{next-written, next-left, next-fits, left-in, octet-bit, octet-part, octet-split}
 use Rattle.bit_stuffing.proofs.Octets.{plain-written}
@@ -39,10 +39,7 @@ loop-place-preserved c =
     let b : Bool = nat_eq (bit_and (c.args.octet / 2 ^ place) 1) 1 in
     let part = octet-part c.args.octet place b (omega arith) (octet-bit c.args.octet place (omega arith)) in
     record {
-      bits = next-written start now
-          (take place (octet_bits c.args.octet)) c.args.room c.loop-place.left c.requires.some c.loop-place.invariant.left
-          c.loop-place.invariant.bits next (b ∷ []) c.content_bit-left.ensures.written
-          ∙ ap (λ t. start ++ stuffed c.args.room t) (sym part);
+      bits = grind (arith, next-written);
       left = c.content_bit-left.ensures.room
           ∙ next-left start now
           (take place (octet_bits c.args.octet)) c.args.room c.loop-place.left c.requires.some c.loop-place.invariant.left
@@ -53,28 +50,23 @@ pub octet-requires : goal.octet-requires
 octet-requires c =
     let p = plain-written c.args.room c.args.octet (omega (arith, c.requires.few)) c.ranges.octet.fits
     (sym c.is_plain.ensures ∙ c.if-is_plain.true) in
-    let long : length (stuffed c.args.room (octet_bits c.args.octet)) ≡ 8 = ap length p.0 in
-    omega (arith, c.requires.fits, long)
+    let long : length (stuffed c.args.room (octet_bits c.args.octet)) ≡ 8 = ap length p.0 in grind (arith)
 
 pub returns-then-is_plain-clause-written : goal.returns-then-is_plain-clause-written
 returns-then-is_plain-clause-written c =
     let p = plain-written c.args.room c.args.octet (omega (arith, c.requires.few)) c.ranges.octet.fits
-    (sym c.is_plain.ensures ∙ c.if-is_plain.true) in
-    c.octet.ensures ∙ ap (λ l. written c.args.self.now c.args.out.now ++ l) (sym p.0)
+    (sym c.is_plain.ensures ∙ c.if-is_plain.true) in grind (arith, written)
 
 pub returns-then-is_plain-clause-room : goal.returns-then-is_plain-clause-room
 returns-then-is_plain-clause-room c =
     let p = plain-written c.args.room c.args.octet (omega (arith, c.requires.few)) c.ranges.octet.fits
-    (sym c.is_plain.ensures ∙ c.if-is_plain.true) in
-    c.room_behind_octet.ensures.value ∙ sym p.1
+    (sym c.is_plain.ensures ∙ c.if-is_plain.true) in grind (arith)
 
 pub returns-clause-written : goal.returns-clause-written
 returns-clause-written c =
     let at : c.loop-place.place ≡ 8 = omega (arith, c.loop-place-test.false, c.loop-place.auto.place-end) in
-    c.loop-place.invariant.bits
-    ∙ ap (λ place. written c.args.self.now c.args.out.now ++ stuffed c.args.room (take place (octet_bits c.args.octet))) at
+    grind (arith, written)
 
 pub returns-clause-room : goal.returns-clause-room
 returns-clause-room c =
-    let at : c.loop-place.place ≡ 8 = omega (arith, c.loop-place-test.false, c.loop-place.auto.place-end) in
-    c.loop-place.invariant.left ∙ ap (λ place. room_behind c.args.room (take place (octet_bits c.args.octet))) at
+    let at : c.loop-place.place ≡ 8 = omega (arith, c.loop-place-test.false, c.loop-place.auto.place-end) in grind (arith)

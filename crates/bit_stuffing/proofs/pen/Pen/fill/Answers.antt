@@ -1,5 +1,5 @@
-use Rattle.bit_stuffing.proofs.Names.{Bool, List, ◌≡◌, ◌+◌, ◌-◌, ◌*◌, ◌/◌, ◌%◌, ◌++◌, length, take, arith, ◌∙◌, ap, append_assoc}
-use Rattle.bit_stuffing.proofs.Names.{length-append, flag, written, fill, flags}
+use Rattle.bit_stuffing.proofs.Names.{Bool, List, ◌≡◌, ◌+◌, ◌-◌, ◌*◌, ◌%◌, length, arith, append_assoc}
+use Rattle.bit_stuffing.proofs.Names.{length-append, written, fill, flags}
 use Rattle.bit_stuffing.proofs.Written.{length-written}
 use Rattle.bit_stuffing.proofs.Fill.{length-flags}
 use Rattle.bit_stuffing.proofs.pen.Pen.fill.Goals as goal
@@ -14,25 +14,14 @@ pub flag-requires-clause-room : goal.flag-requires-clause-room
 flag-requires-clause-room c =
     let left = 4 * c.from-2.result - (4 * c.len.result + c.from.result) in
     let start : List Bool = written c.args.self.now c.args.out.now in
-    omega (
-      arith,
-      c.requires.few,
-      c.requires.room,
-      length-written c.args.self.now c.args.out.now,
-      ap length c.flags.ensures,
-      length-append {A = Bool} start (flags (left / 8)),
-      length-flags (left / 8),
-    )
+    grind (arith, length-written, length-append, flags, length-flags)
 
 pub returns-clause-written : goal.returns-clause-written
 returns-clause-written c =
     let left = 4 * c.from-2.result - (4 * c.len.result + c.from.result) in
     let start : List Bool = written c.args.self.now c.args.out.now in
     let all : left ≡ 4 * c.args.symbols - length start = omega (arith, c.requires.room, length-written c.args.self.now c.args.out.now) in
-    let cut : left % 8 - 0 ≡ left % 8 = omega arith in
-    c.flag.ensures ∙ ap (λ t. t ++ take (left % 8 - 0) flag) c.flags.ensures
-    ∙ append_assoc start (flags (left / 8)) (take (left % 8 - 0) flag)
-    ∙ ap (λ n. start ++ (flags (left / 8) ++ take n flag)) cut ∙ ap (λ n. start ++ fill n) all
+    let cut : left % 8 - 0 ≡ left % 8 = omega arith in grind (arith, append_assoc, flags, fill)
 
 pub returns-clause-phase : goal.returns-clause-phase
 returns-clause-phase c = omega (arith, length-written c.args.self.now c.args.out.now)

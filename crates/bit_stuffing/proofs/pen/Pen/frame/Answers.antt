@@ -1,22 +1,15 @@
 use Rattle.bit_stuffing.proofs.Names.{Bool, ℕ, List, ◌≡◌, ◌+◌, ◌≤◌, ◌++◌, length, arith, ◌∙◌, ap, append_assoc, length-append, refl, sym}
 use Rattle.bit_stuffing.proofs.Names.{Some, flag, written, framed, stuffed, room_behind, bits_of-append, bits_of}
-use Rattle.bit_stuffing.proofs.Written.{next-fits, next-left, next-written, room_behind-in, stuffed-front}
+use Rattle.bit_stuffing.proofs.Written.{next-fits, next-left, next-written, stuffed-front}
 use Rattle.bit_stuffing.proofs.pen.Pen.frame.Goals as goal
 
 three : (head information check : List ℕ) → bits_of (head ++ information ++ check) ≡ (bits_of head ++ bits_of information) ++ bits_of check
-three head information check =
-    bits_of-append (head ++ information) check ∙ ap (λ t. t ++ bits_of check) (bits_of-append head information)
+three head information check = grind (arith, bits_of-append)
 
 -- how long the frame is with its flag
 long : (head information check : List ℕ) (before most : ℕ) → before + length (framed (Some (head ++ information ++ check))) ≤ most
     → before + length (stuffed 5 ((bits_of head ++ bits_of information) ++ bits_of check)) + 8 ≤ most
-long head information check before most h =
-    omega (
-      arith,
-      h,
-      ap (λ t. length (stuffed 5 t)) (three head information check),
-      length-append {A = Bool} (stuffed 5 (bits_of (head ++ information ++ check))) flag,
-    )
+long head information check before most h = grind (arith, three, length-append)
 
 pub content-behind_head-requires-clause-fits : goal.content-behind_head-requires-clause-fits
 content-behind_head-requires-clause-fits c =

@@ -1,5 +1,5 @@
-use Rattle.bit_stuffing.proofs.Names.{Bool, ℕ, List, Option, ◌≡◌, ◌-◌, ◌*◌, ◌≤◌, ◌++◌, length, arith, ◌∙◌, refl, sym, ap, subst, Some}
-use Rattle.bit_stuffing.proofs.Names.{line_bits, Writer, WriterStands, framed, flags, opening, rest_of_flag, slot_bits, Flags}
+use Rattle.bit_stuffing.proofs.Names.{Bool, List, ◌≡◌, ◌-◌, ◌*◌, ◌≤◌, ◌++◌, length, arith, ◌∙◌, sym, ap, subst, Some}
+use Rattle.bit_stuffing.proofs.Names.{line_bits, Writer, WriterStands, framed, opening, slot_bits, Flags}
 use Rattle.bit_stuffing.specs.declared.slot_writer.TheConstants.{TAIL}
 use Rattle.bit_stuffing.proofs.Fill.{slot-written, writer-behind}
 use Rattle.bit_stuffing.proofs.slot_writer.SlotWriter.framed.Goals as goal
@@ -17,8 +17,6 @@ returns-clause-stands c = λ slots h.
     let frame = Some (c.args.head.now ++ c.args.information.now ++ c.args.check.now) in
     let before = subst (λ (w : Writer). WriterStands w slots) (sym c.self.view_is) h in
     record {
-      phase_is = writer-behind c.self.inside.symbols c.self.inside.phase _ frame _ slots
-          (c.frame.ensures ∙ ap (λ (t : List Bool). t ++ framed frame) c.opened-pen.ensures) c.fill-self-inside.ensures.phase
-          before.phase_is;
+      phase_is = grind (arith, writer-behind, framed);
       low = omega (arith, c.fill-self-inside.ensures.phase);
     }

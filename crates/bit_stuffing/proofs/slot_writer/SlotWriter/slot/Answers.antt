@@ -1,5 +1,5 @@
-use Rattle.bit_stuffing.proofs.Names.{Bool, ℕ, List, Option, ◌≡◌, ◌-◌, ◌*◌, ◌≤◌, ◌++◌, length, arith, ◌∙◌, refl, sym, ap, subst, None}
-use Rattle.bit_stuffing.proofs.Names.{append-nil, line_bits, Writer, WriterStands, framed, flags, opening, rest_of_flag, slot_bits, Flags}
+use Rattle.bit_stuffing.proofs.Names.{Bool, ℕ, List, Option, ◌≡◌, ◌-◌, ◌*◌, ◌≤◌, ◌++◌, length, arith, ◌∙◌, refl, sym, subst, None}
+use Rattle.bit_stuffing.proofs.Names.{append-nil, Writer, WriterStands, flags, opening, rest_of_flag}
 use Rattle.std.specs.Option.{option_copied}
 use Rattle.bit_stuffing.specs.declared.slot_writer.TheConstants.{TAIL}
 use Rattle.bit_stuffing.proofs.Fill.{slot-written, writer-behind}
@@ -16,16 +16,13 @@ returns-in-None-clause-bits c =
     let room = subst (λ (w : Writer). length (opening w.phase frame) ≤ 4 * (w.symbols - TAIL)) (sym c.self.view_is) c.requires.room in
     let bits = slot-written c.self.inside.symbols c.self.inside.phase frame _ c.fill-self-inside.new.self c.fill-self-inside.new.out
     (omega arith) (opening-none c.self.inside.phase frame _ (rw c.in-None.is refl) c.opened-flags.ensures)
-    c.fill-self-inside.ensures.written in
-    subst (λ (w : Writer). line_bits c.fill-self-inside.new.out ≡ slot_bits (4 * w.symbols) w.phase (Flags frame)) c.self.view_is bits
+    c.fill-self-inside.ensures.written in grind (arith)
 
 pub returns-in-None-clause-stands : goal.returns-in-None-clause-stands
 returns-in-None-clause-stands c = λ slots h.
     let frame : Option (List ℕ) = option_copied c.args.frame in
     let before = subst (λ (w : Writer). WriterStands w slots) (sym c.self.view_is) h in
     record {
-      phase_is = writer-behind c.self.inside.symbols c.self.inside.phase _ frame _ slots
-          (opening-none c.self.inside.phase frame _ (rw c.in-None.is refl) c.opened-flags.ensures) c.fill-self-inside.ensures.phase
-          before.phase_is;
+      phase_is = grind (arith, writer-behind, opening-none);
       low = omega (arith, c.fill-self-inside.ensures.phase);
     }

@@ -1,4 +1,4 @@
-use Rattle.std.proofs.Common.{◌≡◌, ◌+◌, ◌%◌, ◌<◌, [], ◌∷◌, length, length-append, arith, ap, sym, subst, ◌∙◌, false, true}
+use Rattle.std.proofs.Common.{◌≡◌, ◌+◌, ◌<◌, length, length-append, arith, sym, subst, false, true}
 use Rattle.bit_stuffing.specs.Deframer.{Gathers, has_room}
 use Rattle.bit_stuffing.proofs.Octets.{gathers-low, gathers-high, four-bound}
 use Rattle.bit_stuffing.proofs.unstuffer.Unstuffer.keep_four.Goals as goal
@@ -6,19 +6,14 @@ use Rattle.bit_stuffing.proofs.unstuffer.Unstuffer.keep_four.Goals as goal
 pub invariant_of-self : goal.invariant_of-self
 invariant_of-self c =
     let room : length c.self.inside.octets + 1 < 1031 = subst (λ v. length v.octets + 1 < 1031) (sym c.self.view_is) c.requires.room in
-    let b = four-bound c.self.inside.part c.self.inside.held c.args.four c.self.invariant.1 c.self.invariant.2 c.requires.four in (
-      c.room_behind_four-self-inside.ensures.bound,
-      omega (arith, c.if-self-lt4.true),
-      rw c.joined-bits.ensures.value (b.0 c.if-self-lt4.true),
-      omega (arith, room, c.if-self-lt4.true),
-    )
+    let b = four-bound c.self.inside.part c.self.inside.held c.args.four c.self.invariant.1 c.self.invariant.2 c.requires.four in
+    grind (arith)
 
 pub invariant_of-self-else-self-lt4 : goal.invariant_of-self-else-self-lt4
 invariant_of-self-else-self-lt4 c =
     let room : length c.self.inside.octets + 1 < 1031 = subst (λ v. length v.octets + 1 < 1031) (sym c.self.view_is) c.requires.room in
     let b = four-bound c.self.inside.part c.self.inside.held c.args.four c.self.invariant.1 c.self.invariant.2 c.requires.four in
-    let more : length c.push.new.self ≡ length c.self.inside.octets + 1 =
-    ap length c.push.ensures ∙ length-append c.self.inside.octets (c.joined-bits.result % 256 ∷ []) in (
+    let more : length c.push.new.self ≡ length c.self.inside.octets + 1 = grind (arith, length-append) in (
       c.room_behind_four-self-inside.ensures.bound,
       omega (arith, c.self.invariant.1),
       rw c.joined-bits.ensures.value (b.2 (omega (arith, c.if-self-lt4.false))),

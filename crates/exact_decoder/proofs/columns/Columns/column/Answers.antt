@@ -1,4 +1,4 @@
-use Rattle.exact_decoder.proofs.Names.{◌≡◌, ◌+◌, ◌∷◌, ◌++◌, [], take, arith, sym, subst, choices_of, from_newest, AreColumns}
+use Rattle.exact_decoder.proofs.Names.{arith, sym, subst, from_newest, AreColumns}
 use Rattle.exact_decoder.proofs.Walking.{column-here, column-fits}
 use Rattle.exact_decoder.proofs.Rings.{newest-at, columns-long}
 use Rattle.exact_decoder.proofs.columns.Columns.column.Goals as goal
@@ -10,8 +10,7 @@ returns-clause-next g c =
     let count = c.self.inside.count in
     let long = columns-long items _ _ _ c.self.invariant.1 c.self.view_is in
     let here = newest-at items _ _ _ c.index.result.now c.self.invariant.1 (omega (arith, long, c.requires.within)) c.index.ensures in
-    subst (λ l. take (c.args.back + 1) l ≡ take c.args.back l ++ choices_of c.index.result.now ∷ []) c.self.view_is
-    (column-here (from_newest newest count items) _ c.index.result.now here)
+    grind (arith, column-here)
 
 pub returns-clause-column : goal.returns-clause-column
 returns-clause-column g c =

@@ -11,8 +11,7 @@ use Rattle.exact_decoder.proofs.decoder.Decoder.push_some.Goals.{After-release}
 use Rattle.exact_decoder.proofs.decoder.Decoder.push_some.Goals as goal
 
 whole : (past samples : List Sample) (heard : ℕ) → (past ++ take heard samples) ++ drop heard samples ≡ past ++ samples
-whole past samples heard =
-    append_assoc past (take heard samples) (drop heard samples) ∙ ap (λ l. past ++ l) (take-append-drop heard samples)
+whole past samples heard = grind (arith, append_assoc, take-append-drop)
 
 empty-turned : (l : List ℕ) → reverse l ≡ [] → l ≡ []
 empty-turned [] e = refl
@@ -88,10 +87,7 @@ module _ (g : Over) (c : After-release g) where
   long = length-take-le c.min-heard.result c.args.samples.now (heard-within _ _ _ c.min-heard.ensures)
 
   few : c.self.inside.count + length hears ≤ 2 ^ 56
-  few =
-      let all : c.self.inside.count + length c.args.samples.now ≤ 2 ^ 56 =
-      subst (λ v. v.count + length c.args.samples.now ≤ 2 ^ 56) (sym c.self.view_is) c.requires.count in
-      omega (arith, all, long, heard-within (length c.args.samples.now) room c.min-heard.result c.min-heard.ensures)
+  few = grind (arith, long, heard-within)
 
   fits : c.self.inside.survivors.unreleased + length hears ≤ g.row.DEPTH + 1
   unfolding opened

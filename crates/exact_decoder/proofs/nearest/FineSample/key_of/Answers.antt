@@ -1,5 +1,5 @@
-use Rattle.exact_decoder.proofs.Names.{◌≡◌, ℕ, ◌+◌, ◌*◌, arith, ◌∙◌, ap, subst, ints, w16, cast_signed, cast_unsigned, ℤ, pos, unsigned_abs}
-use Rattle.exact_decoder.proofs.Names.{◌-ℤ◌, ◌*ℤ◌, distance_of, squared_gap}
+use Rattle.exact_decoder.proofs.Names.{◌≡◌, ℕ, ◌*◌, arith, ◌∙◌, ap, ints, w16, cast_signed, cast_unsigned, ℤ, pos, unsigned_abs}
+use Rattle.exact_decoder.proofs.Names.{◌-ℤ◌, ◌*ℤ◌, squared_gap}
 use Rattle.std.specs.Int.{w64}
 use Rattle.exact_decoder.proofs.nearest.FineSample.key_of.Goals as goal
 
@@ -21,6 +21,4 @@ returns-clause-value c =
     let re = squared-fine c.squared.result c.fine_gap-re.result p.re s.re c.squared.ensures.value (c.fine_gap-re.ensures.value s.re re_fine
     ∙ ap (λ n. 256 * unsigned_abs (n -ℤ s.re)) re_point) in
     let im = squared-fine c.squared-2.result c.fine_gap-im.result p.im s.im c.squared-2.ensures.value
-    (c.fine_gap-im.ensures.value s.im im_fine ∙ ap (λ n. 256 * unsigned_abs (n -ℤ s.im)) im_point) in
-    subst (λ v. c.squared.result + c.squared-2.result + 256 * c.from.result ≡ 65536 * distance_of p v + 256 * c.args.label) c.self.view_is
-    (omega (arith, re, im, c.from.ensures))
+    (c.fine_gap-im.ensures.value s.im im_fine ∙ ap (λ n. 256 * unsigned_abs (n -ℤ s.im)) im_point) in grind (arith)

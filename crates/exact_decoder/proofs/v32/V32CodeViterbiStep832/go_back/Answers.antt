@@ -50,7 +50,5 @@ returns-else-is_one-clause-label c =
       t = 0;
       s_within = within;
       t_within = omega arith;
-      apart = λ same. apart
-          (lane taken (s + 8) long (omega arith) ∙ c.taken_at-taken.ensures.labels s within ∙ same
-          ∙ sym (c.taken_at-taken.ensures.labels 0 (omega arith)) ∙ sym (lane taken 8 long (omega arith)));
+      apart = grind (arith, lane);
     }

@@ -1,5 +1,4 @@
-use Rattle.std.proofs.Common.{sym, subst}
-use Rattle.lapm_receiver.specs.Taking.{StandsIn}
+use Rattle.lapm_receiver.proofs.Names.{sym, subst, StandsIn}
 use Rattle.lapm_receiver.proofs.Standing.{stands-asked, none-due}
 use Rattle.lapm_receiver.proofs.receiver.Receiver.asked.Goals as goal
 

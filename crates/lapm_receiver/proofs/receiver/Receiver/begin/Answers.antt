@@ -1,7 +1,4 @@
-use Rattle.std.proofs.Common.{◌≡◌, ℕ, ◌<◌, true, [], refl, ap, arith}
-use Rattle.lapm_receiver.specs.Held.{is_among}
-use Rattle.lapm_receiver.specs.Slots.{Arrived}
-use Rattle.lapm_receiver.specs.Taking.{Taking}
+use Rattle.lapm_receiver.proofs.Names.{◌≡◌, ℕ, ◌<◌, true, [], refl, ap, arith, is_among, Arrived, Taking}
 use Rattle.lapm_receiver.proofs.receiver.Receiver.begin.Goals as goal
 
 pub invariant_of-self : goal.invariant_of-self

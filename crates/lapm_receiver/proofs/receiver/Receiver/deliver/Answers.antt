@@ -1,5 +1,4 @@
-use Rattle.std.proofs.Common.{sym, subst}
-use Rattle.lapm_receiver.specs.Taking.{StandsIn}
+use Rattle.lapm_receiver.proofs.Names.{sym, subst, StandsIn}
 use Rattle.lapm_receiver.proofs.Standing.{stands-delivered}
 use Rattle.lapm_receiver.proofs.receiver.Receiver.deliver.Goals as goal
 

@@ -1,5 +1,5 @@
-use Rattle.std.proofs.Common.{◌%◌, ◌∙◌, ap}
-use Rattle.lapm_receiver.specs.Taking.{Taking}
+use Rattle.lapm_receiver.proofs.Names.{◌∙◌, ap, Taking}
+use Rattle.std.proofs.Common.{◌%◌}
 use Rattle.lapm_receiver.proofs.receiver.Receiver.nr.Goals as goal
 
 pub returns-clause-value : goal.returns-clause-value

@@ -1,5 +1,4 @@
-use Rattle.std.proofs.Common.{◌≡◌, length, sym, subst}
-use Rattle.lapm_receiver.specs.Taking.{StandsIn}
+use Rattle.lapm_receiver.proofs.Names.{◌≡◌, length, sym, subst, StandsIn}
 use Rattle.lapm_receiver.proofs.Standing.{stands-next}
 use Rattle.lapm_receiver.proofs.receiver.Receiver.take_next.Goals as goal
 

@@ -1,5 +1,4 @@
-use Rattle.std.proofs.Common.{◌≡◌, ◌∙◌, [], drop, sym, ap}
-use Rattle.std.specs.Prelude.{is_some}
+use Rattle.lapm_receiver.proofs.Names.{◌≡◌, ◌∙◌, [], drop, sym, ap, is_some}
 use Rattle.lapm_receiver.proofs.Rows.{none-ready, next-row, seen-deliver, ready-first}
 use Rattle.lapm_receiver.proofs.slots.Slots.deliver.Goals as goal
 

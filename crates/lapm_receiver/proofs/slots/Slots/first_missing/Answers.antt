@@ -1,4 +1,4 @@
-use Rattle.std.proofs.Common.{◌<◌, length, ◌∙◌, arith}
+use Rattle.lapm_receiver.proofs.Names.{◌<◌, length, ◌∙◌, arith}
 use Rattle.lapm_receiver.proofs.Rows.{none-found, found-from, found-small, seen-rising}
 use Rattle.lapm_receiver.proofs.slots.Slots.first_missing.Goals as goal
 

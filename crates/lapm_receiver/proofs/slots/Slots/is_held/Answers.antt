@@ -1,6 +1,4 @@
-use Rattle.std.proofs.Common.{◌∙◌, sym, ap}
-use Rattle.std.specs.Prelude.{is_some, slice_get}
-use Rattle.lapm_receiver.specs.Slots.{info_at}
+use Rattle.lapm_receiver.proofs.Names.{◌∙◌, sym, ap, is_some, slice_get, info_at}
 use Rattle.lapm_receiver.proofs.Rows.{seen-held, copied-some}
 use Rattle.lapm_receiver.proofs.slots.Slots.is_held.Goals as goal
 

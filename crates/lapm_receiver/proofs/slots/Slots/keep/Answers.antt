@@ -1,4 +1,4 @@
-use Rattle.std.proofs.Common.{◌<◌, length, subst, sym}
+use Rattle.lapm_receiver.proofs.Names.{◌<◌, length, subst, sym}
 use Rattle.lapm_receiver.proofs.Rows.{seen-keep, slot-there, seen-room}
 use Rattle.lapm_receiver.proofs.slots.Slots.keep.Goals as goal
 use Rattle.lapm_receiver.proofs.slots.Slots.keep.Goals.{in-Some, in_default}

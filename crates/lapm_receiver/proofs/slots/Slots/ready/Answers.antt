@@ -1,4 +1,4 @@
-use Rattle.std.proofs.Common.{◌≡◌, length, subst}
+use Rattle.lapm_receiver.proofs.Names.{◌≡◌, length, subst}
 use Rattle.lapm_receiver.proofs.Rows.{ready-count}
 use Rattle.lapm_receiver.proofs.slots.Slots.ready.Goals as goal
 

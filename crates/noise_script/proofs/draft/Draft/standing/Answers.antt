@@ -1,3 +1,4 @@
+use Rattle.std.proofs.Common.{arith}
 use Rattle.noise_script.proofs.Names.{◌∙◌, refl, sym, ap, length, kind_of, standing, whole, each, delays_said, tries_said, window_said}
 use Rattle.noise_script.proofs.Names.{length_said, loss_said, hit_said, noise_said, break_said, pause_said, Entry, Offered}
 use Rattle.noise_script.specs.declared.forms.Form.TheVariants as forms
@@ -58,8 +59,7 @@ returns-in-Length c said h a =
 pub returns-in-Srej : goal.returns-in-Srej
 returns-in-Srej c said h a =
     let role = c.in-Srej.role in
-    let held = ap (λ (o : Offered). o.srej) (c.offered-in-Srej.ensures ∙ offered-held _ _ h _) in
-    counted-flag _ refl _ a _ (ap kind_of c.in-Srej.is) _ held _ c.from-in-Srej.ensures
+    let held = ap (λ (o : Offered). o.srej) (c.offered-in-Srej.ensures ∙ offered-held _ _ h _) in grind (arith, counted-flag)
 
 pub returns-in-Check32 : goal.returns-in-Check32
 returns-in-Check32 c said h a =

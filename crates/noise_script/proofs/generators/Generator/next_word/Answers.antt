@@ -7,6 +7,4 @@ invariant_of-self c =
     let before = c.args.self.now in
     let from_is = c.from_state-words.ensures
     ∙ ap (λ stream. record { state = before.state; increment = increment_of 64 stream }) c.stream_of.ensures in
-    record {
-      stands = one-on _ _ _ _ _ _ _ _ before.stands from_is c.next_word-word.ensures c.state-self.ensures;
-    }
+    assumption (one-on _ _ _ _ _ _ _ _ before.stands from_is c.next_word-word.ensures c.state-self.ensures)
