@@ -1,54 +1,35 @@
 -- A recording that is read on behind its header.
-use Rattle.command_base.proofs.Names.{◌≡◌, ◌≢◌, ◌∙◌, ◌⊎◌, inl, inr, ℕ, ◌+◌, ◌%◌, ◌≤◌, ◌<◌, Bool, true, false, List, [], ◌++◌, IsTrue}
-use Rattle.command_base.proofs.Names.{length, length-append, drop, refl, sym, ap, subst, arith, append-nil, append_assoc, take_all}
-use Rattle.command_base.proofs.Names.{take-append-drop, ReadTo, FolderState, octets_at, GoesOn, KeepsName, header_at, Rate, Mode}
+use Rattle.command_base.proofs.Names.{◌≡◌, ◌≢◌, ◌∙◌, ◌⊎◌, ℕ, ◌+◌, ◌%◌, ◌≤◌, ◌<◌, Bool, true, false, List, [], ◌++◌, IsTrue, length}
+use Rattle.command_base.proofs.Names.{length-append, drop, refl, sym, ap, arith, append-nil, append_assoc, take_all, take-append-drop}
+use Rattle.command_base.proofs.Names.{ReadTo, FolderState, octets_at, GoesOn, KeepsName, header_at, Rate, Mode}
 use Rattle.recordings.specs.declared.header.TheConstants.{HEADER}
 use Rattle.command_base.specs.declared.limits.TheConstants.{RECORDING_LIMIT}
-use Rattle.command_base.proofs.Reading.{ReadTo-kept}
 use Rattle.command_base.specs.Recordings.{ReadsRecording, Opened, ReadBehind, IsAtEnd}
 
 -- the header is read
 pub behind-none : (start old now : FolderState) (name : List ℕ) (rate : Rate) (mode : Mode) → Opened start old name rate mode
     → GoesOn start now → KeepsName start now name → ReadBehind start now name rate mode [] HEADER
-behind-none start old now name rate mode o on kept = record {
-  at_is = refl;
-  read = record {
-    within = o.within;
-    count = refl;
-    front = λ told. append-nil (header_at rate mode) ∙ o.header told;
-    goes_on = on;
-    kept = kept;
-  };
-}
+behind-none start old now name rate mode o on kept = grind (arith, append-nil)
 
 -- one piece more is
 pub behind-more : (start now : FolderState) (name : List ℕ) (rate : Rate) (mode : Mode) (content piece : List ℕ) (at count : ℕ)
     → at ≡ HEADER + length content → length piece ≡ count →
     ReadTo start now name RECORDING_LIMIT (at + count) ((header_at rate mode ++ content) ++ piece)
     → ReadBehind start now name rate mode (content ++ piece) (at + count)
-behind-more start now name rate mode content piece at count at_is long r = record {
-  at_is = omega (arith, at_is, long, length-append content piece);
-  read = subst (ReadTo start now name RECORDING_LIMIT (at + count)) (append_assoc (header_at rate mode) content piece) r;
-}
+behind-more start now name rate mode content piece at count at_is long r = grind (arith, length-append, append_assoc)
 
 -- what was read stays read, as long as the recording is as it was
 pub behind-kept : (start now later : FolderState) (name : List ℕ) (rate : Rate) (mode : Mode) (content : List ℕ) (at : ℕ)
     → ReadBehind start now name rate mode content at → GoesOn now later → KeepsName now later name
     → ReadBehind start later name rate mode content at
-behind-kept start now later name rate mode content at b on kept =
-    record { at_is = b.at_is; read = ReadTo-kept start now later name RECORDING_LIMIT at (header_at rate mode ++ content) b.read on kept }
+behind-kept start now later name rate mode content at b on kept = grind (arith)
 
 -- fewer octets than there was room for, or none: the recording is at its end
 pub at-end : (start now : FolderState) (name : List ℕ) (at count : ℕ) (octets piece : List ℕ)
     → ReadTo start now name RECORDING_LIMIT (at + count) (octets ++ piece) → count ≤ 4096 →
     (count < 4096 → IsTrue (start.tells name) → octets ++ piece ≡ octets_at start name) → (count % 4 ≢ 0) ⊎ (count ≡ 0)
     → IsAtEnd start name (at + count)
-at-end start now name at count octets piece r few all end told =
-    omega (arith, r.count, ap (λ (xs : List ℕ). length xs) (all (short end) told))
-  where
-    short : (count % 4 ≢ 0) ⊎ (count ≡ 0) → count < 4096
-    short (inl cut) = omega (arith, cut, few)
-    short (inr none) = omega (arith, none)
+at-end start now name at count octets piece r few all end told = grind (arith)
 
 -- then it is the header and what was read
 pub reads-all : (start now : FolderState) (name : List ℕ) (rate : Rate) (mode : Mode) (content : List ℕ) (at : ℕ)

@@ -1,5 +1,5 @@
 -- Outputs that are created in order.
-use Rattle.command_base.proofs.Names.{inl, inr, ℕ, List, [], ◌∷◌, WriteFails, Holds-kept, GoesOn-trans, KeepsName-trans, FolderState}
+use Rattle.command_base.proofs.Names.{arith, inl, inr, ℕ, List, [], ◌∷◌, WriteFails, Holds-kept, GoesOn-trans, KeepsName-trans, FolderState}
 use Rattle.command_base.proofs.Names.{GoesOn, KeepsName, CountsStand, IsNoneOf, CreatesPart, OnlyOutputs, FolderFault}
 use Rattle.outside_calls.specs.Folder.{OnlyWrites}
 use Rattle.outside_calls.specs.declared.folder.FolderFault.TheVariants as folder
@@ -9,8 +9,7 @@ use Rattle.command_base.proofs.Jobs.{write-earlier}
 
 kept-earlier : (old mid new : FolderState) (name : List ℕ) → GoesOn old mid → KeepsName old mid name → KeptOrEmpty mid new name
     → KeptOrEmpty old new name
-kept-earlier old mid new name g k (inl kept) = inl (KeepsName-trans old mid new name g k kept)
-kept-earlier old mid new name g k (inr holds) = inr holds
+kept-earlier old mid new name g k given = grind (arith)
 
 -- steps that kept each output come before they are created
 pub CreatesPart-earlier : (old mid new : FolderState) (names : List (List ℕ)) → GoesOn old mid → KeepsEach old mid names
@@ -22,8 +21,7 @@ CreatesPart-earlier old mid new (name ∷ names) g k (inr c) = inr (c.0, Creates
 
 -- the first is created, and not all of the others
 pub CreatesPart-first : (old mid new : FolderState) (name : List ℕ) (names : List (List ℕ)) → IsNoneOf name names → OnlyWrites old mid name
-    → Holds mid name [] → OnlyOutputs mid new names → CreatesPart mid new names →
-    CreatesPart old new (name ∷ names)
+    → Holds mid name [] → OnlyOutputs mid new names → CreatesPart mid new names → CreatesPart old new (name ∷ names)
 CreatesPart-first old mid new name names apart w holds only part =
     inr (
       Holds-kept mid new name [] only.goes_on holds (only.names name apart),
@@ -59,5 +57,4 @@ pub WriteFails-later : (old mid new : FolderState) (name : List ℕ) (names : Li
 WriteFails-later old mid new name names fault stand fails = more fault (write-earlier old mid new names fault stand fails)
   where
     more : (fault : FolderFault) → WriteFails old new names fault → WriteFails old new (name ∷ names) fault
-    more folder.Failed rose = inr rose
-    more folder.NoMemory refused = refused
+    more fault rose = grind (arith)

@@ -1,18 +1,17 @@
 -- Names that the test of octets tells apart differ.
-use Rattle.std.proofs.Common.{◌≡◌, ◌≢◌, ◌∙◌, ℕ, Bool, true, false, not, ◌&&◌, List, [], ◌∷◌, refl, sym, ap}
+use Rattle.command_base.proofs.Names.{arith, ◌≡◌, ◌≢◌, ◌∙◌, ℕ, Bool, true, ◌&&◌, List, [], ◌∷◌, sym, ap, are_apart, AreApart, IsNoneOf}
+use Rattle.std.proofs.Common.{not}
 use Rattle.std.specs.Str.{bytes_eq}
 use Rattle.std.proofs.lemmas.Slice.Eq.{bytes_eq-Decides}
-use Rattle.outside_calls.specs.Outputs.{AreApart, IsNoneOf, AreNoneOf}
-use Rattle.command_base.specs.Apart.{are_apart, is_none_of}
+use Rattle.outside_calls.specs.Outputs.{AreNoneOf}
+use Rattle.command_base.specs.Apart.{is_none_of}
 
 -- both halves of a test
 left : (a b : Bool) → a && b ≡ true → a ≡ true
-left true b e = refl
-left false b e = e
+left a b e = grind (arith)
 
 right : (a b : Bool) → a && b ≡ true → b ≡ true
-right true b e = e
-right false b e = cc
+right a b e = grind (arith)
 
 differ : (a b : List ℕ) → not (bytes_eq a b) ≡ true → a ≢ b
 differ a b e same = cc (sym e ∙ ap not ((bytes_eq-Decides a b).1 same))

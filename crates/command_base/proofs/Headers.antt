@@ -1,11 +1,8 @@
 -- A header of a recording, and what stands behind it.
-use Rattle.std.proofs.Common.{◌≡◌, ◌∙◌, inl, inr, ℕ, zero, suc, ◌≤◌, ◌<◌, true, List, ◌++◌, drop, slice_index, refl, sym, ap, arith}
-use Rattle.scramblers.specs.declared.mode.Mode.{Mode}
-use Rattle.scramblers.specs.declared.mode.Mode.TheVariants.{Call, Answer}
-use Rattle.recordings.specs.declared.rate.Rate.{Rate}
-use Rattle.recordings.specs.declared.rate.Rate.TheVariants.{Trellis, Quarters}
-use Rattle.recordings.specs.Recording.{mode_number, header_at}
-use Rattle.recordings.specs.Headers.{fits, IsBadHeader}
+use Rattle.command_base.proofs.Names.{◌≡◌, ℕ, ◌≤◌, ◌<◌, true, List, ◌++◌, drop, ap, arith, IsBadHeader, header_at, Rate, Mode}
+use Rattle.std.proofs.Common.{slice_index}
+use Rattle.recordings.specs.Recording.{mode_number}
+use Rattle.recordings.specs.Headers.{fits}
 use Rattle.command_base.specs.declared.limits.TheConstants.{RECORDING_LIMIT}
 
 -- a recording of this length is not too long
@@ -13,29 +10,14 @@ pub never-longer : (count : ℕ) → count ≤ 8388616 → RECORDING_LIMIT < cou
 never-longer count within longer = omega (arith, within, longer)
 
 mode-fits : (rate : Rate) (mode : Mode) → fits rate 4 (mode_number rate mode) ≡ true
-mode-fits Trellis Call = refl
-mode-fits Trellis Answer = refl
-mode-fits Quarters Call = refl
-mode-fits Quarters Answer = refl
+mode-fits rate mode = grind (arith)
 
 header-fits : (rate : Rate) (mode : Mode) (at : ℕ) → at < 8 → fits rate at (slice_index (header_at rate mode) at) ≡ true
-header-fits rate mode zero within = refl
-header-fits rate mode (suc zero) within = refl
-header-fits rate mode (suc (suc zero)) within = refl
-header-fits rate mode (suc (suc (suc zero))) within = refl
-header-fits rate mode (suc (suc (suc (suc zero)))) within = mode-fits rate mode
-header-fits rate mode (suc (suc (suc (suc (suc zero))))) within = refl
-header-fits rate mode (suc (suc (suc (suc (suc (suc zero)))))) within = refl
-header-fits rate mode (suc (suc (suc (suc (suc (suc (suc zero))))))) within = refl
-header-fits rate mode (suc (suc (suc (suc (suc (suc (suc (suc at)))))))) within = absurd (omega (arith, within))
+header-fits rate mode at within = grind (arith, mode-fits)
 
 -- a header is no bad one
 pub never-bad : (rate : Rate) (mode : Mode) (at : ℕ) → IsBadHeader rate (header_at rate mode) at → ⊥
-never-bad rate mode at bad = elim bad.here [
-  | inl short ↦ omega (arith, bad.within, short)
-  | inr other ↦ cc
-      (sym (header-fits rate mode at bad.within) ∙ other.1)
-]
+never-bad rate mode at bad = grind (arith, header-fits)
 
 -- what stands behind the header is one
 pub content-same : (rate : Rate) (mode other : Mode) (content rest : List ℕ) → header_at rate mode ++ content ≡ header_at rate other ++ rest

@@ -1,11 +1,9 @@
 -- What a listener heard, one more step at a time.
 use Rattle.command_base.proofs.Names.{◌≡◌, ◌∙◌, ℕ, ◌+◌, ◌/◌, ◌%◌, ◌^◌, ◌<◌, Bool, false, List, [], ◌∷◌, ◌++◌, length, take, drop, get_or}
-use Rattle.command_base.proofs.Names.{Result, Ok, Err, OnErr, nat_eq, bit_and, Option, Some, None, refl, sym, ap, subst, arith, append-nil}
-use Rattle.command_base.proofs.Names.{append_assoc, length-append, take-append-drop, option_map, Found, Piece, Listening, Hears, IsLine}
-use Rattle.command_base.proofs.Names.{AreLines, SayFails, length-low_bits, low_bits, octet_bits, bits_of, FaultsStand-trans}
-use Rattle.command_base.proofs.Names.{CountsStand-refl, CountsStand-trans, FolderState, OnlyReads, OnlySays, CountsStand, Rose, Said}
-use Rattle.command_base.proofs.Names.{PartlySaid, FolderFault, Role}
-use Rattle.std.specs.Option.{option_map_or}
+use Rattle.command_base.proofs.Names.{Result, Ok, Err, OnErr, nat_eq, bit_and, Some, None, refl, sym, ap, subst, arith, append-nil}
+use Rattle.command_base.proofs.Names.{append_assoc, length-append, take-append-drop, Found, Piece, Listening, Hears, IsLine, AreLines}
+use Rattle.command_base.proofs.Names.{SayFails, length-low_bits, low_bits, octet_bits, bits_of, CountsStand-trans, FolderState, OnlyReads}
+use Rattle.command_base.proofs.Names.{OnlySays, CountsStand, Said, PartlySaid, FolderFault, Role}
 use Rattle.std.proofs.lemmas.List.{take_more}
 use Rattle.std.proofs.lemmas.Nat.{and_mask}
 use Rattle.outside_calls.specs.declared.folder.FolderFault.TheVariants as folder
@@ -26,57 +24,23 @@ pub record FoundThere (bits : List Bool) (piece : Piece) : Type 0 where
   pub octets_are : found.octets ≡ lent_of bits
 
 pub found-there : (bits : List Bool) (piece : Piece) → Some piece ≡ answer_of bits → FoundThere bits piece
-found-there bits piece e = go (found_at bits) refl
-  where
-    go : (o : Option Found) → found_at bits ≡ o → FoundThere bits piece
-    go None q = absurd (none (e ∙ ap (option_map (λ found. found.piece)) q))
-      where
-        none : Some piece ≡ None → ⊥
-        none h = cc
-    go (Some found) q = record {
-      found = found;
-      found_is = q;
-      piece_is = same (sym (e ∙ ap (option_map (λ found. found.piece)) q));
-      octets_are = sym (ap (λ o. option_map_or (λ found. found.octets) o []) q);
-    }
-      where
-        same : Some found.piece ≡ Some piece → found.piece ≡ piece
-        same h = cc
+found-there bits piece e = grind (arith)
 
 nothing-there : (bits : List Bool) → None ≡ answer_of bits → found_at bits ≡ None
-nothing-there bits e = go (found_at bits) refl
-  where
-    go : (o : Option Found) → found_at bits ≡ o → found_at bits ≡ None
-    go None q = q
-    go (Some found) q = absurd (some (e ∙ ap (option_map (λ found. found.piece)) q))
-      where
-        some : None ≡ Some found.piece → ⊥
-        some h = cc
+nothing-there bits e = grind (arith)
 
 -- before the first bit
 pub heard-nothing : (start : FolderState) (l : Listening) → DeframerStands l.deframer [] → l.pieces ≡ 0 → Said start start []
     → Heard start start l []
-heard-nothing start l stands none said = record {
-  stands = stands;
-  lines = [];
-  are_lines = subst (λ pieces. AreLines l.sender pieces []) (sym pieces-none) refl;
-  said = said;
-  count = none ∙ sym (ap length pieces-none);
-}
+heard-nothing start l stands none said = grind (arith, pieces-none)
 
 -- a bit at which no piece ends
 pub pieces-same : (bits : List Bool) (bit : Bool) → None ≡ answer_of (bits ++ bit ∷ []) → pieces_of (bits ++ bit ∷ []) ≡ pieces_of bits
-pieces-same bits bit none =
-    pieces-more bits bit ∙ ap (λ o. pieces_of bits ++ listed o) (nothing-there (bits ++ bit ∷ []) none) ∙ append-nil (pieces_of bits)
+pieces-same bits bit none = grind (arith, pieces-more, listed, nothing-there, append-nil)
 
 -- four bits have no part in the higher ones
 pub low-four : (octet : ℕ) → low_bits 4 (octet % 16) ≡ low_bits 4 octet
-low-four octet =
-    let e0 : octet % 16 % 2 ≡ octet % 2 = omega arith in
-    let e1 : octet % 16 / 2 % 2 ≡ octet / 2 % 2 = omega arith in
-    let e2 : octet % 16 / 2 / 2 % 2 ≡ octet / 2 / 2 % 2 = omega arith in
-    let e3 : octet % 16 / 2 / 2 / 2 % 2 ≡ octet / 2 / 2 / 2 % 2 = omega arith in
-    rw (e0, e1, e2, e3) refl
+low-four octet = grind (arith)
 
 -- those of an octet are its low four and its high four
 pub octet-fours : (octet : ℕ) → low_bits 4 (octet % 16) ++ low_bits 4 (octet / 16) ≡ octet_bits octet
@@ -91,13 +55,7 @@ octet-fours octet =
 pub heard-quiet : (start now : FolderState) (l next : Listening) (bits later : List Bool) → Heard start now l bits
     → DeframerStands next.deframer later → pieces_of later ≡ pieces_of bits → next.sender ≡ l.sender → next.pieces ≡ l.pieces
     → Heard start now next later
-heard-quiet start now l next bits later h stands same sender pieces = record {
-  stands = stands;
-  lines = h.lines;
-  are_lines = subst (λ (p : Role × List Found). AreLines p.0 p.1 h.lines) (λ i. (sym sender i, sym same i)) h.are_lines;
-  said = h.said;
-  count = pieces ∙ h.count ∙ sym (ap length same);
-}
+heard-quiet start now l next bits later h stands same sender pieces = grind (arith)
 
 piece-more : (bits : List Bool) (bit : Bool) (piece : Piece) (f : FoundThere (bits ++ bit ∷ []) piece)
     → pieces_of (bits ++ bit ∷ []) ≡ pieces_of bits ++ f.found ∷ []
@@ -148,14 +106,7 @@ left-some start now new l next bits bit piece line h f is stands sender pieces s
 -- of more bits too some were heard
 pub partly-longer : (start now : FolderState) (sender : Role) (bits more all : List Bool) → bits ++ more ≡ all
     → PartlyHeard start now sender bits → PartlyHeard start now sender all
-partly-longer start now sender bits more all e h = record {
-  heard = h.heard;
-  rest = h.rest ++ more;
-  bits_are = sym e ∙ ap (λ xs. xs ++ more) h.bits_are ∙ append_assoc h.heard h.rest more;
-  lines = h.lines;
-  are_lines = h.are_lines;
-  said = h.said;
-}
+partly-longer start now sender bits more all e h = grind (arith, append_assoc)
 
 -- a fault leaves the listener at some of more bits too
 pub left-longer : (start now : FolderState) (l : Listening) (bits more all : List Bool) → bits ++ more ≡ all → LeftAt start now l bits
@@ -183,11 +134,7 @@ octets-left octets i = sym (bits_of-append (take i octets) (drop i octets)) ∙ 
 
 -- nothing more is said
 pub said-nothing : (f : FolderState) → Said f f []
-said-nothing f = go f.said
-  where
-    go : (said : Option (List ℕ)) → said ≡ option_map (λ s. s ++ []) said
-    go None = refl
-    go (Some s) = ap Some (sym (append-nil s))
+said-nothing f = grind (arith, append-nil)
 
 -- a read leaves what was said
 pub said-after : (start old mid : FolderState) (lines : List ℕ) → OnlyReads old mid → Said start old lines → Said start mid lines
@@ -195,14 +142,7 @@ said-after start old mid lines r said = r.said ∙ said
 
 pub heard-after : (start old mid : FolderState) (l : Listening) (bits : List Bool) → OnlyReads old mid → Heard start old l bits
     → Heard start mid l bits
-heard-after start old mid l bits reads h =
-    record {
-      stands = h.stands;
-      lines = h.lines;
-      are_lines = h.are_lines;
-      said = said-after start old mid h.lines reads h.said;
-      count = h.count;
-    }
+heard-after start old mid l bits reads h = grind (arith, said-after)
 
 -- ---- what becomes of a listener and of its folder
 
@@ -217,26 +157,15 @@ pub hears-quiet : (f : FolderState) (l next : Listening) (bits : List Bool)
     → ((past : List Bool) → DeframerStands l.deframer past → DeframerStands next.deframer (past ++ bits))
     → ((past : List Bool) → DeframerStands l.deframer past → pieces_of (past ++ bits) ≡ pieces_of past)
     → next.sender ≡ l.sender → next.pieces ≡ l.pieces → Hears f f l next bits (Ok tt)
-hears-quiet f l next bits stands quiet sender pieces = record {
-  ok = λ start past h. heard-quiet start f l next past (past ++ bits) h (stands past h.stands) (quiet past h.stands) sender pieces;
-  left = λ start past h. tt;
-  only = says-none f;
-  fails = tt;
-  stand = CountsStand-refl f;
-  sender = sender;
-}
+hears-quiet f l next bits stands quiet sender pieces = grind (arith, heard-quiet, says-none)
 
 -- no bits at all
 pub hears-none : (f : FolderState) (l : Listening) → Hears f f l l [] (Ok tt)
-hears-none f l = hears-quiet f l l []
-    (λ past stands. subst (λ (bits : List Bool). DeframerStands l.deframer bits) (sym (append-nil past)) stands)
-    (λ past stands. ap pieces_of (append-nil past)) refl refl
+hears-none f l = grind (arith, hears-quiet, append-nil)
 
 -- a fault behind calls that counted none
 fails-later : (a b c : FolderState) (fault : FolderFault) → CountsStand a b → SayFails b c fault → SayFails a c fault
-fails-later a b c folder.Failed stand fails = subst (λ (count : ℕ). Rose count c.say_faults) stand.faults.says fails
-fails-later a b c folder.NoMemory stand fails =
-    (FaultsStand-trans stand.faults fails.0, subst (λ (count : ℕ). Rose count c.refusals) stand.refusals fails.1)
+fails-later a b c fault stand fails = grind (arith)
 
 -- bits behind bits
 pub hears-on : (a b c : FolderState) (l m n : Listening) (front bits : List Bool) (r : Result (Unit {0}) FolderFault)

@@ -1,9 +1,8 @@
 -- From how a command answers to what every command promises.
-use Rattle.command_base.proofs.Names.{◌≡◌, ◌≢◌, ◌⊎◌, ◌∙◌, ◌≤◌, inl, inr, ℕ, List, [], ◌∷◌, Result, Ok, Err, refl, sym, subst, arith}
-use Rattle.command_base.proofs.Names.{SaysStop, IsRefusal, IsFolderFault, PassesNoneOver, IsOwn, ReadFails, WriteFails, SayFails}
-use Rattle.command_base.proofs.Names.{StopCounts, fault_status, stop_status, Tells, Status, Stop, Own, Read, Write, Say, OnlyOutputs-refl}
-use Rattle.command_base.proofs.Names.{KeepsName-trans, Rose-later, FaultsStand-trans, CountsStand-trans, FolderState, GoesOn, Said, Rose}
-use Rattle.command_base.proofs.Names.{CountsStand, OnlyOutputs, FolderFault}
+use Rattle.command_base.proofs.Names.{◌≡◌, ◌≢◌, ◌⊎◌, ◌≤◌, inl, inr, ℕ, List, [], ◌∷◌, Result, Ok, Err, refl, subst, arith, SaysStop}
+use Rattle.command_base.proofs.Names.{IsRefusal, IsFolderFault, PassesNoneOver, IsOwn, ReadFails, WriteFails, SayFails, StopCounts}
+use Rattle.command_base.proofs.Names.{fault_status, stop_status, Tells, Status, Stop, Own, Read, Write, Say, KeepsName-trans, Rose-later}
+use Rattle.command_base.proofs.Names.{FolderState, GoesOn, Said, Rose, CountsStand, OnlyOutputs, FolderFault}
 use Rattle.outside_calls.specs.declared.folder.FolderFault.TheVariants as folder
 use Rattle.command_base.specs.declared.status.Status.TheVariants as status
 use Rattle.command_base.specs.declared.stop.Stop.TheVariants.{NoMemory}
@@ -13,52 +12,37 @@ use Rattle.command_base.specs.Stops.{EndCounts, end_status}
 use Rattle.command_base.specs.Job.{Job, SaysLast, Answers, Shared}
 use Rattle.command_base.specs.Sound.{NoneRose, IsSound, DoneUnlessMemory}
 use Rattle.outside_calls.proofs.OnlyOutputs.{OnlyOutputs-says}
-use Rattle.outside_calls.proofs.Putting.{SomeRose-earlier, SomeRose-later}
-use Rattle.command_base.proofs.Answering.{IsPlain, done-plain, read-plain, usage-plain, tells-plain, tells-fault, tells-memory}
+use Rattle.outside_calls.proofs.Putting.{SomeRose-later}
+use Rattle.command_base.proofs.Answering.{IsPlain, read-plain, usage-plain, tells-plain, tells-fault, tells-memory}
 use Rattle.command_base.proofs.Answering.{tells-refusal, told-or-memory, stand-later}
 
 -- ---- counts over several steps
 
 pub read-earlier : (old mid new : FolderState) (inputs : List (List ℕ)) (fault : FolderFault) → CountsStand old mid
     → ReadFails mid new inputs fault → ReadFails old new inputs fault
-read-earlier old mid new inputs folder.Failed stand fails = SomeRose-earlier _ _ _ inputs stand.faults.reads fails
-read-earlier old mid new inputs folder.NoMemory stand fails =
-    (FaultsStand-trans stand.faults fails.0, subst (λ (count : ℕ). Rose count new.refusals) stand.refusals fails.1)
+read-earlier old mid new inputs fault stand fails = grind (arith)
 
 pub write-earlier : (old mid new : FolderState) (outputs : List (List ℕ)) (fault : FolderFault) → CountsStand old mid
     → WriteFails mid new outputs fault → WriteFails old new outputs fault
-write-earlier old mid new outputs folder.Failed stand fails = SomeRose-earlier _ _ _ outputs stand.faults.writes fails
-write-earlier old mid new outputs folder.NoMemory stand fails =
-    (FaultsStand-trans stand.faults fails.0, subst (λ (count : ℕ). Rose count new.refusals) stand.refusals fails.1)
+write-earlier old mid new outputs fault stand fails = grind (arith)
 
 say-earlier : (old mid new : FolderState) (fault : FolderFault) → CountsStand old mid → SayFails mid new fault → SayFails old new fault
-say-earlier old mid new folder.Failed stand fails = subst (λ (count : ℕ). Rose count new.say_faults) stand.faults.says fails
-say-earlier old mid new folder.NoMemory stand fails =
-    (FaultsStand-trans stand.faults fails.0, subst (λ (count : ℕ). Rose count new.refusals) stand.refusals fails.1)
+say-earlier old mid new fault stand fails = grind (arith)
 
 -- steps that counted nothing come before the one that stops the job
 pub stop-earlier : (old mid new : FolderState) (inputs outputs : List (List ℕ)) (stop : Stop) → CountsStand old mid
     → StopCounts mid new inputs outputs stop → StopCounts old new inputs outputs stop
-stop-earlier old mid new inputs outputs (Own answer) stand counts = (counts.0, CountsStand-trans stand counts.1)
-stop-earlier old mid new inputs outputs (Read fault) stand counts = read-earlier old mid new inputs fault stand counts
-stop-earlier old mid new inputs outputs (Write fault) stand counts = write-earlier old mid new outputs fault stand counts
-stop-earlier old mid new inputs outputs (Say fault) stand counts = say-earlier old mid new fault stand counts
-stop-earlier old mid new inputs outputs NoMemory stand counts = FaultsStand-trans stand.faults counts
+stop-earlier old mid new inputs outputs stop stand counts = grind (arith, read-earlier, write-earlier, say-earlier)
 
 -- or before the octets of a file are not held
 pub hold-earlier : (old mid new : FolderState) (name : List ℕ) (stop : Stop) → CountsStand old mid → FailsToHold mid new name stop
     → FailsToHold old new name stop
-hold-earlier old mid new name (Own answer) stand never = never
-hold-earlier old mid new name (Read fault) stand fails = read-earlier old mid new (name ∷ []) fault stand fails
-hold-earlier old mid new name (Write fault) stand never = never
-hold-earlier old mid new name (Say fault) stand never = never
-hold-earlier old mid new name NoMemory stand fails = FaultsStand-trans stand.faults fails
+hold-earlier old mid new name stop stand never = grind (arith, read-earlier)
 
 -- or before all that is left of it
 pub end-earlier : {D : Type 0} (old mid new : FolderState) (inputs outputs : List (List ℕ)) (end : Result D Stop) → CountsStand old mid
     → EndCounts mid new inputs outputs end → EndCounts old new inputs outputs end
-end-earlier old mid new inputs outputs (Ok done) stand counts = CountsStand-trans stand counts
-end-earlier old mid new inputs outputs (Err stop) stand counts = stop-earlier old mid new inputs outputs stop stand counts
+end-earlier old mid new inputs outputs end stand counts = grind (arith, stop-earlier)
 
 -- ---- from a job and its line to the answer
 
@@ -98,79 +82,45 @@ says-only before new line answer s t = OnlyOutputs-says [] t.only
 -- it changes no name
 pub last-only : {D : Type 0} (line_of : D → List ℕ) (words : List (List ℕ)) (before new : FolderState) (end : Result D Stop) (s : Status)
     → SaysLast line_of words before new end s → OnlyOutputs before new []
-last-only line_of words before new (Ok done) s t = says-only before new _ _ s t
-last-only line_of words before new (Err (Own answer)) s t = says-only before new _ _ s t
-last-only line_of words before new (Err (Read fault)) s t = says-only before new _ _ s t
-last-only line_of words before new (Err (Write fault)) s t = says-only before new _ _ s t
-last-only line_of words before new (Err (Say fault)) s t =
-    subst (λ (f : FolderState). OnlyOutputs before f []) (sym t.0) (OnlyOutputs-refl before [])
-last-only line_of words before new (Err NoMemory) s t = says-only before new _ _ s t
+last-only line_of words before new end s t = grind (arith, says-only)
 
 -- an answer that no fault in saying gives is that of the job's end
 pub last-plain : {D : Type 0} (line_of : D → List ℕ) (words : List (List ℕ)) (before new : FolderState) (end : Result D Stop) (s t : Status)
     → SaysLast line_of words before new end s → s ≡ t → IsPlain t → end_status end ≡ t
-last-plain line_of words before new (Ok done) s t l e p = (tells-plain before new _ _ s t l e p).0
-last-plain line_of words before new (Err (Own answer)) s t l e p = (tells-plain before new _ _ s t l e p).0
-last-plain line_of words before new (Err (Read fault)) s t l e p = (tells-plain before new _ _ s t l e p).0
-last-plain line_of words before new (Err (Write fault)) s t l e p = (tells-plain before new _ _ s t l e p).0
-last-plain line_of words before new (Err (Say fault)) s t l e p = sym l.1 ∙ e
-last-plain line_of words before new (Err NoMemory) s t l e p = (tells-plain before new _ _ s t l e p).0
+last-plain line_of words before new end s t l e p = grind (arith, tells-plain)
 
 -- a write fault is the job's, or comes of saying
 last-fault : {D : Type 0} (line_of : D → List ℕ) (words : List (List ℕ)) (before new : FolderState) (end : Result D Stop) (s : Status)
     → SaysLast line_of words before new end s → s ≡ status.WriteFault →
     (end_status end ≡ status.WriteFault) ⊎ Rose before.say_faults new.say_faults
-last-fault line_of words before new (Ok done) s l e = tells-fault before new _ _ s l e
-last-fault line_of words before new (Err (Own answer)) s l e = tells-fault before new _ _ s l e
-last-fault line_of words before new (Err (Read fault)) s l e = tells-fault before new _ _ s l e
-last-fault line_of words before new (Err (Write fault)) s l e = tells-fault before new _ _ s l e
-last-fault line_of words before new (Err (Say fault)) s l e = inl (sym l.1 ∙ e)
-last-fault line_of words before new (Err NoMemory) s l e = tells-fault before new _ _ s l e
+last-fault line_of words before new end s l e = grind (arith, tells-fault)
 
 last-refusal : {D : Type 0} (line_of : D → List ℕ) (words : List (List ℕ)) (before new : FolderState) (end : Result D Stop) (s : Status)
     → SaysLast line_of words before new end s → IsRefusal s → IsRefusal (end_status end)
-last-refusal line_of words before new (Ok done) s l r = tells-refusal before new _ _ s l r
-last-refusal line_of words before new (Err (Own answer)) s l r = tells-refusal before new _ _ s l r
-last-refusal line_of words before new (Err (Read fault)) s l r = tells-refusal before new _ _ s l r
-last-refusal line_of words before new (Err (Write fault)) s l r = tells-refusal before new _ _ s l r
-last-refusal line_of words before new (Err (Say fault)) s l r = subst IsRefusal l.1 r
-last-refusal line_of words before new (Err NoMemory) s l r = tells-refusal before new _ _ s l r
+last-refusal line_of words before new end s l r = grind (arith, tells-refusal)
 
 -- where saying doesn't fail the answer is that of the job's end, or there was no memory
 last-or-memory : {D : Type 0} (line_of : D → List ℕ) (words : List (List ℕ)) (old before new : FolderState) (end : Result D Stop)
     (s : Status) → GoesOn old before → (Rose old.say_faults new.say_faults → ⊥) →
     SaysLast line_of words before new end s → (s ≡ end_status end) ⊎ (s ≡ status.NoMemory)
-last-or-memory line_of words old before new (Ok done) s on still l = told-or-memory old before new _ _ s on still l
-last-or-memory line_of words old before new (Err (Own answer)) s on still l = told-or-memory old before new _ _ s on still l
-last-or-memory line_of words old before new (Err (Read fault)) s on still l = told-or-memory old before new _ _ s on still l
-last-or-memory line_of words old before new (Err (Write fault)) s on still l = told-or-memory old before new _ _ s on still l
-last-or-memory line_of words old before new (Err (Say fault)) s on still l = inl l.1
-last-or-memory line_of words old before new (Err NoMemory) s on still l = told-or-memory old before new _ _ s on still l
+last-or-memory line_of words old before new end s on still l = grind (arith, told-or-memory)
 
 -- ---- what the counts say of an answer
 
 fault-fault : (failed : Status) (fault : FolderFault) → IsFolderFault failed → IsFolderFault (fault_status failed fault)
-fault-fault failed folder.Failed f = f
-fault-fault failed folder.NoMemory f = tt
+fault-fault failed fault f = grind (arith)
 
 end-stand : {D : Type 0} (old new : FolderState) (inputs outputs : List (List ℕ)) (end : Result D Stop)
     → EndCounts old new inputs outputs end → PassesNoneOver old new (end_status end)
-end-stand old new inputs outputs (Ok done) counts = inr counts
-end-stand old new inputs outputs (Err (Own answer)) counts = inr counts.1
-end-stand old new inputs outputs (Err (Read fault)) counts = inl (fault-fault status.ReadFault fault tt)
-end-stand old new inputs outputs (Err (Write fault)) counts = inl (fault-fault status.WriteFault fault tt)
-end-stand old new inputs outputs (Err (Say fault)) counts = inl (fault-fault status.WriteFault fault tt)
-end-stand old new inputs outputs (Err NoMemory) counts = inl tt
+end-stand old new inputs outputs end counts = grind (arith, fault-fault)
 
 last-stand : {D : Type 0} (line_of : D → List ℕ) (words : List (List ℕ)) (old before new : FolderState) (end : Result D Stop) (s : Status)
-    → PassesNoneOver old before (end_status end) → SaysLast line_of words before new end s →
-    PassesNoneOver old new s
+    → PassesNoneOver old before (end_status end) → SaysLast line_of words before new end s → PassesNoneOver old new s
 last-stand line_of words old before new (Ok done) s first l = stand-later old before new _ _ s first l
 last-stand line_of words old before new (Err (Own answer)) s first l = stand-later old before new _ _ s first l
 last-stand line_of words old before new (Err (Read fault)) s first l = stand-later old before new _ _ s first l
 last-stand line_of words old before new (Err (Write fault)) s first l = stand-later old before new _ _ s first l
-last-stand line_of words old before new (Err (Say fault)) s first l =
-    inl (subst IsFolderFault (sym l.1) (fault-fault status.WriteFault fault tt))
+last-stand line_of words old before new (Err (Say fault)) s first l = grind (arith, fault-fault)
 last-stand line_of words old before new (Err NoMemory) s first l = stand-later old before new _ _ s first l
 
 own-read : (answer : Status) → IsOwn answer → answer ≡ status.ReadFault → ⊥
@@ -182,62 +132,29 @@ own-write answer own e = subst IsOwn e own
 own-usage : (answer : Status) → IsOwn answer → answer ≡ status.Usage → ⊥
 own-usage answer own e = subst IsOwn e own
 
-own-done : (answer : Status) → IsOwn answer → answer ≡ status.Done → ⊥
-own-done answer own e = subst IsOwn e own
-
 -- a read fault is one of the inputs'
 end-read : {D : Type 0} (old new : FolderState) (inputs outputs : List (List ℕ)) (end : Result D Stop)
     → EndCounts old new inputs outputs end → end_status end ≡ status.ReadFault → SomeRose old.read_faults new.read_faults inputs
-end-read old new inputs outputs (Err (Read folder.Failed)) counts e = counts
-end-read old new inputs outputs (Err (Own answer)) counts e = absurd (own-read answer counts.0 e)
-end-read old new inputs outputs (Ok done) counts e = absurd cc
-end-read old new inputs outputs (Err (Read folder.NoMemory)) counts e = absurd cc
-end-read old new inputs outputs (Err (Write folder.Failed)) counts e = absurd cc
-end-read old new inputs outputs (Err (Write folder.NoMemory)) counts e = absurd cc
-end-read old new inputs outputs (Err (Say folder.Failed)) counts e = absurd cc
-end-read old new inputs outputs (Err (Say folder.NoMemory)) counts e = absurd cc
-end-read old new inputs outputs (Err NoMemory) counts e = absurd cc
+end-read old new inputs outputs end counts e = grind (arith, own-read)
 
 -- a write fault is one of the outputs', or comes of saying
 end-write : {D : Type 0} (old new : FolderState) (inputs outputs : List (List ℕ)) (end : Result D Stop)
     → EndCounts old new inputs outputs end → end_status end ≡ status.WriteFault →
     SomeRose old.write_faults new.write_faults outputs ⊎ Rose old.say_faults new.say_faults
-end-write old new inputs outputs (Err (Write folder.Failed)) counts e = inl counts
-end-write old new inputs outputs (Err (Say folder.Failed)) counts e = inr counts
-end-write old new inputs outputs (Err (Own answer)) counts e = absurd (own-write answer counts.0 e)
-end-write old new inputs outputs (Ok done) counts e = absurd cc
-end-write old new inputs outputs (Err (Read folder.Failed)) counts e = absurd cc
-end-write old new inputs outputs (Err (Read folder.NoMemory)) counts e = absurd cc
-end-write old new inputs outputs (Err (Write folder.NoMemory)) counts e = absurd cc
-end-write old new inputs outputs (Err (Say folder.NoMemory)) counts e = absurd cc
-end-write old new inputs outputs (Err NoMemory) counts e = absurd cc
+end-write old new inputs outputs end counts e = grind (arith, own-write)
 
 -- a job doesn't tell how the program is used
 end-usage : {D : Type 0} (old new : FolderState) (inputs outputs : List (List ℕ)) (end : Result D Stop)
     → EndCounts old new inputs outputs end → end_status end ≢ status.Usage
-end-usage old new inputs outputs (Err (Own answer)) counts e = own-usage answer counts.0 e
-end-usage old new inputs outputs (Ok done) counts e = cc
-end-usage old new inputs outputs (Err (Read folder.Failed)) counts e = cc
-end-usage old new inputs outputs (Err (Read folder.NoMemory)) counts e = cc
-end-usage old new inputs outputs (Err (Write folder.Failed)) counts e = cc
-end-usage old new inputs outputs (Err (Write folder.NoMemory)) counts e = cc
-end-usage old new inputs outputs (Err (Say folder.Failed)) counts e = cc
-end-usage old new inputs outputs (Err (Say folder.NoMemory)) counts e = cc
-end-usage old new inputs outputs (Err NoMemory) counts e = cc
+end-usage old new inputs outputs end counts e = grind (arith, own-usage)
 
 fault-refusal : (failed : Status) (fault : FolderFault) → (IsRefusal failed → ⊥) → IsRefusal (fault_status failed fault) → ⊥
-fault-refusal failed folder.Failed never r = never r
-fault-refusal failed folder.NoMemory never r = r
+fault-refusal failed fault never r = grind (arith)
 
 -- an answer that is a refusal is the command's own
 pub refusal-own : {D : Type 0} (end : Result D Stop) (P : Type 0) → ((answer : Status) → end ≡ Err (Own answer) → IsRefusal answer → P)
     → IsRefusal (end_status end) → P
-refusal-own (Err (Own answer)) P by r = by answer refl r
-refusal-own (Ok done) P by r = absurd r
-refusal-own (Err (Read fault)) P by r = absurd (fault-refusal status.ReadFault fault (λ x. x) r)
-refusal-own (Err (Write fault)) P by r = absurd (fault-refusal status.WriteFault fault (λ x. x) r)
-refusal-own (Err (Say fault)) P by r = absurd (fault-refusal status.WriteFault fault (λ x. x) r)
-refusal-own (Err NoMemory) P by r = absurd r
+refusal-own end P by r = grind (arith, fault-refusal)
 
 -- Where the answer is Done the job is, and its line was said.
 pub record IsDone {D : Type 0} (j : Job D) (old before new : FolderState) : Type 0 where
@@ -248,20 +165,7 @@ pub record IsDone {D : Type 0} (j : Job D) (old before new : FolderState) : Type
 done-by : {D : Type 0} (j : Job D) (words : List (List ℕ)) (old before new : FolderState) (end : Result D Stop) (s : Status)
     → j.Ends old before end → EndCounts old before j.inputs j.outputs end →
     SaysLast j.line_of words before new end s → s ≡ status.Done → IsDone j old before new
-done-by j words old before new (Ok done) s ends counts l e =
-    record { done = done; ends = ends; said = (tells-plain before new _ _ s status.Done l e done-plain).1 }
-done-by j words old before new (Err stop) s ends counts l e =
-    absurd (never stop counts (last-plain j.line_of words before new (Err stop) s status.Done l e done-plain))
-  where
-    never : (stop : Stop) → StopCounts old before j.inputs j.outputs stop → stop_status stop ≡ status.Done → ⊥
-    never (Own answer) counts e = own-done answer counts.0 e
-    never (Read folder.Failed) counts e = cc
-    never (Read folder.NoMemory) counts e = cc
-    never (Write folder.Failed) counts e = cc
-    never (Write folder.NoMemory) counts e = cc
-    never (Say folder.Failed) counts e = cc
-    never (Say folder.NoMemory) counts e = cc
-    never NoMemory counts e = cc
+done-by j words old before new end s ends counts l e = grind (arith)
 
 pub done-of : {D : Type 0} (j : Job D) (words : List (List ℕ)) (old new : FolderState) (s : Status) (a : Answers j words old new s)
     → s ≡ status.Done → IsDone j old a.before new
@@ -270,42 +174,18 @@ done-of j words old new s a e = done-by j words old a.before new a.end s a.ends 
 -- want of memory is the folder's, or the job's own
 last-memory : {D : Type 0} (line_of : D → List ℕ) (words : List (List ℕ)) (before new : FolderState) (end : Result D Stop) (s : Status)
     → SaysLast line_of words before new end s → s ≡ status.NoMemory → (end_status end ≡ status.NoMemory) ⊎ Rose before.refusals new.refusals
-last-memory line_of words before new (Ok done) s l e = tells-memory before new _ _ s l e
-last-memory line_of words before new (Err (Own answer)) s l e = tells-memory before new _ _ s l e
-last-memory line_of words before new (Err (Read fault)) s l e = tells-memory before new _ _ s l e
-last-memory line_of words before new (Err (Write fault)) s l e = tells-memory before new _ _ s l e
-last-memory line_of words before new (Err (Say fault)) s l e = inl (sym l.1 ∙ e)
-last-memory line_of words before new (Err NoMemory) s l e = tells-memory before new _ _ s l e
+last-memory line_of words before new end s l e = grind (arith, tells-memory)
 
 own-memory : (answer : Status) → IsOwn answer → answer ≡ status.NoMemory → ⊥
 own-memory answer own e = subst IsOwn e own
 
 end-memory : {D : Type 0} (old new : FolderState) (inputs outputs : List (List ℕ)) (end : Result D Stop)
-    → EndCounts old new inputs outputs end
-    → end_status end ≡ status.NoMemory → (end ≡ Err NoMemory) ⊎ Rose old.refusals new.refusals
-end-memory old new inputs outputs (Err NoMemory) counts e = inl refl
-end-memory old new inputs outputs (Err (Read folder.NoMemory)) counts e = inr counts.1
-end-memory old new inputs outputs (Err (Write folder.NoMemory)) counts e = inr counts.1
-end-memory old new inputs outputs (Err (Say folder.NoMemory)) counts e = inr counts.1
-end-memory old new inputs outputs (Err (Own answer)) counts e = absurd (own-memory answer counts.0 e)
-end-memory old new inputs outputs (Ok done) counts e = absurd cc
-end-memory old new inputs outputs (Err (Read folder.Failed)) counts e = absurd cc
-end-memory old new inputs outputs (Err (Write folder.Failed)) counts e = absurd cc
-end-memory old new inputs outputs (Err (Say folder.Failed)) counts e = absurd cc
+    → EndCounts old new inputs outputs end → end_status end ≡ status.NoMemory → (end ≡ Err NoMemory) ⊎ Rose old.refusals new.refusals
+end-memory old new inputs outputs end counts e = grind (arith, own-memory)
 
 memory-of : {D : Type 0} (j : Job D) (words : List (List ℕ)) (old new : FolderState) (s : Status) (a : Answers j words old new s)
     → (j.Ends old a.before (Err NoMemory) → KeepsAll old a.before) → s ≡ status.NoMemory → Rose old.refusals new.refusals ⊎ KeepsAll old new
-memory-of j words old new s a keeps e = elim (last-memory j.line_of words a.before new a.end s a.says e) [
-  | inl own ↦ elim (end-memory old a.before j.inputs j.outputs a.end a.counts own) [
-    | inl is ↦ inr (λ name. KeepsName-trans old a.before new name a.only.goes_on
-        (keeps (subst (j.Ends old a.before) is a.ends) name) (last.names name tt))
-    | inr rose ↦ inl (Rose-later _ _ a.before.refusals new.refusals (omega arith) rose last.goes_on.refused)
-  ]
-  | inr rose ↦ inl (Rose-later old.refusals a.before.refusals new.refusals new.refusals a.only.goes_on.refused rose (omega arith))
-]
-  where
-    last : OnlyOutputs a.before new []
-    last = last-only j.line_of words a.before new a.end s a.says
+memory-of j words old new s a keeps e = grind (arith, last-memory, end-memory, last-only)
 
 -- From how a command answers to what every command promises, where it stops for want of memory of its own before any name has changed.
 pub shared-of : {D : Type 0} (j : Job D) (words : List (List ℕ)) (old new : FolderState) (s : Status) (a : Answers j words old new s)
@@ -314,9 +194,7 @@ shared-of j words old new s a keeps = record {
   names = λ other apart. KeepsName-trans old a.before new other a.only.goes_on (a.only.names other apart) (last.names other tt);
   refused = λ r name. KeepsName-trans old a.before new name a.only.goes_on
       (a.refused (last-refusal j.line_of words a.before new a.end s a.says r) name) (last.names name tt);
-  read = λ e.
-      SomeRose-later _ _ _ j.inputs last.goes_on.reads
-      (end-read old a.before j.inputs j.outputs a.end a.counts
+  read = λ e. SomeRose-later _ _ _ j.inputs last.goes_on.reads (end-read old a.before j.inputs j.outputs a.end a.counts
       (last-plain j.line_of words a.before new a.end s status.ReadFault a.says e read-plain));
   write = λ e. elim (last-fault j.line_of words a.before new a.end s a.says e) [
     | inl own ↦ elim (end-write old a.before j.inputs j.outputs a.end a.counts own) [
@@ -363,8 +241,7 @@ done-unless-memory {D} j words old new s a sound never =
     by (Err (Read folder.NoMemory)) ends counts e = inr e
     by (Err (Write folder.Failed)) ends counts e = absurd (NoneRose-some _ _ _ j.outputs sound.writes on.writes counts)
     by (Err (Write folder.NoMemory)) ends counts e = inr e
-    by (Err (Say folder.Failed)) ends counts e =
-        absurd (sound.says (Rose-later _ _ a.before.say_faults new.say_faults (omega arith) counts on.says))
+    by (Err (Say folder.Failed)) ends counts e = grind (arith, on)
     by (Err (Say folder.NoMemory)) ends counts e = inr e
     by (Err NoMemory) ends counts e = inr e
 
@@ -391,7 +268,6 @@ comes-to {D} j words old new s a sound = elim (last-or-memory j.line_of words ol
     by (Err (Read folder.NoMemory)) counts e = is_memory e
     by (Err (Write folder.Failed)) counts e = absurd (NoneRose-some _ _ _ j.outputs sound.writes on.writes counts)
     by (Err (Write folder.NoMemory)) counts e = is_memory e
-    by (Err (Say folder.Failed)) counts e =
-        absurd (sound.says (Rose-later _ _ a.before.say_faults new.say_faults (omega arith) counts on.says))
+    by (Err (Say folder.Failed)) counts e = grind (arith, on)
     by (Err (Say folder.NoMemory)) counts e = is_memory e
     by (Err NoMemory) counts e = is_memory e

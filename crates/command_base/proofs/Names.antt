@@ -29,7 +29,7 @@ pub use Rattle.outside_calls.specs.Folder.{CountsStand, FaultsStand, FolderState
 pub use Rattle.outside_calls.specs.Folder.{PartlySaid, Rose, Said, octets_at}
 pub use Rattle.outside_calls.specs.Outputs.{AreApart, CreatesPart, IsNoneOf, OnlyOutputs}
 pub use Rattle.outside_calls.specs.declared.folder.FolderFault.{FolderFault}
-pub use Rattle.outside_calls.specs.declared.folder.FolderFault.TheVariants.{Failed, NoMemory}
+pub use Rattle.outside_calls.specs.declared.folder.FolderFault.TheVariants.{NoMemory}
 pub use Rattle.recordings.specs.Headers.{IsBadHeader}
 pub use Rattle.recordings.specs.Recording.{header_at}
 pub use Rattle.recordings.specs.declared.rate.Rate.{Rate}

@@ -1,5 +1,5 @@
 -- Lines of pieces, one more at a time.
-use Rattle.command_base.proofs.Names.{◌≡◌, ◌∙◌, ℕ, List, [], ◌∷◌, ◌++◌, length, Result, Ok, Err, refl, sym, ap, subst, append-nil}
+use Rattle.command_base.proofs.Names.{arith, ◌≡◌, ◌∙◌, ℕ, List, [], ◌∷◌, ◌++◌, length, Result, Ok, Err, refl, sym, ap, append-nil}
 use Rattle.command_base.proofs.Names.{append_assoc, Found, Piece, IsLine, AreLines, Role}
 use Rattle.std.proofs.Common.{◌↔◌, IfOk}
 use Rattle.frame_check.specs.declared.check.Check.TheVariants.{Sixteen}
@@ -21,12 +21,7 @@ whole-read sender octets (Err checks.BadCheck) ok fault = ((fault checks.BadChec
 pub line-of : (sender : Role) (found : Found) (piece : Piece) (octets : List ℕ) (reading : Reading) (line : List ℕ)
     → found.piece ≡ piece → found.octets ≡ octets → ReadsPiece sender piece octets reading → line ≡ reading_line reading
     → IsLine sender found line
-line-of sender found piece octets reading line p o reads e = record {
-  reading = reading;
-  reads = subst (λ (kind : Piece). ReadsPiece sender kind found.octets reading) (sym p)
-      (subst (λ (items : List ℕ). ReadsPiece sender piece items reading) (sym o) reads);
-  line_is = e;
-}
+line-of sender found piece octets reading line p o reads e = grind (arith)
 
 -- the lines of one piece more
 pub AreLines-more : (sender : Role) (pieces : List Found) (found : Found) (lines line : List ℕ)

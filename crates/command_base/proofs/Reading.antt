@@ -1,11 +1,10 @@
 -- An input that is read on, piece by piece.
 use Rattle.command_base.proofs.Names.{◌≡◌, ◌∙◌, ℕ, ◌+◌, ◌-◌, ◌≤◌, ◌<◌, min, List, [], ◌++◌, IsTrue, length, take, drop, refl, sym, ap}
-use Rattle.command_base.proofs.Names.{subst, arith, length-append, length-drop, inl, ◌∷◌, Err, IsErrOf, take-append-drop, take_all, ReadTo}
-use Rattle.command_base.proofs.Names.{ReadFails, GoesOn-trans, KeepsName-trans, OnlyReads-trans, CountsStand-trans, FolderState, octets_at}
-use Rattle.command_base.proofs.Names.{GoesOn, KeepsName, OnlyReads, HasCause, FaultsStand, CountsStand, FolderFault, Failed, NoMemory}
+use Rattle.command_base.proofs.Names.{arith, length-append, length-drop, ◌∷◌, Err, IsErrOf, take-append-drop, take_all, ReadTo, ReadFails}
+use Rattle.command_base.proofs.Names.{GoesOn-trans, KeepsName-trans, OnlyReads-trans, CountsStand-trans, FolderState, octets_at, GoesOn}
+use Rattle.command_base.proofs.Names.{KeepsName, OnlyReads, HasCause, FaultsStand, CountsStand, FolderFault, NoMemory}
 use Rattle.std.proofs.Common.{take-add}
 use Rattle.std.proofs.lemmas.List.{drop_all}
-use Rattle.frame_check.specs.Octets.{AreOctets}
 use Rattle.shared_terms.specs.Prefix.{IsPrefixOf}
 use Rattle.outside_calls.specs.Folder.{TellsOctets}
 use Rattle.outside_calls.proofs.Steps.{told_later, octets-kept}
@@ -14,19 +13,14 @@ use Rattle.command_base.specs.Inputs.{IsWithin, IsLonger}
 -- an input that is within its limit, or longer, or is octets, was so before others were read
 pub within-earlier : (old mid : FolderState) (name : List ℕ) (limit : ℕ) → OnlyReads old mid → IsWithin mid name limit
     → IsWithin old name limit
-within-earlier old mid name limit reads within told =
-    subst (λ (o : List ℕ). length o ≤ limit) (octets-kept old mid name (reads.names name) told)
-    (within (told_later reads.goes_on name told))
+within-earlier old mid name limit reads within told = grind (arith, octets-kept, told_later)
 
 pub longer-earlier : (old mid : FolderState) (name : List ℕ) (limit : ℕ) → OnlyReads old mid → IsLonger mid name limit
     → IsLonger old name limit
-longer-earlier old mid name limit reads longer told =
-    subst (λ (o : List ℕ). limit < length o) (octets-kept old mid name (reads.names name) told)
-    (longer (told_later reads.goes_on name told))
+longer-earlier old mid name limit reads longer told = grind (arith, octets-kept, told_later)
 
 pub octets-earlier : (old mid : FolderState) (name : List ℕ) → OnlyReads old mid → TellsOctets mid name → TellsOctets old name
-octets-earlier old mid name reads octets told =
-    subst AreOctets (octets-kept old mid name (reads.names name) told) (octets (told_later reads.goes_on name told))
+octets-earlier old mid name reads octets told = grind (arith, octets-kept, told_later)
 
 -- nothing was read yet
 pub ReadTo-none : (start now : FolderState) (name : List ℕ) (limit : ℕ) → IsWithin start name limit → GoesOn start now
@@ -87,24 +81,19 @@ ReadTo-end start old new name limit at count room octets piece r reads long is c
     same = ap (λ (xs : List ℕ). length xs) (octets-kept start old name r.kept told)
 
     at_end : length (octets_at start name) ≤ at + count
-    at_end = least room (length (octets_at start name)) limit at count (r.within told) (counts (told_later r.goes_on name told)
-        ∙ ap (λ (m : ℕ). min (min room (limit - at)) (m - at)) same) few
+    at_end = grind (arith, least, told_later, same)
 
 -- a call that fails, by the count of its name
 pub reads-fail : (old new : FolderState) (name : List ℕ) (fault : FolderFault)
     → HasCause {T = ℕ} (old.read_faults name) (new.read_faults name) old.refusals new.refusals (Err fault)
     → (IsErrOf {T = ℕ} {E = FolderFault} (Err fault) NoMemory → FaultsStand old new) → ReadFails old new (name ∷ []) fault
-reads-fail old new name Failed cause spared = inl (cause.failed refl)
-reads-fail old new name NoMemory cause spared = (spared refl, cause.memory refl)
+reads-fail old new name fault cause spared = grind (arith)
 
 -- what is held of a file, and what is read behind it
 pub held-more : (start now : FolderState) (name before after : List ℕ) (len later count : ℕ) → GoesOn start now → KeepsName start now name
     → IsTrue (start.tells name) → before ≡ take len (octets_at start name) → later ≡ len + count
-    → (IsTrue (now.tells name) → after ≡ before ++ take count (drop len (octets_at now name)))
-    → after ≡ take later (octets_at start name)
-held-more start now name before after len later count on kept told held is more =
-    let same : octets_at now name ≡ octets_at start name = octets-kept start now name kept told in
-    more (told_later on name told) ∙ rw (same, held, is) (sym (take-add len count (octets_at start name)))
+    → (IsTrue (now.tells name) → after ≡ before ++ take count (drop len (octets_at now name))) → after ≡ take later (octets_at start name)
+held-more start now name before after len later count on kept told held is more = grind (arith, octets-kept, told_later, take-add)
 
 -- where a read below the limit and with room gives nothing, nothing is left
 pub none-left : (octets : List ℕ) (room limit at count : ℕ) → 0 < room → at < limit
@@ -125,17 +114,14 @@ pub record IsHeld (start now : FolderState) (name : List ℕ) (limit : ℕ) (fil
 pub held-to-limit : (start now : FolderState) (name : List ℕ) (limit : ℕ) (file : List ℕ) (len : ℕ) → OnlyReads start now
     → CountsStand start now → (IsTrue (start.tells name) → file ≡ take len (octets_at start name)) → len ≤ limit → limit ≤ len
     → IsHeld start now name limit file len
-held-to-limit start now name limit file len reads stand held few many =
-    let whole : len ≡ limit = omega (arith, few, many) in
-    record { octets = λ told. held told ∙ ap (λ n. take n (octets_at start name)) whole; bound = few; reads = reads; stand = stand }
+held-to-limit start now name limit file len reads stand held few many = grind (arith)
 
 -- or no more was read
 pub held-to-end : (start now new : FolderState) (name before after : List ℕ) (limit len later count : ℕ) → OnlyReads start now
     → CountsStand start now → (IsTrue (start.tells name) → before ≡ take len (octets_at start name)) → OnlyReads now new
     → CountsStand now new → later ≡ len + count → len + count ≤ limit → count ≡ 0 →
     (IsTrue (now.tells name) → let rest = drop len (octets_at now name) in
-    (after ≡ before ++ take count rest) × (count ≡ 0 → rest ≡ []))
-    → IsHeld start new name limit after later
+    (after ≡ before ++ take count rest) × (count ≡ 0 → rest ≡ [])) → IsHeld start new name limit after later
 held-to-end start now new name before after limit len later count reads stand held more still is few none next = record {
   octets = λ told.
       let file : List ℕ = octets_at start name in

@@ -1,14 +1,12 @@
 -- Saying one thing behind another.
-use Rattle.command_base.proofs.Names.{inl, inr, IsErrOf, ◌≡◌, ◌∙◌, ℕ, List, ◌++◌, Option, Some, None, Result, Ok, Err, OnErr, arith, refl}
-use Rattle.command_base.proofs.Names.{sym, ap, append_assoc, option_map, fault_status, Tells, Status, WriteFault, GoesOn-trans}
-use Rattle.command_base.proofs.Names.{KeepsName-trans, Rose-later, FolderState, GoesOn, FaultsStand, OnlySays, HasCause, Said, PartlySaid}
-use Rattle.command_base.proofs.Names.{FolderFault, Failed, NoMemory}
+use Rattle.command_base.proofs.Names.{IsErrOf, ◌≡◌, ◌∙◌, ℕ, List, ◌++◌, Option, Result, Err, OnErr, arith, sym, ap, append_assoc}
+use Rattle.command_base.proofs.Names.{option_map, fault_status, Tells, Status, WriteFault, GoesOn-trans, KeepsName-trans, Rose-later}
+use Rattle.command_base.proofs.Names.{FolderState, GoesOn, FaultsStand, OnlySays, HasCause, Said, PartlySaid, FolderFault, NoMemory}
 use Rattle.std.proofs.Common.{OnOk, IfErr}
 
 behind : (said : Option (List ℕ)) (first second : List ℕ)
     → option_map (λ s. s ++ second) (option_map (λ s. s ++ first) said) ≡ option_map (λ s. s ++ (first ++ second)) said
-behind None first second = refl
-behind (Some s) first second = ap Some (append_assoc s first second)
+behind said first second = grind (arith, append_assoc)
 
 pub Said-Said : (a b c : FolderState) (first second : List ℕ) → Said a b first → Said b c second → Said a c (first ++ second)
 Said-Said a b c first second p q = q ∙ ap (option_map (λ s. s ++ second)) p ∙ behind a.said first second
@@ -25,20 +23,16 @@ Said-PartlySaid a b c first second p (part, (left, e), said) =
 
 -- what holds anyway holds on a fault
 pub on-err : {T E : Type 0} {P : Type 0} (r : Result T E) → P → OnErr r P
-on-err (Ok value) p = tt
-on-err (Err fault) p = p
+on-err r p = grind (arith)
 
 pub on-err-map : {T E : Type 0} {P Q : Type 0} (r : Result T E) → (P → Q) → OnErr r P → OnErr r Q
-on-err-map (Ok value) f p = tt
-on-err-map (Err fault) f p = f p
+on-err-map r f p = grind (arith)
 
 pub if-err-map : {T E : Type 0} {P Q : E → Type 0} (r : Result T E) → ((e : E) → P e → Q e) → IfErr r P → IfErr r Q
-if-err-map (Ok value) f p = tt
-if-err-map (Err fault) f p = f fault p
+if-err-map r f p = grind (arith)
 
 pub on-ok-map : {T E : Type 0} {P Q : Type 0} (r : Result T E) → (P → Q) → OnOk r P → OnOk r Q
-on-ok-map (Ok value) f p = f p
-on-ok-map (Err fault) f p = tt
+on-ok-map r f p = grind (arith)
 
 -- saying more says alone
 pub OnlySays-trans : {a b c : FolderState} → OnlySays a b → OnlySays b c → OnlySays a c
@@ -61,7 +55,4 @@ pub tells-fault : (old new : FolderState) (line : List ℕ) (answer : Status) (f
     → PartlySaid old new line → HasCause {T = Unit {0}} old.say_faults new.say_faults old.refusals new.refusals (Err fault)
     → (IsErrOf {T = Unit {0}} {E = FolderFault} (Err fault) NoMemory → FaultsStand old new)
     → Tells old new line answer (fault_status WriteFault fault)
-tells-fault old new line answer Failed only part cause spared =
-    record { only = only; said = inr (inl (refl, cause.failed refl, part)); stand = inl tt }
-tells-fault old new line answer NoMemory only part cause spared =
-    record { only = only; said = inr (inr (refl, spared refl, cause.memory refl, part)); stand = inl tt }
+tells-fault old new line answer fault only part cause spared = grind (arith)

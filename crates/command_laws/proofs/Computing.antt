@@ -34,8 +34,7 @@ use Rattle.command_laws.specs.Worked.Rows.{PairEndsSo}
 use Rattle.command_laws.specs.Worked.Rows.{RowsHold}
 
 -- what crosses a way is what is to be heard
-crossed : (lose : Bool) (check-slot : Spoken) (s : Sent)
-    → cond (has_message s) (cond lose (Lost s) (Passed s)) Nothing ≡ unhindered lose s
+crossed : (lose : Bool) (check-slot : Spoken) (s : Sent) → cond (has_message s) (cond lose (Lost s) (Passed s)) Nothing ≡ unhindered lose s
 crossed lose slot slots.Mark = refl
 crossed lose slot slots.Flags = refl
 crossed lose slot slots.Odp = refl
@@ -100,8 +99,7 @@ LastDue script ts None = Unit {0}
 LastDue script ts (Some t) = TurnDue script ts t
 
 made-due : (count : ℕ) (link : Link) (script : ScriptValue) (ts : List Turn) (ends : Accounts) (n : Next) → AllDue script ts
-    → NextDue script ts n
-    → AllDue script (made count link (way_of script) ts ends n).turns
+    → NextDue script ts n → AllDue script (made count link (way_of script) ts ends n).turns
     × LastDue script (made count link (way_of script) ts ends n).turns (made count link (way_of script) ts ends n).last
 made-due zero link script ts ends n h k = (h, tt)
 made-due (suc count) link script ts ends (Goes t later) h k =
@@ -112,8 +110,7 @@ made-due (suc count) link script ts ends Stops h k = (h, tt)
 -- so it is heard on the line of samples
 due-in : IsolationLaws → (script : ScriptValue) (files : Both (List ℕ)) → MaySend script files → (ts : List Turn) (ends : Accounts)
     → LineRun (wire_of script) (link_of script files) ts ends → (t : Turn) (mid : Accounts) → Hears (length ts) ends t mid
-    → TurnDue script ts t
-    → HeardIn (wire_of script) ts t
+    → TurnDue script ts t → HeardIn (wire_of script) ts t
 due-in laws script files m ts ends r t mid h k role = record {
   heard_of = subst (IsHeardOf (wire_of script) (other role) ts (of role t).check) (sym (k role))
       (subst (λ z. IsHeardOf (wire_of script) (other role) ts z (due script (other role) ts)) (sym (h role).check_is)

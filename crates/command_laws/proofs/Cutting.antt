@@ -1,18 +1,17 @@
 -- The frames of slots of which the first bits aren't heard.
-use Rattle.command_laws.proofs.Names.{◌≡◌, ◌⊎◌, inl, inr, ℕ, ◌+◌, ◌-◌, ◌*◌, ◌<◌, ◌≤◌, Bool, true, false, List, [], ◌∷◌, ◌++◌, All, length}
-use Rattle.command_laws.proofs.Names.{map, take, drop, Some, None, arith, length-append, refl, sym, ◌∙◌, ap, subst, append-nil, map-append}
+use Rattle.command_laws.proofs.Names.{◌≡◌, ◌⊎◌, inl, inr, ℕ, ◌+◌, ◌-◌, ◌*◌, ◌<◌, ◌≤◌, Bool, false, List, [], ◌∷◌, ◌++◌, All, length, map}
+use Rattle.command_laws.proofs.Names.{take, drop, Some, None, arith, length-append, refl, sym, ◌∙◌, ap, subst, append-nil, map-append}
 use Rattle.command_laws.proofs.Names.{take-append-drop, All-nil, All-cons, All-head, All-tail, Found, pieces_of, wholes, AreWholeOrAborted}
 use Rattle.command_laws.proofs.Names.{Plain, Flags, LastPiecesAreFound, Piece, HEAD, TAIL, Signal, slot_of, slots_of, signal_bits, AreFit}
 use Rattle.command_laws.proofs.Names.{IsPrefixOf}
 use Rattle.std.proofs.Common.{min, append_assoc}
 use Rattle.std.proofs.lemmas.List.{length-take, get_or-append-add, get_or_append_left}
-use Rattle.std.proofs.lemmas.Grind.{common_steps}
 use Rattle.std.proofs.lemmas.List.Elements.{All-append, All-weaker}
-use Rattle.bit_stuffing.specs.declared.piece.Piece.TheVariants.{Whole, Ragged, Aborted, TooLong, TooShort}
+use Rattle.bit_stuffing.specs.declared.piece.Piece.TheVariants.{Whole, Aborted}
 use Rattle.bit_stuffing.specs.Flags.{bit_of, flag, FlagEndsAt}
 use Rattle.bit_stuffing.specs.Slots.{flags, fill, rest_of_flag, framed, opening, slot_bits, sent_bits, next_phase, phase_from}
 use Rattle.bit_stuffing.specs.Slots.{phase_after, flags_behind, AreSlots}
-use Rattle.bit_stuffing.specs.Sent.{Added, FoundIn, whole_at, aborted_at, octets_if_whole}
+use Rattle.bit_stuffing.specs.Sent.{Added, FoundIn, whole_at, octets_if_whole}
 use Rattle.bit_stuffing.specs.Tails.{behind, Misses}
 use Rattle.bit_stuffing.proofs.Found.{pieces-none}
 use Rattle.bit_stuffing.proofs.Sent.{found-is-sent, pieces-stay}
@@ -42,11 +41,7 @@ none-whole (x ∷ xs) h =
     ∙ ap (λ t. t ++ []) (each x.piece refl)
   where
     each : (piece : Piece) → x.piece ≡ piece → octets_if_whole piece x.octets ≡ []
-    each Whole e = absurd (All-head (λ found. found.piece ≡ Whole → ⊥) x xs h e)
-    each Ragged e = refl
-    each Aborted e = refl
-    each TooLong e = refl
-    each TooShort e = refl
+    each piece e = grind (arith)
 
 pub All-left : {X : Type 0} (P : X → Type 0) (xs ys : List X) → All P (xs ++ ys) → All P xs
 All-left P [] ys h = All-nil P
@@ -74,8 +69,7 @@ overlap (a ∷ m) x (b ∷ p) q e = by (overlap m x p q cc)
     same = cc
 
     by : Overlap m x p q → Overlap (a ∷ m) x (b ∷ p) q
-    by (inl h) = inl (h.0, ap (λ l. a ∷ l) h.1 ∙ ap (λ y. y ∷ p) same)
-    by (inr h) = inr (h.0, ap (λ l. a ∷ l) h.1 ∙ ap (λ y. y ∷ (p ++ h.0)) same, h.2)
+    by given = grind (arith, same)
 
 -- ---- where whole pieces stand
 
@@ -96,8 +90,7 @@ AllStand all start pieces = All (IfWhole all start) pieces
 stand-longer : (all more : List Bool) (start earlier : ℕ) (pieces : List Found) → earlier ≤ start → AllStand all start pieces
     → AllStand (all ++ more) earlier pieces
 stand-longer all more start earlier pieces l h =
-    All-weaker (IfWhole all start) (IfWhole (all ++ more) earlier)
-    (λ found stands whole. let s = stands whole in record {
+    All-weaker (IfWhole all start) (IfWhole (all ++ more) earlier) (λ found stands whole. let s = stands whole in record {
       flag_end = s.flag_end;
       ends = flag-longer all more s.flag_end s.ends;
       late = omega (arith, s.late, l);
@@ -107,13 +100,10 @@ stand-longer all more start earlier pieces l h =
 
 stand-earlier : (all : List Bool) (start earlier : ℕ) (pieces : List Found) → earlier ≤ start → AllStand all start pieces
     → AllStand all earlier pieces
-stand-earlier all start earlier pieces l h =
-    subst (λ bits. AllStand bits earlier pieces) (append-nil all) (stand-longer all [] start earlier pieces l h)
+stand-earlier all start earlier pieces l h = grind (arith, append-nil, stand-longer)
 
 slot-long : (size count past slot : ℕ) → past ≡ size * count → past + slot ≡ size * (count + 1) → slot ≡ size
-slot-long size count past slot e f =
-    let one : size * (count + 1) ≡ size * count + size = grind (arith, common_steps) in
-    omega (arith, e, f, one)
+slot-long size count past slot e f = grind (arith)
 
 flag-between : (before after : List Bool) → FlagEndsAt (before ++ (flag ++ after)) (length before + 8)
 flag-between before after = record {
@@ -157,29 +147,20 @@ framed-stands size phase past octets room long =
 -- given bits
 plain-stands : (size phase : ℕ) (past bits : List Bool) (flagged : Bool) (added : List Found)
     → FoundIn size (length past) phase flagged (Plain bits) added → AllStand (past ++ bits) (length past) added
-plain-stands size phase past bits false added found =
-    subst (AllStand (past ++ bits) (length past)) (sym found) (All-nil (IfWhole (past ++ bits) (length past)))
-plain-stands size phase past bits true added (place, above, below, e) =
-    subst (AllStand (past ++ bits) (length past)) (sym e)
-    (All-cons (IfWhole (past ++ bits) (length past)) (aborted_at place) [] (λ whole. absurd cc)
-    (All-nil (IfWhole (past ++ bits) (length past))))
+plain-stands size phase past bits flagged added found = grind (arith)
 
 signal-stands : (size phase : ℕ) (past : List Bool) (flagged : Bool) (x : Signal) (added : List Found)
     → Fits size phase x → length (slot_bits size phase (slot_of size x)) ≡ size
     → FoundIn size (length past) phase flagged (slot_of size x) added
     → AllStand (past ++ slot_bits size phase (slot_of size x)) (length past) added
-signal-stands size phase past flagged (FlagSlot None) added fits long found =
-    subst (AllStand (past ++ slot_bits size phase (Flags None)) (length past)) (sym found)
-    (All-nil (IfWhole (past ++ slot_bits size phase (Flags None)) (length past)))
+signal-stands size phase past flagged (FlagSlot None) added fits long found = grind (arith)
 signal-stands size phase past flagged (FlagSlot (Some octets)) added fits long found =
     let slot : List Bool = slot_bits size phase (Flags (Some octets)) in
     subst (AllStand (past ++ slot) (length past)) (sym found)
     (All-cons (IfWhole (past ++ slot) (length past)) (whole_at (length past + length (opening phase (Some octets))) octets) []
     (λ e. framed-stands size phase past octets fits.1 long) (All-nil (IfWhole (past ++ slot) (length past))))
-signal-stands size phase past flagged (PatternSlot seen) added fits long found =
-    plain-stands size phase past (slot_bits size phase (slot_of size (PatternSlot seen))) flagged added found
-signal-stands size phase past flagged MarkSlot added fits long found =
-    plain-stands size phase past (slot_bits size phase (slot_of size MarkSlot)) flagged added found
+signal-stands size phase past flagged (PatternSlot seen) added fits long found = grind (arith, plain-stands)
+signal-stands size phase past flagged MarkSlot added fits long found = grind (arith, plain-stands)
 
 -- ---- the pieces of more slots
 
@@ -316,8 +297,7 @@ module _ (laws : SlotLaws) (tails : LastPiecesAreFound) (size : ℕ) (signals : 
 
   nothing-late : wholes late.0 ≡ []
   nothing-late = none-whole late.0 (All-both (IfWhole bits 0)
-      (λ found. (length heard < found.place) × (found.place ≤ length (heard ++ drop upto bits)))
-      (λ found. found.piece ≡ Whole → ⊥)
+      (λ found. (length heard < found.place) × (found.place ≤ length (heard ++ drop upto bits))) (λ found. found.piece ≡ Whole → ⊥)
       (λ found stands place is. let s = stands is in omega (arith, s.room, place.0, long-heard, few)) late.0
       (All-right (IfWhole bits 0) (map (behind (length first)) (pieces_of rest)) late.0
       (All-right (IfWhole bits 0) missed behind_missed all-stand)) late.1.places)
@@ -376,7 +356,6 @@ module _ (laws : SlotLaws) (tails : LastPiecesAreFound) (size : ℕ) (signals : 
     missed = missed;
     all = ap wholes whole ∙ wholes-append missed behind_missed ∙ ap (λ w. wholes missed ++ w) behind-wholes;
     early = missed-begins;
-    others = λ h. heard-expected (length first) (pieces_of rest)
-        (All-left IsExpected (map (behind (length first)) (pieces_of rest)) late.0
+    others = λ h. heard-expected (length first) (pieces_of rest) (All-left IsExpected (map (behind (length first)) (pieces_of rest)) late.0
         (All-right IsExpected missed behind_missed (subst AreWholeOrAborted whole h)));
   }

@@ -2,7 +2,7 @@
 use Rattle.command_laws.proofs.Names.{◌≡◌, ◌∙◌, inl, inr, ◌⊎◌, ℕ, ◌<◌, ◌≤◌, Bool, List, [], ◌∷◌, ◌++◌, length, slice_index, Some, None}
 use Rattle.command_laws.proofs.Names.{refl, sym, ap, subst, arith, length-append, flat_map, content-same, IsSound, Status, Done, NoMemory}
 use Rattle.command_laws.proofs.Names.{LostIs, AreOctets, octets-held, FolderState, octets_at, mode_number, sample_octets, samples_in, Rate}
-use Rattle.command_laws.proofs.Names.{Trellis, Quarters, tap_of, Mode, Call, Answer, trellis_at, DemodulatesAt, Sample}
+use Rattle.command_laws.proofs.Names.{tap_of, Mode, trellis_at, DemodulatesAt, Sample}
 use Rattle.std.proofs.Common.{append-nil}
 use Rattle.frame_check.specs.Bits.{bits_of}
 use Rattle.frame_check.proofs.BitLists.{length-bits_of, same_octets}
@@ -28,12 +28,7 @@ whole-octets octets others (bit ∷ rest) are also e few =
     absurd (omega (arith, ap length e, length-append (bits_of others) (bit ∷ rest), length-bits_of octets, length-bits_of others))
 
 mode-same : (rate : Rate) (a b : Mode) → mode_number rate a ≡ mode_number rate b → a ≡ b
-mode-same rate Call Call e = refl
-mode-same rate Answer Answer e = refl
-mode-same Trellis Call Answer e = absurd cc
-mode-same Trellis Answer Call e = absurd cc
-mode-same Quarters Call Answer e = absurd cc
-mode-same Quarters Answer Call e = absurd cc
+mode-same rate a b e = grind (arith)
 
 -- a decoding of a recording of octets gives the octets
 decoded-same : (rate : Rate) (mode : Mode) (octets recording others : List ℕ) (count : ℕ) → AreOctets octets
@@ -89,8 +84,7 @@ module _ (laws : SentLaws) (n : EncodeNames) (m : DecodeNames) (old mid was then
             subst (λ (xs : List ℕ). decode.IsDecoding m.rate xs left.0) is left.2 in
             inl (
               done,
-              left.1 ∙ ap Some (decoded-same m.rate n.mode (octets_at old n.file) recording left.0 count are.file_octets r sent
-                  decoded),
+              left.1 ∙ ap Some (decoded-same m.rate n.mode (octets_at old n.file) recording left.0 count are.file_octets r sent decoded),
             )
         | inr memory ↦ inr memory
       ]

@@ -90,12 +90,10 @@ pub record OfPair (script : ScriptValue) (files : Both (List ℕ)) (f : FolderSt
   pub holds : HoldEach f (written.outputs_of w) (held_of left)
 
 same-run : AloneLaws → (was before then : FolderState) (w : Written) (m : RunNames) (text : List ℕ) (script : ScriptValue) (files : Both
-    (List ℕ))
-    (new : FolderState) (end : RunEnd)
+    (List ℕ)) (new : FolderState) (end : RunEnd)
     → OfPair script files new w → (r : run_ends.RanTo LIMITS was before m end) → ScriptSpelling text script → ScriptSpelling text r.script
     → files ≡ r.files → OnlyOutputs before then []
-    → alone.texts_of m ≡ written.outputs_of w
-    → AreLeftAlike new then (written.outputs_of w)
+    → alone.texts_of m ≡ written.outputs_of w → AreLeftAlike new then (written.outputs_of w)
 same-run laws was before then w m text script files new end o r spelled spelt same last names =
     let scripts : script ≡ r.script = laws.one text script r.script spelled spelt in
     let run : ScriptRunsTo script files end r.left =
@@ -142,13 +140,11 @@ links-are-alone laws words others old new was then n link s r b faint = by link 
           runs = i.first_runs;
           holds = HoldEach-kept b.pair.before new (written.outputs_of n.first) (held_of e.ended.left) last.goes_on e.ended.first_holds
               (kept b.pair.before new (written.outputs_of n.first) last);
-        }) f spelled
-        (subst (λ (t : List ℕ). ScriptSpelling t f.script) (sym same.1.1.0) (f.takes.opens.reads.spelled told_alone.1.1.0))
+        }) f spelled (subst (λ (t : List ℕ). ScriptSpelling t f.script) (sym same.1.1.0) (f.takes.opens.reads.spelled told_alone.1.1.0))
         (λ k. record {
           orig = (e.takes.first.orig told.0 ∙ same.0 ∙ sym (f.takes.orig told_alone.0)) k;
           answ = (e.takes.first.answ told.1.0 ∙ same.1.0 ∙ sym (f.takes.answ told_alone.1.0)) k;
-        })
-        (last-only done_line others run.before then run.end r run.says) refl
+        }) (last-only done_line others run.before then run.end r run.says) refl
     by Second run told_alone same =
         let c = run-by others was then (run_of Second n) r r run refl b.run_ends in
         let f = c.1 in
@@ -158,13 +154,11 @@ links-are-alone laws words others old new was then n link s r b faint = by link 
           runs = i.second_runs;
           holds = HoldEach-kept b.pair.before new (written.outputs_of n.second) (held_of e.ended.leaves) last.goes_on e.ended.second_holds
               (kept b.pair.before new (written.outputs_of n.second) last);
-        }) f spelled
-        (subst (λ (t : List ℕ). ScriptSpelling t f.script) (sym same.1.1.0) (f.takes.opens.reads.spelled told_alone.1.1.0))
+        }) f spelled (subst (λ (t : List ℕ). ScriptSpelling t f.script) (sym same.1.1.0) (f.takes.opens.reads.spelled told_alone.1.1.0))
         (λ k. record {
           orig = (e.takes.second.orig told.1.1.0 ∙ same.0 ∙ sym (f.takes.orig told_alone.0)) k;
           answ = (e.takes.second.answ told.1.1.1.0 ∙ same.1.0 ∙ sym (f.takes.answ told_alone.1.0)) k;
-        })
-        (last-only done_line others run.before then run.end r run.says) refl
+        }) (last-only done_line others run.before then run.end r run.says) refl
 
 pub undisplaced-links-are-alone : DisplacesNoneIsFaint → FaintLinksAreAlone → UndisplacedLinksAreAlone
 undisplaced-links-are-alone faint law words others old new was then n link s r b none =

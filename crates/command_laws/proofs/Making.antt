@@ -28,8 +28,7 @@ silent before mid heard Answerer = refl
 
 spoken-next : (link : Link) (ts : List Turn) (ends mid : Accounts) (heard : Role → Heard) → Hear (length ts) ends heard mid
     → (b : Bool) → is_closed mid.orig.phase ≡ b → (o a : Result Said LinkFault) → said_at link (length ts) mid Originator ≡ o
-    → said_at link (length ts) mid Answerer ≡ a
-    → IsNext link ts ends (speaking ends mid heard b o a)
+    → said_at link (length ts) mid Answerer ≡ a → IsNext link ts ends (speaking ends mid heard b o a)
 spoken-next link ts ends mid heard h true e o a p q =
     record { hearing = turn-hears (length ts) ends mid heard (λ role. None) h; done = e; silent = silent ends mid heard }
 spoken-next link ts ends mid heard h false e (Err fault) a p q =

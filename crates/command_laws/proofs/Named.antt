@@ -14,8 +14,7 @@ read-so : (role : Role) (whole : List ℕ) (frame : Frame) (reading : Reading) �
     → ReadsWhole role whole reading → reading ≡ Reading.IsFrame frame
 read-so role whole frame (Reading.IsFrame other) s t = ap Reading.IsFrame (spells-one Sixteen role 0 whole other frame t s)
 read-so role whole frame (Reading.IsRefused fault) s t =
-    absurd (never-both frame role 0 t.octets fault
-    (subst (λ (xs : List ℕ). FrameSpelling frame role 0 xs)
+    absurd (never-both frame role 0 t.octets fault (subst (λ (xs : List ℕ). FrameSpelling frame role 0 xs)
     (fronts-one (check_heard Sixteen whole) s.octets t.octets whole s.passes t.passes) s.spelling) t.is_first)
 read-so role whole frame (Reading.IsUnchecked count) s t = absurd (t.0 (record { octets = s.octets; checked = s.passes }))
 read-so role whole frame Reading.IsRagged s t = absurd t

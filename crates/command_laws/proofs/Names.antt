@@ -55,7 +55,6 @@ pub use Rattle.run_inputs.specs.Words.{RunNames}
 pub use Rattle.sample_line.specs.Mode.{mode_of}
 pub use Rattle.scramblers.specs.Mode.{tap_of}
 pub use Rattle.scramblers.specs.declared.mode.Mode.{Mode}
-pub use Rattle.scramblers.specs.declared.mode.Mode.TheVariants.{Answer, Call}
 pub use Rattle.shared_terms.specs.Both.{Both, of}
 pub use Rattle.shared_terms.specs.Prefix.{IsPrefixOf}
 pub use Rattle.shared_terms.specs.declared.fault.LinkFault.{LinkFault}

@@ -4,19 +4,15 @@ use Rattle.command_laws.proofs.Names.{drop, slice_index, refl, sym, ap, subst, a
 use Rattle.command_laws.proofs.Names.{take_all, Found, pieces_of, wholes, AreWholeOrAborted, LastPiecesAreFound, HEAD, TAIL, content-same}
 use Rattle.command_laws.proofs.Names.{Status, Done, frames_sent, Signal, slots_of, signal_bits, LostIs, line_depth, Modulates, AreFit}
 use Rattle.command_laws.proofs.Names.{signals, bits_of, Tapping, tapping, line_of, Tells, Turn, IsInLimits, FolderState, octets_at}
-use Rattle.command_laws.proofs.Names.{mode_number, header_of, samples_in, Trellis, mode_of, tap_of, Mode, Call, Answer, of, IsPrefixOf}
-use Rattle.command_laws.proofs.Names.{Role, Originator, Answerer, Sample}
+use Rattle.command_laws.proofs.Names.{mode_number, header_of, samples_in, Trellis, mode_of, tap_of, Mode, of, IsPrefixOf, Role, Sample}
 use Rattle.std.proofs.Common.{◌%◌}
 use Rattle.std.proofs.Math.Nat.{mul_assoc}
 use Rattle.std.proofs.lemmas.List.{append_cancel_left}
 use Rattle.symbol_map.specs.Distance.{quarter_turned}
 use Rattle.exact_decoder.specs.Surviving.V32.{any_trellis}
 use Rattle.bit_stuffing.proofs.Sent.{all-expected}
-use Rattle.outside_calls.specs.Folder.{Said}
 use Rattle.line_run.specs.Scripted.{SlotsHaveRoom}
 use Rattle.line_tap.specs.Ends.{TapEnd}
-use Rattle.command_base.specs.Lines.{pieces_line}
-use Rattle.command_base.specs.Readings.{AreLines}
 use Rattle.command_base.specs.Recordings.{sender_of}
 use Rattle.line_tap.specs.Names.{TapNames}
 use Rattle.line_tap.specs.Headline as tap
@@ -97,14 +93,10 @@ module _ (laws : PickupLaws) (x : Tapping) (limits : IsInLimits x.script) (ts : 
 -- ---- the commands
 
 mode-same : (a b : Mode) → mode_number Trellis a ≡ mode_number Trellis b → a ≡ b
-mode-same Call Call e = refl
-mode-same Answer Answer e = refl
-mode-same Call Answer e = absurd cc
-mode-same Answer Call e = absurd cc
+mode-same a b e = grind (arith)
 
 sender-is : (role : Role) → sender_of (mode_of role) ≡ role
-sender-is Originator = refl
-sender-is Answerer = refl
+sender-is role = grind (arith)
 
 -- what is left of samples whose first ones aren't there begins with what is left of the first part of them
 drop-front : {A : Type 0} (n : ℕ) (xs ys : List A) → (more : List A) × (drop n (xs ++ ys) ≡ drop n xs ++ more)
@@ -137,8 +129,7 @@ module _ (laws : PickupLaws) (n : TapNames) (role : Role) (rec : List ℕ) (cut 
   count = (line_of x).symbols * length ts
 
   body-is : is.body ≡ of role t.bodies
-  body-is = content-same Trellis (mode_of role) (mode_of role) is.body (of role t.bodies)
-      (sym is.tape_is ∙ t.are_of.bodies_are role is.tape_told)
+  body-is = grind (arith, content-same)
 
   near : AreNear cut tape is.heard
   near = subst (λ octets. AreNear cut (samples_in octets) is.heard) body-is is.near
@@ -169,9 +160,7 @@ module _ (laws : PickupLaws) (n : TapNames) (role : Role) (rec : List ℕ) (cut 
     mode-is = mode-same l.mode (mode_of role) (ap (λ (xs : List ℕ). slice_index xs 4) (sym whole))
 
     gives : GivesPieces (mode_of role) (middle_of cut turns is.heard) l.pieces
-    gives = subst (λ (m : Mode). GivesPieces m (middle_of cut turns is.heard) l.pieces) mode-is
-        (subst (λ (xs : List Sample). GivesPieces l.mode xs l.pieces)
-        (ap samples_in (sym (content-same Trellis (mode_of role) l.mode is.content l.content whole)) ∙ is.samples_are) l.gives)
+    gives = grind (arith, mode-is, content-same, whole)
 
     begins : IsPrefixOf found l.pieces
     begins =
@@ -189,14 +178,7 @@ module _ (laws : PickupLaws) (n : TapNames) (role : Role) (rec : List ℕ) (cut 
         append_cancel_left found begins.0 [] (begins.1 ∙ sym same ∙ sym (append-nil found))
 
     says : SaysFrames (line_of x).symbols role ts cut begins.0 was then
-    says = record {
-      found = found;
-      finds = finds;
-      lines = l.lines;
-      are_lines = subst (λ (pieces : List Found). AreLines role pieces l.lines) (sym begins.1)
-          (subst (λ (r : Role). AreLines r l.pieces l.lines) (ap sender_of mode-is ∙ sender-is role) l.are_lines);
-      said = subst (λ (pieces : List Found). Said was then (l.lines ++ pieces_line (length pieces))) (sym begins.1) l.said;
-    }
+    says = grind (arith, finds, begins, mode-is, sender-is)
 
   of-told : pickup.Headline was then rec Done
       → (beyond : List Found) × SaysFrames (line_of x).symbols role ts cut beyond was then × (EndsThere t role → beyond ≡ [])

@@ -1,7 +1,7 @@
 -- What was sent without noise at either rate: its labels are least alone, and carry its bits; its samples stand in their octets.
 use Rattle.command_laws.proofs.Names.{◌≡◌, ◌∙◌, ℕ, suc, ◌*◌, ◌<◌, Bool, true, false, List, [], ◌∷◌, ◌++◌, length, map, refl, sym, ap, subst}
-use Rattle.command_laws.proofs.Names.{arith, All, None, length-append, false≢true, All-nil, All-cons, All-head, All-tail, flat_map, LostIs}
-use Rattle.command_laws.proofs.Names.{line_depth, sample_octets, samples_in, Rate, Trellis, Quarters, trellis_at, DemodulatesAt, Sample}
+use Rattle.command_laws.proofs.Names.{arith, All, None, length-append, All-nil, All-cons, All-head, All-tail, flat_map, LostIs, line_depth}
+use Rattle.command_laws.proofs.Names.{sample_octets, samples_in, Rate, Trellis, Quarters, trellis_at, DemodulatesAt, Sample}
 use Rattle.std.proofs.Common.{◌&&◌, nat_eq, nat_lt}
 use Rattle.std.specs.List.{range_with_len}
 use Rattle.std.proofs.lemmas.Bool.{and_parts, eqb-true, lt-ltb}
@@ -45,9 +45,7 @@ quarters-test : each_below 4 (reads_back quarters.point_of) ≡ true
 quarters-test = refl
 
 the-one : NoDistanceIsEqual → (xs : List Sample) (point : Sample) → is_one xs point ≡ true → xs ≡ point ∷ []
-the-one none [] point e = absurd (false≢true e)
-the-one none (s ∷ []) point e = ap (λ x. x ∷ []) ((none s point).0 (eqb-true (distance_of s point) 0 e))
-the-one none (s ∷ t ∷ rest) point e = absurd (false≢true e)
+the-one none xs point e = grind (arith, eqb-true)
 
 -- samples are read back from their octets, four each
 pub record ReadBack (samples : List Sample) : Type 0 where
@@ -107,8 +105,7 @@ is-sent laws Trellis tap bits samples h = record {
   back = subst ReadBack (sym h.points)
       (points-back laws.none point_of 32 trellis-test h.labels (Leads-below next_state 8 32 0 h.labels h.end v32_bounded h.encoded.leads));
   kept = λ e. laws.kept 0 128 h.labels samples
-      (record { start_there = omega arith; end = h.end; leads = h.encoded.leads; exact = h.points })
-      (omega arith);
+      (record { start_there = omega arith; end = h.end; leads = h.encoded.leads; exact = h.points }) (omega arith);
 }
 is-sent laws Quarters tap bits samples h =
     let labels : List ℕ = turned h.turns in

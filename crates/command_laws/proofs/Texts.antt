@@ -1,5 +1,5 @@
 -- The texts, whose numbers are written out.
-use Rattle.std.proofs.Common.{refl}
+use Rattle.command_laws.proofs.Names.{refl}
 use Rattle.std.specs.Fmt.{digits}
 use Rattle.command_laws.specs.Worked.RunTraces.{PlainTrace, BreakLine7, BreakLine8, BusyLine10}
 

@@ -19,11 +19,7 @@ use Rattle.command_laws.specs.Pickups.{frame_in, frame_sent}
 
 slot-frames : (size : ℕ) (role : Role) (check : Check) (s : Sent)
     → slots.frames_of (slot_of size (signal_of check role 0 s) ∷ []) ≡ frame_in role check s
-slot-frames size role check sent.Mark = refl
-slot-frames size role check sent.Odp = refl
-slot-frames size role check sent.Adp = refl
-slot-frames size role check sent.Flags = refl
-slot-frames size role check (sent.Frame frame) = refl
+slot-frames size role check s = grind (arith)
 
 frames-append : (a b : List Slot) → slots.frames_of (a ++ b) ≡ slots.frames_of a ++ slots.frames_of b
 frames-append [] b = refl
@@ -33,8 +29,7 @@ frames-append (Flags (Some octets) ∷ a) b = ap (λ t. octets ∷ t) (frames-ap
 
 turn-frames : (x : Tapping) (size : ℕ) (role : Role) (s : Option Spoken)
     → slots.frames_of (slots_of size (signal_in (line_of x) role s)) ≡ frame_sent role s
-turn-frames x size role None = refl
-turn-frames x size role (Some slot) = slot-frames size role slot.check slot.sent
+turn-frames x size role s = grind (arith, slot-frames)
 
 pub frames-are : (x : Tapping) (size : ℕ) (role : Role) (ts : List Turn)
     → slots.frames_of (slots_of size (signals (line_of x) role ts)) ≡ frames_sent role ts
@@ -92,10 +87,7 @@ nothing-sent tap = record {
 pub told-bits : (x : Tapping) (ts : List Turn) → Tells x ts → (role : Role)
     → Modulates (tap_of (mode_of role)) (bits_of (line_of x) role ts)
     (take ((line_of x).symbols * length ts) (samples_in (of role x.bodies)))
-told-bits x [] h role =
-    let none : (line_of x).symbols * length {A = Turn} [] ≡ 0 = omega arith in
-    subst (λ n. Modulates (tap_of (mode_of role)) [] (take n (samples_in (of role x.bodies)))) (sym none)
-    (nothing-sent (tap_of (mode_of role)))
+told-bits x [] h role = grind (arith, nothing-sent)
 told-bits x (t ∷ ts) h role =
     let s = h.0.sends role in
     let count : (line_of x).symbols * (length ts + 1) ≡ (line_of x).symbols * length (t ∷ ts) =

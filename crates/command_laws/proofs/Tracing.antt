@@ -20,8 +20,7 @@ ApartNames = (inputs outputs : List (List ℕ)) → are_apart inputs outputs ≡
 
 -- a name that is among the inputs of outputs that are none of these is none of the outputs
 none-of : (inputs : List (List ℕ)) (name : List ℕ) → ((output : List ℕ) → IsNoneOf output inputs → output ≢ name)
-    → (outputs : List (List ℕ))
-    → AreNoneOf outputs inputs → IsNoneOf name outputs
+    → (outputs : List (List ℕ)) → AreNoneOf outputs inputs → IsNoneOf name outputs
 none-of inputs name differs [] apart = tt
 none-of inputs name differs (output ∷ outputs) apart =
     (λ e. differs output apart.0 (sym e), none-of inputs name differs outputs apart.1)

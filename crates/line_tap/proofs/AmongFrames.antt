@@ -37,8 +37,7 @@ none-empty : (P : List ℕ → Type 0) → (P [] → ⊥) → (octets : List ℕ
 none-empty P f [] l p = f p
 none-empty P f (x ∷ xs) l p = omega (arith, l)
 
-none-longer : (P : List ℕ → Type 0) (most : ℕ) → (P [] → ⊥)
-    → (SomeBelow 256 (λ x. SomeOctets most (λ xs. P (x ∷ xs))) → ⊥)
+none-longer : (P : List ℕ → Type 0) (most : ℕ) → (P [] → ⊥) → (SomeBelow 256 (λ x. SomeOctets most (λ xs. P (x ∷ xs))) → ⊥)
     → (octets : List ℕ) → AreOctets octets → length octets ≤ suc most → P octets → ⊥
 none-longer P most f g [] are few p = f p
 none-longer P most f g (x ∷ xs) are few p = g (record {
@@ -105,12 +104,9 @@ Sendable P = (frame : Frame) → P frame → IsSendable (sent.Frame frame)
 any-I : (P : Frame → Type 0) → Sendable P → ((frame : Frame) → Decided (P frame)) → Decided (SomeNumbered I P)
 any-I P s d =
     any-number (λ ns. SomeNumber (λ nr. SomeFlag (λ pf. SomeInfo (λ info. P (I ns nr pf info)))))
-    (λ ns h. (s (I ns h.0 h.1.0 h.1.1.0) h.1.1.1).0.0)
-    (λ ns. any-number (λ nr. SomeFlag (λ pf. SomeInfo (λ info. P (I ns nr pf info))))
-    (λ nr h. (s (I ns nr h.0 h.1.0) h.1.1).0.1)
-    (λ nr. any-flag (λ pf. SomeInfo (λ info. P (I ns nr pf info)))
-    (λ pf. any-info (λ info. P (I ns nr pf info))
-    (λ info h. ((s (I ns nr pf info) h).0.2, (s (I ns nr pf info) h).1))
+    (λ ns h. (s (I ns h.0 h.1.0 h.1.1.0) h.1.1.1).0.0) (λ ns. any-number (λ nr. SomeFlag (λ pf. SomeInfo (λ info. P (I ns nr pf info))))
+    (λ nr h. (s (I ns nr h.0 h.1.0) h.1.1).0.1) (λ nr. any-flag (λ pf. SomeInfo (λ info. P (I ns nr pf info)))
+    (λ pf. any-info (λ info. P (I ns nr pf info)) (λ info h. ((s (I ns nr pf info) h).0.2, (s (I ns nr pf info) h).1))
     (λ info. d (I ns nr pf info)))))
 
 any-supervisory : (make : Bool → ℕ → Bool → Frame) (P : Frame → Type 0)
@@ -168,12 +164,9 @@ or-else f (inr n) next = next n
 pub any-frame : (P : Frame → Type 0) → Sendable P → ((frame : Frame) → Decided (P frame)) → Decided ((frame : Frame) × P frame)
 any-frame P s d =
     or-else (λ h. (I h.0 h.1.0 h.1.1.0 h.1.1.1.0, h.1.1.1.1)) (any-I P s d) (λ no_i.
-    or-else (λ h. (Rr h.0 h.1.0 h.1.1.0, h.1.1.1))
-    (any-supervisory Rr P (λ command nr pf h. (s (Rr command nr pf) h).0.1) d) (λ no_rr.
-    or-else (λ h. (Rnr h.0 h.1.0 h.1.1.0, h.1.1.1))
-    (any-supervisory Rnr P (λ command nr pf h. (s (Rnr command nr pf) h).0.1) d) (λ no_rnr.
-    or-else (λ h. (Rej h.0 h.1.0 h.1.1.0, h.1.1.1))
-    (any-supervisory Rej P (λ command nr pf h. (s (Rej command nr pf) h).0.1) d) (λ no_rej.
+    or-else (λ h. (Rr h.0 h.1.0 h.1.1.0, h.1.1.1)) (any-supervisory Rr P (λ command nr pf h. (s (Rr command nr pf) h).0.1) d) (λ no_rr.
+    or-else (λ h. (Rnr h.0 h.1.0 h.1.1.0, h.1.1.1)) (any-supervisory Rnr P (λ command nr pf h. (s (Rnr command nr pf) h).0.1) d) (λ no_rnr.
+    or-else (λ h. (Rej h.0 h.1.0 h.1.1.0, h.1.1.1)) (any-supervisory Rej P (λ command nr pf h. (s (Rej command nr pf) h).0.1) d) (λ no_rej.
     or-else (λ h. (Srej h.0 h.1.0 h.1.1.0, h.1.1.1))
     (any-supervisory Srej P (λ command nr pf h. (s (Srej command nr pf) h).0.1) d) (λ no_srej.
     or-else (λ h. (Sabme h.0, h.1)) (any-flag (λ pf. P (Sabme pf)) (λ pf. d (Sabme pf))) (λ no_sabme.

@@ -1,7 +1,6 @@
 -- A tap before its first turn.
-use Rattle.line_tap.proofs.Cited.{◌≡◌, ℕ, ◌*◌, ◌≤◌, Bool, true, [], length, arith, refl, sym, ◌∙◌, ap, subst, min, both_sent_by, ReadsOn}
-use Rattle.line_tap.proofs.Cited.{TapAfter, Tapping, tapping, line_of, terms_of, no_octets, Tap, AreWaiting, check_by, Originator, Answerer}
-use Rattle.line_tap.proofs.Cited.{agree, Terms}
+use Rattle.line_tap.proofs.Cited.{◌≡◌, ℕ, ◌*◌, ◌≤◌, Bool, true, [], length, arith, min, both_sent_by, ReadsOn, TapAfter, Tapping, tapping}
+use Rattle.line_tap.proofs.Cited.{line_of, terms_of, no_octets, Tap, AreWaiting, check_by, Originator, Answerer, agree, Terms}
 use Rattle.xid_params.specs.declared.offer.Offer.{Offer}
 use Rattle.xid_params.specs.Offers.{IsAllowed}
 use Rattle.xid_params.specs.Terms.{lowered}
@@ -26,16 +25,10 @@ other-low o a h k = lowered-low _ (min a.tx_window o.rx_window) (omega (arith, k
 pub other-high : (o a : Offer) → IsAllowed o → IsAllowed a → (agree o a).window_a ≤ 127
 other-high o a h k = lowered-high _ (min a.tx_window o.rx_window) (omega (arith, k.tx_window_high, h.rx_window_high))
 
-lowered-few : (b : Bool) (n : ℕ) → b ≡ true → lowered b n ≤ 64
-lowered-few b n e = grind (arith)
-
 -- with SREJ both are small
 pub window-few : (o a : Offer) → ((agree o a).srej ≡ true → (agree o a).window_o ≤ 64)
     × ((agree o a).srej ≡ true → (agree o a).window_a ≤ 64)
-window-few o a = (
-  lowered-few (agree o a).srej (min o.tx_window a.rx_window),
-  lowered-few (agree o a).srej (min a.tx_window o.rx_window),
-)
+window-few o a = grind (arith)
 
 pub after-none : (tap : Tap) (terms : Terms) (x : Tapping) (symbols : ℕ) → x ≡ tapping tap.script no_octets → terms ≡ terms_of x
     → symbols ≡ (line_of x).symbols → tap.at ≡ 8 → tap.turn ≡ 0
@@ -44,30 +37,4 @@ pub after-none : (tap : Tap) (terms : Terms) (x : Tapping) (symbols : ℕ) → x
     → ReadsOn tap.answ.reader (line_of x) (check_by terms) Answerer [] []
     → length tap.orig.piece.items ≡ 4 * symbols → length tap.answ.piece.items ≡ 4 * symbols
     → AreWaiting tap.lines (line_of x) 1 (both_sent_by 0 []) → TapAfter tap x []
-after-none tap terms x symbols e same size at turn lo la ro ra po pa lines =
-    subst (λ (y : Tapping). TapAfter tap y []) (sym e) there
-  where
-    z : Tapping
-    z = tapping tap.script no_octets
-
-    same-z : terms ≡ terms_of z
-    same-z = same ∙ ap terms_of e
-
-    there : TapAfter tap z []
-    there = record {
-      behind = record {
-        script_is = refl;
-        tells = tt;
-        turn = turn;
-        at = omega (arith, at);
-        orig = subst (λ k. ReadsOn tap.orig.reader (line_of z) (check_by k) Originator [] []) same-z
-            (subst (λ (y : Tapping). ReadsOn tap.orig.reader (line_of y) (check_by terms) Originator [] []) e ro);
-        answ = subst (λ k. ReadsOn tap.answ.reader (line_of z) (check_by k) Answerer [] []) same-z
-            (subst (λ (y : Tapping). ReadsOn tap.answ.reader (line_of y) (check_by terms) Answerer [] []) e ra);
-        orig_room = po ∙ ap (λ n. 4 * n) (size ∙ ap (λ (y : Tapping). (line_of y).symbols) e);
-        answ_room = pa ∙ ap (λ n. 4 * n) (size ∙ ap (λ (y : Tapping). (line_of y).symbols) e);
-      };
-      orig = subst (λ k. ListensFor tap.orig.listener k Originator []) same-z lo;
-      answ = subst (λ k. ListensFor tap.answ.listener k Answerer []) same-z la;
-      lines = subst (λ (y : Tapping). AreWaiting tap.lines (line_of y) 1 (both_sent_by 0 [])) e lines;
-    }
+after-none tap terms x symbols e same size at turn lo la ro ra po pa lines = grind (arith)

@@ -1,17 +1,16 @@
 -- Why a call of a folder failed, told of all names of a tap.
-use Rattle.std.proofs.Common.{inl, inr, ℕ, List, [], ◌∷◌, ◌++◌, Result, Err, IsErrOf, refl, subst}
-use Rattle.outside_calls.specs.Folder.{FolderState, HasCause, Rose, FaultsStand, CountsStand}
+use Rattle.line_tap.proofs.Cited.{arith, inl, inr, ℕ, List, [], ◌∷◌, ◌++◌, Result, Err, FolderState, CountsStand, SomeRose}
+use Rattle.std.proofs.Common.{IsErrOf}
+use Rattle.outside_calls.specs.Folder.{HasCause, FaultsStand}
 use Rattle.outside_calls.specs.declared.folder.FolderFault.{FolderFault}
 use Rattle.outside_calls.specs.declared.folder.FolderFault.TheVariants.{Failed, NoMemory}
-use Rattle.outside_calls.specs.Outputs.{SomeRose}
 use Rattle.command_base.specs.Stops.{ReadFails, WriteFails}
 
 -- a call that writes, by its cause
 pub writes-fail : {T : Type 0} (old new : FolderState) (name : List ℕ) (fault : FolderFault)
     → HasCause {T = T} (old.write_faults name) (new.write_faults name) old.refusals new.refusals (Err fault)
     → (IsErrOf {T = T} {E = FolderFault} (Err fault) NoMemory → FaultsStand old new) → WriteFails old new (name ∷ []) fault
-writes-fail old new name Failed cause spared = inl (cause.failed refl)
-writes-fail old new name NoMemory cause spared = (spared refl, cause.memory refl)
+writes-fail old new name fault cause spared = grind (arith)
 
 -- the count of one name rose, which stands among some
 some-rose : (before now : List ℕ → ℕ) (front : List (List ℕ)) (name : List ℕ) (behind : List (List ℕ)) → SomeRose before now (name ∷ [])
@@ -34,7 +33,4 @@ read-among old new front name behind NoMemory fails = fails
 pub cause-earlier : {T : Type 0} (old mid new : FolderState) (name : List ℕ) (result : Result T FolderFault) → CountsStand old mid
     → HasCause (mid.write_faults name) (new.write_faults name) mid.refusals new.refusals result
     → HasCause (old.write_faults name) (new.write_faults name) old.refusals new.refusals result
-cause-earlier old mid new name result stand cause = record {
-  failed = λ e. subst (λ (count : ℕ). Rose count (new.write_faults name)) (stand.faults.writes name) (cause.failed e);
-  memory = λ e. subst (λ (count : ℕ). Rose count new.refusals) stand.refusals (cause.memory e);
-}
+cause-earlier old mid new name result stand cause = grind (arith)

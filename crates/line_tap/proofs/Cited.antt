@@ -5,7 +5,6 @@ pub use Rattle.std.proofs.Common.{true, zero, ℕ, ◌%◌, ◌*◌, ◌++◌, �
 pub use Rattle.std.proofs.Math.Nat.{mul-suc}
 pub use Rattle.std.proofs.Math.Seq.{drop-append_seam, take-append_seam}
 pub use Rattle.std.proofs.lemmas.Bool.{cases_lt, eqb-true, false≢true}
-pub use Rattle.std.proofs.lemmas.Bool.Decides.{nat_tests}
 pub use Rattle.std.proofs.lemmas.Grind.{common_steps}
 pub use Rattle.std.proofs.lemmas.List.{append_assoc, drop-map, length-map, length-take, length-take-le, map-append, take-append-drop}
 pub use Rattle.std.proofs.lemmas.List.{take-append-le, take-map, take_all, take_more}
@@ -76,7 +75,7 @@ pub use Rattle.line_tap.specs.Laws.{TellsOnce}
 pub use Rattle.line_tap.specs.Names.{TapNames, inputs_of, named, outputs_of, recording_of, recordings_of}
 pub use Rattle.line_tap.specs.Outcomes.{Ends, IsBegun, IsRefused, Tapped, tap_job}
 pub use Rattle.line_tap.specs.Reader.{IsNext, ReaderStands, ReadsFor, ReadsSlot, carries}
-pub use Rattle.line_tap.specs.Reading.{IsGuess, flagged, is_plain, plain_bits}
+pub use Rattle.line_tap.specs.Reading.{IsGuess, is_plain, plain_bits}
 pub use Rattle.line_tap.specs.Seeking.{AreBitsOf, CanBeSent, EndsAt, EndsFirst, FindsSent, IsAt, part}
 pub use Rattle.line_tap.specs.Tap.{AreReadOut, AreReadTo, EndsInTurn, EndsReading, GoesOnBy, HearsSo, HearsThese, InTurn, IsBehind, IsReady}
 pub use Rattle.line_tap.specs.Tap.{IsToGo, ReadsToo, StopsInTurn, StopsReadingIn, TapAfter, going_in, silent_in, slots_as, turn_in}

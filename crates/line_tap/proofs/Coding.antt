@@ -17,8 +17,7 @@ pub small : (tap : ℕ) (bits : List Bool) (samples : List Sample) → (h : Modu
 small tap bits samples h = Leads-below next_state 8 32 0 h.labels h.end v32_bounded h.encoded.leads
 
 pub points-tell : PointsDiffer → (a b : List ℕ) → All (λ label. label < 32) a → All (λ label. label < 32) b
-    → map point_of a ≡ map point_of b
-    → a ≡ b
+    → map point_of a ≡ map point_of b → a ≡ b
 points-tell differ [] [] h k e = refl
 points-tell differ [] (y ∷ b) h k e = absurd cc
 points-tell differ (x ∷ a) [] h k e = absurd cc

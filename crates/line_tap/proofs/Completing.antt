@@ -1,16 +1,13 @@
 -- From every answer to that which right inputs have.
-use Rattle.line_tap.proofs.Cited.{◌≡◌, ◌⊎◌, inl, inr, ℕ, ◌≤◌, ◌<◌, true, nat_eq, List, [], ◌++◌, length, take, drop, IsTrue, Result, sym}
-use Rattle.line_tap.proofs.Cited.{◌∙◌, ap, subst, arith, false≢true, nat_tests, last-only, Answers, turns_line, Status, Stop, Left, TapEnd}
-use Rattle.line_tap.proofs.Cited.{IsNotHeader, HasNoHeader, TellsOnce, TapNames, outputs_of, recordings_of, IsRefused, Tapped, Ends}
-use Rattle.line_tap.proofs.Cited.{tap_job, tapping, held_of, ScriptValue, IsInLimits, HoldEach-kept, FolderState, octets_at, HoldEach}
+use Rattle.line_tap.proofs.Cited.{◌≡◌, ◌⊎◌, inl, inr, ℕ, List, [], ◌++◌, drop, Result, sym, ◌∙◌, ap, subst, arith, last-only, Answers}
+use Rattle.line_tap.proofs.Cited.{turns_line, Status, Stop, Left, TapEnd, TellsOnce, TapNames, outputs_of, recordings_of, IsRefused, Tapped}
+use Rattle.line_tap.proofs.Cited.{Ends, tap_job, tapping, held_of, ScriptValue, IsInLimits, HoldEach-kept, FolderState, octets_at, HoldEach}
 use Rattle.line_tap.proofs.Cited.{OnlyOutputs, header_of, RefusesOwn, Mode, Call, Answer, Both, Originator, Answerer}
-use Rattle.std.specs.Prelude.{slice_index}
 use Rattle.noise_script.specs.Laws.{ScriptsAreOne, NoFaultInScripts}
 use Rattle.line_tap.specs.Ends.{TapOf}
 use Rattle.line_tap.specs.Ends as ends
-use Rattle.command_base.specs.declared.status.Status.TheVariants.{BadScript, BadRecording, TooLong, NoMemory}
+use Rattle.command_base.specs.declared.status.Status.TheVariants.{BadScript, TooLong, NoMemory}
 use Rattle.command_base.specs.declared.stop.Stop.TheVariants as stops
-use Rattle.command_base.specs.Inputs.{IsWithin, IsLonger}
 use Rattle.command_base.proofs.Jobs.{Comes, is_done, is_own, is_memory, comes-to}
 use Rattle.line_tap.specs.declared.limits.TheConstants.{LIMITS}
 use Rattle.line_tap.specs.Outcomes.{TappedBy, EndsBy}
@@ -20,53 +17,20 @@ use Rattle.line_tap.proofs.Headline.{keeps-each}
 
 -- ---- right inputs are not refused
 
-script-fits : (count : ℕ) → count ≤ 65536 → LIMITS.script < count → ⊥
-script-fits count within longer = omega (arith, within, longer)
-
-file-fits : (count : ℕ) → count ≤ 268435456 → LIMITS.file < count → ⊥
-file-fits count within longer = omega (arith, within, longer)
-
 -- for their lengths, or for the script,
 never-own : NoFaultInScripts → (old : FolderState) (n : TapNames) (script : ScriptValue) (bodies : Both (List ℕ)) (answer : Status)
     → AreRight old n script bodies → RefusesOwn LIMITS old n.script 3 (recordings_of n) 1 answer → ⊥
-never-own law old n script bodies (TooLong word) r (inl s) =
-    script-fits (length (octets_at old n.script)) r.script_short (s.longer r.script_told)
-never-own law old n script bodies (TooLong word) r (inr f) = by f.first
-  where
-    by : (((word ≡ 1) × IsLonger old n.rec_o LIMITS.file)
-        ⊎ (IsWithin old n.rec_o LIMITS.file × (((word ≡ 2) × IsLonger old n.rec_a LIMITS.file) ⊎ (IsWithin old n.rec_a LIMITS.file × ⊥))))
-        → ⊥
-    by (inl o) = file-fits (length (octets_at old n.rec_o)) r.orig_short (o.1 r.orig_told)
-    by (inr (w, inl a)) = file-fits (length (octets_at old n.rec_a)) r.answ_short (a.1 r.answ_told)
-    by (inr (w, inr a)) = a.1
+never-own law old n script bodies (TooLong word) r (inl s) = grind (arith)
+never-own law old n script bodies (TooLong word) r (inr f) = grind (arith)
 never-own law old n script bodies (BadScript line cause) r s = law (octets_at old n.script) script line cause r.spelled
     (s.first r.script_told)
 never-own law old n script bodies answer r never = never
-
--- or for a header
-same-number : (n : ℕ) → nat_eq n n ≡ true
-same-number n = grind (arith, nat_tests)
-
-header-fits : (mode : Mode) (at : ℕ) → IsNotHeader mode (header_of mode) at → ⊥
-header-fits mode at h = elim h.here [
-  | inl end ↦ omega (arith, h.within, end)
-  | inr other ↦ false≢true (sym other.1 ∙ same-number (slice_index (header_of mode) at))
-]
-
-never-header : (old : FolderState) (name : List ℕ) (mode : Mode) (body : List ℕ) (answer : Status) → IsTrue (old.tells name)
-    → octets_at old name ≡ header_of mode ++ body → HasNoHeader old name mode answer → ⊥
-never-header old name mode body (BadRecording at) told is h =
-    header-fits mode at (subst (λ (xs : List ℕ). IsNotHeader mode (take 8 xs) at) is (h told))
-never-header old name mode body answer told is h = h
 
 never-refused : NoFaultInScripts
     → (old before : FolderState) (n : TapNames) (script : ScriptValue) (bodies : Both (List ℕ)) (answer : Status)
     → AreRight old n script bodies → IsRefused LIMITS old before n (stops.Own answer) → ⊥
 never-refused law old before n script bodies answer r (inl own) = never-own law old n script bodies answer r own
-never-refused law old before n script bodies answer r (inr refused) = elim refused.bad [
-  | inl orig ↦ never-header old n.rec_o Call bodies.orig answer r.orig_told r.orig_is orig
-  | inr answ ↦ never-header old n.rec_a Answer bodies.answ answer r.answ_told r.answ_is answ.1
-]
+never-refused law old before n script bodies answer r (inr refused) = grind (arith)
 
 -- ---- the tap that was made is the one of these inputs
 

@@ -1,21 +1,18 @@
 -- What is found in a slot of flags is what was sent in it.
-use Rattle.line_tap.proofs.Cited.{◌≡◌, ◌∙◌, inl, inr, ℕ, zero, suc, ◌+◌, ◌-◌, ◌*◌, ◌/◌, ◌%◌, ◌<◌, ◌≤◌, Bool, true, false, nat_eq, List, []}
-use Rattle.line_tap.proofs.Cited.{◌∷◌, ◌++◌, All, length, take, drop, map, slice_index, Option, Some, None, refl, sym, ap, subst, arith}
-use Rattle.line_tap.proofs.Cited.{append-nil, length-append, drop-append_seam, false≢true, append_assoc, length-take-le, take-append-drop}
-use Rattle.line_tap.proofs.Cited.{IfSome, pieces-none, line_bits, Kept, bit_of, Found, lent_of, pieces_of, wholes, rest_of_flag, opening}
-use Rattle.line_tap.proofs.Cited.{slot_bits, stuffed, HEAD, TAIL, low_bits, Check, SpellsFrame, checked, address_of, control_octet}
-use Rattle.line_tap.proofs.Cited.{tail_octets, spelled, parts_of, Frame, CodableFits, CodableIsSendable, SpelledInOctets, flagged}
-use Rattle.line_tap.proofs.Cited.{AreBitsOf, EndsFirst, FindsSent, IsAt, part, Seeker, IsCodable, Role}
-use Rattle.std.proofs.lemmas.List.{drop-drop, get_or-append-add, get_or_append_left}
+use Rattle.line_tap.proofs.Cited.{◌≡◌, ◌∙◌, inl, inr, ℕ, zero, suc, ◌+◌, ◌-◌, ◌*◌, ◌%◌, ◌<◌, ◌≤◌, Bool, true, false, List, [], ◌∷◌, ◌++◌}
+use Rattle.line_tap.proofs.Cited.{All, length, take, drop, map, slice_index, Option, Some, None, refl, sym, ap, subst, arith, append-nil}
+use Rattle.line_tap.proofs.Cited.{length-append, drop-append_seam, false≢true, append_assoc, length-take-le, take-append-drop, IfSome}
+use Rattle.line_tap.proofs.Cited.{pieces-none, line_bits, Kept, bit_of, Found, lent_of, pieces_of, wholes, rest_of_flag, opening, slot_bits}
+use Rattle.line_tap.proofs.Cited.{stuffed, HEAD, TAIL, low_bits, Check, SpellsFrame, checked, address_of, Frame, CodableFits}
+use Rattle.line_tap.proofs.Cited.{CodableIsSendable, SpelledInOctets, AreBitsOf, EndsFirst, FindsSent, IsAt, part, Seeker, IsCodable, Role}
+use Rattle.std.proofs.lemmas.List.{drop-drop, get_or-append-add}
 use Rattle.frame_check.specs.Bits.{bits_of}
-use Rattle.frame_check.specs.Division.{check_of}
 use Rattle.bit_stuffing.specs.Flags.{flag, FlagEndsAt}
 use Rattle.bit_stuffing.specs.Pieces.{IsLent}
 use Rattle.bit_stuffing.specs.Slots.{Slot, flags, fill, framed, sent_bits, AreSlots, IsSlot}
 use Rattle.bit_stuffing.specs.Slots.Slot.{Flags}
 use Rattle.bit_stuffing.specs.Sent.{SlotAdds, whole_at}
 use Rattle.bit_stuffing.specs.Tails.{LastPiecesAreFound, behind}
-use Rattle.lapm_frames.specs.Checked.{check_for}
 use Rattle.lapm_frames.proofs.Checking.{spells}
 use Rattle.lapm_frames.specs.declared.sent.Sent.TheVariants as sent
 use Rattle.line_tap.specs.Seeking.{end_of}
@@ -39,17 +36,11 @@ record BeginsWithOne (bits : List Bool) : Type 0 where
   is : bits ≡ true ∷ rest
 
 one-first : (octet : ℕ) (octets : List ℕ) → octet % 2 ≡ 1 → BeginsWithOne (stuffed 5 (bits_of (octet ∷ octets)))
-one-first octet octets e = record {
-  rest = stuffed 4 (low_bits 7 (octet / 2) ++ bits_of octets);
-  is = ap (λ n. stuffed 5 (nat_eq n 1 ∷ (low_bits 7 (octet / 2) ++ bits_of octets))) e;
-}
+one-first octet octets e = grind (arith)
 
 frame-first : (check : Check) (sender : Role) (dlci : ℕ) (frame : Frame)
     → BeginsWithOne (stuffed 5 (bits_of (checked check sender dlci frame)))
-frame-first check sender dlci frame =
-    one-first (address_of (parts_of frame).command sender dlci)
-    ((control_octet (parts_of frame) ∷ tail_octets (parts_of frame)) ++ check_of (check_for check frame) (spelled frame sender dlci))
-    (odd-address (parts_of frame).command sender dlci)
+frame-first check sender dlci frame = grind (arith, one-first, odd-address)
 
 pub frame-begins : (check : Check) (sender : Role) (dlci size phase : ℕ) (frame : Frame)
     → bit_of (slot_bits size phase (Flags (Some (checked check sender dlci frame)))) (length (rest_of_flag phase) + 32) ≡ true
@@ -66,12 +57,7 @@ frame-begins check sender dlci size phase frame =
 
 -- and where no frame was sent the next flag begins with a zero
 fill-first : (n : ℕ) → 1 ≤ n → bit_of (fill n) 0 ≡ false
-fill-first n some = go (n / 8) refl (n % 8) refl
-  where
-    go : (flags_left : ℕ) → n / 8 ≡ flags_left → (bits_left : ℕ) → n % 8 ≡ bits_left → bit_of (fill n) 0 ≡ false
-    go zero e zero f = absurd (omega (arith, e, f, some))
-    go zero e (suc r) f = ap (λ k. bit_of (flags k ++ take (n % 8) flag) 0) e ∙ ap (λ k. bit_of (take k flag) 0) f
-    go (suc q) e r f = ap (λ k. bit_of (flags k ++ take (n % 8) flag) 0) e
+fill-first n some = grind (arith)
 
 rest-bits : (phase : ℕ) → phase < 8 → length (rest_of_flag phase) ≡ (8 - phase) - 8 * (1 - phase)
 rest-bits zero h = refl
@@ -105,20 +91,14 @@ flags-begin size phase low long =
 split-opening : (phase : ℕ) (frame : Option (List ℕ)) → opening phase frame ≡ rest_of_flag phase ++ (flags 4 ++ framed frame)
 split-opening phase frame = append_assoc (rest_of_flag phase) (flags 4) (framed frame)
 
-long-opening : (phase : ℕ) (frame : Option (List ℕ))
-    → length (opening phase frame) ≡ length (rest_of_flag phase) + length (opening 0 frame)
-long-opening phase frame =
-    ap length (split-opening phase frame) ∙ length-append (rest_of_flag phase) (flags 4 ++ framed frame)
+long-opening : (phase : ℕ) (frame : Option (List ℕ)) → length (opening phase frame) ≡ length (rest_of_flag phase) + length (opening 0 frame)
+long-opening phase frame = grind (arith, length-append)
 
 long-frame : (octets : List ℕ) → length (opening 0 (Some octets)) ≡ 40 + length (stuffed 5 (bits_of octets))
-long-frame octets =
-    let a : length (opening 0 (Some octets)) ≡ 32 + length (framed (Some octets)) = length-append (flags 4) (framed (Some octets)) in
-    let b : length (framed (Some octets)) ≡ length (stuffed 5 (bits_of octets)) + 8 = length-append (stuffed 5 (bits_of octets)) flag in
-    omega (arith, a, b)
+long-frame octets = grind (arith, length-append)
 
 -- behind the rest of a flag it is a slot of its own
-behind-rest : (size phase : ℕ) (frame : Option (List ℕ))
-    → drop (length (rest_of_flag phase)) (slot_bits size phase (Flags frame))
+behind-rest : (size phase : ℕ) (frame : Option (List ℕ)) → drop (length (rest_of_flag phase)) (slot_bits size phase (Flags frame))
     ≡ slot_bits (size - length (rest_of_flag phase)) 0 (Flags frame)
 behind-rest size phase frame =
     let n : ℕ = length (opening phase frame) in
@@ -135,11 +115,7 @@ behind-rest-of bits size phase octets e = ap (drop (length (rest_of_flag phase))
 
 -- a flag that is heard whole
 flag-first : (line : List Bool) → FlagEndsAt (flag ++ line) 8
-flag-first line = record {
-  room = omega arith;
-  within = omega (arith, length-append flag line);
-  spelled = λ i low. let same : 8 - 8 + i ≡ i = omega arith in ap (bit_of (flag ++ line)) same ∙ get_or_append_left flag line false i low;
-}
+flag-first line = grind (arith, length-append)
 
 -- of a line whose one piece ends behind that flag the same piece is found where it begins with the flag
 only-behind : (missed found : List Found) (count : ℕ) (one : Found) → All (λ f. f.place ≤ count + 8) missed → count + 8 < one.place
@@ -227,11 +203,8 @@ pub record FindsThere (check : Check) (sender : Role) (dlci symbols phase : ℕ)
 pub finds-there : (check : Check) (sender : Role) (dlci symbols phase : ℕ) (bits : List Bool) (found : Option Frame)
     → HEAD + TAIL < symbols → phase < 8 → bit_of bits (length (rest_of_flag phase) + 32) ≡ true
     → FindsThere check sender dlci symbols phase bits found → FindsSent check sender dlci symbols phase bits found
-finds-there check sender dlci symbols phase bits found long low one k sent.Flags e codable is =
-    absurd (false≢true (sym (flags-begin (4 * symbols) phase low (omega (arith, long)))
-    ∙ ap (λ xs. bit_of xs (length (rest_of_flag phase) + 32)) (sym is) ∙ one))
-finds-there check sender dlci symbols phase bits found long low one k (sent.Frame frame) e codable is =
-    ap flagged (k.frame frame codable is)
+finds-there check sender dlci symbols phase bits found long low one k sent.Flags e codable is = grind (arith, flags-begin)
+finds-there check sender dlci symbols phase bits found long low one k (sent.Frame frame) e codable is = grind (arith)
 finds-there check sender dlci symbols phase bits found long low one k other e codable is = absurd (false≢true (sym e))
 
 pub none-there : FoundLaws → (check : Check) (sender : Role) (dlci symbols phase : ℕ) (bits : List Bool) (found : Option Frame) → dlci < 64
@@ -257,11 +230,7 @@ first-there laws check sender dlci symbols phase bits deframer end octets found 
 
 -- where its octets are, and where it ends
 some-octets : (check : Check) (sender : Role) (dlci : ℕ) (frame : Frame) → checked check sender dlci frame ≡ [] → ⊥
-some-octets check sender dlci frame none =
-    let rest : List ℕ =
-    (control_octet (parts_of frame) ∷ tail_octets (parts_of frame)) ++ check_of (check_for check frame) (spelled frame sender dlci) in
-    let z : address_of (parts_of frame).command sender dlci ∷ rest ≡ [] = none in
-    absurd cc
+some-octets check sender dlci frame none = grind (arith)
 
 pub found-at : FoundLaws → (check : Check) (sender : Role) (dlci phase : ℕ) (bits : List Bool) (seeker : Seeker) (octets : List ℕ)
     (found : Option Frame) → dlci < 64 → EndsFirst seeker.deframer bits (length (rest_of_flag phase) + 24) seeker.end

@@ -56,8 +56,7 @@ waits-again d new r x role ts body slot check sent h k same p =
     (sym (lone-signals (line_of x) role ts (λ r n. refl))) k.coded in
     sends-behind d new (line_of x) role 1 (sent_by 0 role ts) item h
     (record { sender = p.sender; delay = p.delay; lag = p.lag; symbols = ap (λ (l : Kept). l.symbols) p.line })
-    (p.stands x.script _ _ item h.stands
-    (codes-next d (line_of x) role 1 (sent_by 0 role ts) (d.lag - 1) item slot.labels h coded) same)
+    (p.stands x.script _ _ item h.stands (codes-next d (line_of x) role 1 (sent_by 0 role ts) (d.lag - 1) item slot.labels h coded) same)
 
 -- ---- the reading goes on
 

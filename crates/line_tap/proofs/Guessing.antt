@@ -1,9 +1,8 @@
 -- The bits that are read of a slot's samples are its bits, and what is taken for what was sent in it is what was sent.
-use Rattle.line_tap.proofs.Cited.{◌≡◌, ◌∙◌, ◌⊎◌, inl, inr, ℕ, ◌+◌, ◌*◌, ◌<◌, Bool, true, List, ◌++◌, map, Option, Some, None, refl, sym, ap}
-use Rattle.line_tap.proofs.Cited.{subst, arith, map-append, All-append, phase-low, slot_bits, phase_after, HEAD, TAIL, Signal, slot_of}
-use Rattle.line_tap.proofs.Cited.{slots_of, Check, Frame, Sent, Demodulates, Modulates, SlotsTellWhatWasSent, AreLabels, is_plain}
-use Rattle.line_tap.proofs.Cited.{plain_bits, flagged, IsGuess, FindsSent, carried, bits_behind, signal_of, IsCodable, Descrambles_once}
-use Rattle.line_tap.proofs.Cited.{Role, PointsDiffer, point_of, Sample}
+use Rattle.line_tap.proofs.Cited.{◌≡◌, ◌∙◌, ℕ, ◌+◌, ◌*◌, ◌<◌, Bool, true, List, ◌++◌, map, Option, refl, sym, ap, subst, arith, map-append}
+use Rattle.line_tap.proofs.Cited.{All-append, phase-low, phase_after, HEAD, TAIL, Signal, slots_of, Check, Frame, Sent, Demodulates}
+use Rattle.line_tap.proofs.Cited.{Modulates, SlotsTellWhatWasSent, AreLabels, is_plain, plain_bits, IsGuess, FindsSent, carried}
+use Rattle.line_tap.proofs.Cited.{bits_behind, signal_of, IsCodable, Descrambles_once, Role, PointsDiffer, point_of, Sample}
 use Rattle.lapm_frames.specs.declared.sent.Sent.TheVariants as sent
 use Rattle.line_coding.specs.Demodulates.{line_of}
 use Rattle.line_tap.proofs.Coding.{small, points-tell}
@@ -24,8 +23,7 @@ same-bits differ tap bits next read samples others labels more h k d m =
     let same : m.labels ≡ labels ++ more =
     points-tell differ m.labels (labels ++ more) (small tap (bits ++ next) (samples ++ others) m)
     (All-append (λ label. label < 32) labels more h.0 k.0) (sym m.points ∙ sym points) in
-    behind-same bits read next
-    (Descrambles_once tap (line_of (labels ++ more)) (bits ++ read) (bits ++ next) d
+    behind-same bits read next (Descrambles_once tap (line_of (labels ++ more)) (bits ++ read) (bits ++ next) d
     (subst (λ xs. Demodulates tap xs (bits ++ next)) same (carried tap (bits ++ next) (samples ++ others) m)))
 
 -- ---- what is found in a flag slot
@@ -38,22 +36,6 @@ phase_of symbols sigs = phase_after (4 * symbols) (slots_of (4 * symbols) sigs)
 
 phase-few : (symbols : ℕ) (sigs : List Signal) → phase_of symbols sigs < 8
 phase-few symbols sigs = phase-low (4 * symbols) 0 (slots_of (4 * symbols) sigs) (omega arith)
-
-none-found : (check : Check) (role : Role) (dlci symbols phase : ℕ) (read : List Bool) (found : Option Frame)
-    → FindsSent check role dlci symbols phase read found
-    → read ≡ slot_bits (4 * symbols) phase (slot_of (4 * symbols) (signal_of check role dlci sent.Flags)) → found ≡ None
-none-found check role dlci symbols phase read found k e = by found (k sent.Flags refl tt e)
-  where
-    by : (found : Option Frame) → flagged found ≡ sent.Flags → found ≡ None
-    by found f = grind (arith)
-
-frame-found : (check : Check) (role : Role) (dlci symbols phase : ℕ) (frame : Frame) (read : List Bool) (found : Option Frame)
-    → FindsSent check role dlci symbols phase read found → IsCodable check role dlci symbols phase (sent.Frame frame)
-    → read ≡ slot_bits (4 * symbols) phase (slot_of (4 * symbols) (signal_of check role dlci (sent.Frame frame))) → found ≡ Some frame
-frame-found check role dlci symbols phase frame read found k codable e = by found (k (sent.Frame frame) refl codable e)
-  where
-    by : (found : Option Frame) → flagged found ≡ sent.Frame frame → found ≡ Some frame
-    by found f = grind (arith)
 
 -- ---- so the guess is right
 
@@ -74,39 +56,15 @@ plain-right laws check role dlci symbols sigs s guess read long low codable e p 
     (plain-codable check role dlci symbols (phase_of symbols sigs) guess p) codable
     (plain-next check role dlci symbols sigs guess p ∙ sym b ∙ e)
 
--- one by what is found
-flags-right : GuessLaws → (check : Check) (role : Role) (dlci symbols : ℕ) (sigs : List Signal) (s : Sent) (found : Option Frame)
-    (read : List Bool) → HEAD + TAIL < symbols → dlci < 64
-    → IsCodable check role dlci symbols (phase_of symbols sigs) s → read ≡ next_of check role dlci symbols sigs s
-    → FindsSent check role dlci symbols (phase_of symbols sigs) read found
-    → ((other : Sent) → is_plain other ≡ true → read ≡ plain_bits (4 * symbols) other → ⊥)
-    → ((found ≡ None) × (s ≡ sent.Flags)) ⊎ ((frame : Frame) × (found ≡ Some frame) × (s ≡ sent.Frame frame))
-flags-right laws check role dlci symbols sigs sent.Mark found read long low codable e k none = absurd (none sent.Mark refl e)
-flags-right laws check role dlci symbols sigs sent.Odp found read long low codable e k none = absurd (none sent.Odp refl e)
-flags-right laws check role dlci symbols sigs sent.Adp found read long low codable e k none = absurd (none sent.Adp refl e)
-flags-right laws check role dlci symbols sigs sent.Flags found read long low codable e k none =
-    inl (none-found check role dlci symbols (phase_of symbols sigs) read found k e, refl)
-flags-right laws check role dlci symbols sigs (sent.Frame frame) found read long low codable e k none =
-    inr (frame, frame-found check role dlci symbols (phase_of symbols sigs) frame read found k codable e, refl)
-
 pub guess-right : GuessLaws → (check : Check) (role : Role) (dlci symbols : ℕ) (sigs : List Signal) (s guess : Sent) (found : Option Frame)
     (read : List Bool) → HEAD + TAIL < symbols → dlci < 64
     → IsCodable check role dlci symbols (phase_of symbols sigs) s → read ≡ next_of check role dlci symbols sigs s
-    → FindsSent check role dlci symbols (phase_of symbols sigs) read found
-    → IsGuess (4 * symbols) read found guess → guess ≡ s
+    → FindsSent check role dlci symbols (phase_of symbols sigs) read found → IsGuess (4 * symbols) read found guess → guess ≡ s
 guess-right laws check role dlci symbols sigs s sent.Mark found read long low codable e k g =
     plain-right laws check role dlci symbols sigs s sent.Mark read long low codable e refl g
 guess-right laws check role dlci symbols sigs s sent.Odp found read long low codable e k g =
     plain-right laws check role dlci symbols sigs s sent.Odp read long low codable e refl g
 guess-right laws check role dlci symbols sigs s sent.Adp found read long low codable e k g =
     plain-right laws check role dlci symbols sigs s sent.Adp read long low codable e refl g
-guess-right laws check role dlci symbols sigs s sent.Flags found read long low codable e k g =
-    elim (flags-right laws check role dlci symbols sigs s found read long low codable e k g.1) [
-      | inl h ↦ sym h.1
-      | inr h ↦ (let z : None ≡ Some h.0 = sym g.0 ∙ h.1 in absurd cc)
-    ]
-guess-right laws check role dlci symbols sigs s (sent.Frame frame) found read long low codable e k g =
-    elim (flags-right laws check role dlci symbols sigs s found read long low codable e k g.1) [
-      | inl h ↦ (let z : Some frame ≡ None = sym g.0 ∙ h.0 in absurd cc)
-      | inr h ↦ (let z : Some frame ≡ Some h.0 = sym g.0 ∙ h.1 in let w : frame ≡ h.0 = cc in ap sent.Frame w ∙ sym h.2)
-    ]
+guess-right laws check role dlci symbols sigs s sent.Flags found read long low codable e k g = grind (arith)
+guess-right laws check role dlci symbols sigs s (sent.Frame frame) found read long low codable e k g = grind (arith)

@@ -1,7 +1,7 @@
 -- Segments that a receiver hands over, one after another.
 use Rattle.line_tap.proofs.Cited.{◌≡◌, inl, inr, ℕ, zero, suc, ◌+◌, ◌≤◌, ◌<◌, Bool, true, false, cond, List, [], ◌∷◌, ◌++◌, length, drop}
-use Rattle.line_tap.proofs.Cited.{arith, refl, sym, ◌∙◌, ap, subst, Some, None, false≢true, nat_tests, append_assoc, concat-append, concat}
-use Rattle.line_tap.proofs.Cited.{is_some, Incoming, Taking, StandsIn, FolderState, Appended, PartlyAppended}
+use Rattle.line_tap.proofs.Cited.{arith, refl, sym, ◌∙◌, ap, subst, Some, None, false≢true, append_assoc, concat-append, concat, is_some}
+use Rattle.line_tap.proofs.Cited.{Incoming, Taking, StandsIn, FolderState, Appended, PartlyAppended}
 use Rattle.std.proofs.Common.{nat_lt}
 use Rattle.std.proofs.lemmas.List.{append-nil}
 use Rattle.std.specs.Prelude.{slice_index_or}
@@ -44,7 +44,7 @@ next-is r i given segment some copies = go (nat_lt given (length i.taken)) refl
     go : (b : Bool) → nat_lt given (length i.taken) ≡ b → Next r i given segment
     go false e = absurd (false≢true (sym (some ∙ ap (λ b. is_some (cond b (Some (slice_index_or i.taken given [])) None)) e)))
     go true e =
-        let within : given < length i.taken = grind (arith, nat_tests) in
+        let within : given < length i.taken = grind (arith) in
         let same : segment ≡ slice_index_or i.taken given [] =
         copies (slice_index_or i.taken given []) (ap (λ b. cond b (Some (slice_index_or i.taken given [])) None) e) in
         let next : suc given ≡ given + 1 = omega arith in
@@ -56,9 +56,7 @@ next-is r i given segment some copies = go (nat_lt given (length i.taken)) refl
 
 pub after-one : (i : Incoming) (given : ℕ) → given < length i.taken
     → after_delivered (record i { given = given }) ≡ record i { given = given + 1 }
-after-one i given within =
-    let e : nat_lt given (length i.taken) ≡ true = grind (arith, nat_tests) in
-    ap (λ b. cond b (record i { given = given + 1 }) (record i { given = given })) e
+after-one i given within = grind (arith)
 
 pub handing-next : (start now next : FolderState) (name segment : List ℕ) (r new : Taking) (i : Incoming) → GoesOn start now
     → (h : Handing start now name r i) → Next r i h.given segment → StandsIn new (after_delivered (record i { given = h.given }))
@@ -83,7 +81,7 @@ handing-ends start now name r i h none = go (nat_lt h.given (length i.taken)) re
         → StandsIn r (record i { given = length i.taken }) × Adds start now name (concat (drop i.given i.taken))
     go true e = absurd (false≢true (none ∙ ap (λ b. is_some (cond b (Some (slice_index_or i.taken h.given [])) None)) e))
     go false e =
-        let past : length i.taken ≤ h.given = grind (arith, nat_tests) in
+        let past : length i.taken ≤ h.given = grind (arith) in
         let same : h.given ≡ length i.taken = omega (arith, past, h.stands.given_within) in
         let all : drop i.given i.taken ≡ h.front =
         h.split ∙ ap (λ l. h.front ++ l) (past-end h.given i.taken past) ∙ append-nil h.front in (
@@ -104,7 +102,4 @@ handing-stops start now next name segment r i on h n part =
 -- one less is ready
 pub fewer-ready : (old new : Taking) → new ≡ record old { ready = drop 1 old.ready } → true ≡ nat_lt 0 (length old.ready)
     → length new.ready < length old.ready
-fewer-ready old new value some = subst (λ (r : Taking). length r.ready < length old.ready) (sym value) (less old.ready some)
-  where
-    less : (ready : List (List ℕ)) → true ≡ nat_lt 0 (length ready) → length (drop 1 ready) < length ready
-    less ready e = grind (arith)
+fewer-ready old new value some = grind (arith)

@@ -1,7 +1,7 @@
 -- What is read of a recording to look at its header.
-use Rattle.line_tap.proofs.Cited.{◌≡◌, ◌∙◌, inl, inr, ℕ, ◌+◌, ◌≤◌, ◌<◌, List, [], ◌∷◌, IsTrue, length, take, sym, ap, arith, cases_lt}
-use Rattle.line_tap.proofs.Cited.{take_all, ReadTo, Stop, Own, Read, TapNames, recordings_of, IsRefused, AreReadTo, no_octets, ScriptValue}
-use Rattle.line_tap.proofs.Cited.{FolderState, octets_at, SomeRose, header_of, Limits, Mode, Call, Answer}
+use Rattle.line_tap.proofs.Cited.{◌≡◌, ℕ, ◌+◌, ◌≤◌, ◌<◌, List, [], ◌∷◌, IsTrue, take, sym, arith, ReadTo, Stop, TapNames, recordings_of}
+use Rattle.line_tap.proofs.Cited.{IsRefused, AreReadTo, no_octets, ScriptValue, FolderState, octets_at, SomeRose, header_of, Limits, Mode}
+use Rattle.line_tap.proofs.Cited.{Call, Answer}
 use Rattle.command_base.specs.Stops.{StopCounts}
 use Rattle.run_inputs.specs.Inputs.{Opens, Refuses}
 use Rattle.line_tap.specs.declared.limits.TheConstants.{TAP_LIMIT}
@@ -11,11 +11,7 @@ use Rattle.line_tap.specs.Headers.{HasHeader, NoHeader}
 pub header-octets : (start new : FolderState) (name : List ℕ) (count : ℕ) (piece : List ℕ) → count ≤ 8
     → ReadTo start new name TAP_LIMIT (0 + count) piece → (count < 8 → IsTrue (start.tells name) → piece ≡ octets_at start name)
     → IsTrue (start.tells name) → piece ≡ take 8 (octets_at start name)
-header-octets start new name count piece few r all told = elim (cases_lt count 8) [
-  | inl short ↦ all short told ∙ sym
-      (take_all 8 (octets_at start name) (omega (arith, short, r.count, ap (λ (xs : List ℕ). length xs) (all short told))))
-  | inr long ↦ let is : 0 + count ≡ 8 = omega (arith, few, long) in r.front told ∙ ap (λ m. take m (octets_at start name)) is
-]
+header-octets start new name count piece few r all told = grind (arith)
 
 -- both recordings were read up to the octets behind their headers
 pub both-read : (start now : FolderState) (n : TapNames) → ReadTo start now n.rec_o TAP_LIMIT 8 (header_of Call)
@@ -24,8 +20,7 @@ both-read start now n orig answ b = grind (arith)
 
 -- the script or a length is refused
 pub inputs-refused : (l : Limits) (old new : FolderState) (n : TapNames) (stop : Stop)
-    → Refuses l old new n.script 3 (recordings_of n) 1 stop
-    → IsRefused l old new n stop
+    → Refuses l old new n.script 3 (recordings_of n) 1 stop → IsRefused l old new n stop
 inputs-refused l old new n stop refused = grind (arith)
 
 -- a recording has no header: the originator's,
@@ -43,10 +38,6 @@ header-read start now name mode r told = sym (r.front told)
 pub answ-refused : (l : Limits) (old new : FolderState) (n : TapNames) (script : ScriptValue) (stop : Stop)
     → Opens l old n.script (recordings_of n) script → HasHeader old n.rec_o Call → NoHeader old n.rec_a Answer stop
     → StopCounts old new (n.rec_a ∷ []) [] stop → IsRefused l old new n stop
-answ-refused l old new n script (Own answer) opens good bad counts =
-    inr (record { script = script; opens = opens; bad = inr (good, bad) })
-answ-refused l old new n script (Read fault) opens good bad counts =
-    inr (record { script = script; opens = opens; fails = inr (good, counts) })
 answ-refused l old new n script stop opens good bad counts = grind (arith)
 
 -- a fault of some inputs is one of all

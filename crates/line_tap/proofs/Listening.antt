@@ -1,15 +1,13 @@
 -- What an end is given by what it hears, and hands over.
-use Rattle.line_tap.proofs.Cited.{arith, ◌≡◌, ℕ, ◌*◌, ◌≤◌, Bool, true, false, List, ◌++◌, length, refl, sym, subst, Option, Some, None}
-use Rattle.line_tap.proofs.Cited.{append-nil, ◌||◌, I, Ui, Passed, Incoming, Taking, StandsIn, Listens, IsIdle, delivered, EndListener}
-use Rattle.line_tap.proofs.Cited.{given_in, given_by, opens, Role, Terms}
+use Rattle.line_tap.proofs.Cited.{arith, ◌≡◌, ℕ, Bool, List, ◌++◌, length, Option, append-nil, ◌||◌, I, Ui, Passed, Incoming, Taking}
+use Rattle.line_tap.proofs.Cited.{StandsIn, Listens, IsIdle, delivered, EndListener, given_in, given_by, opens, Role, Terms}
 use Rattle.lapm_frames.specs.declared.sent.Sent.TheVariants as slots
 use Rattle.break_signals.specs.Breaks.{with_given}
 use Rattle.line_tap.specs.EndListener.{HasTaken}
 
 -- one break more
 pub with-given : (o : Option ℕ) (lengths : List ℕ) → with_given o lengths ≡ lengths ++ given_in o
-with-given None lengths = sym (append-nil lengths)
-with-given (Some length_octet) lengths = refl
+with-given o lengths = grind (arith, append-nil)
 
 -- neither a segment nor a word opens a link
 pub opens-no-segment : (role : Role) (ns nr : ℕ) (pf : Bool) (info : List ℕ) (b : Bool) → (opens role (I ns nr pf info) || b) ≡ b
@@ -21,8 +19,7 @@ opens-no-word role command pf info b = grind (arith)
 -- nor does a segment give a break
 pub gives-no-segment : (connected : Bool) (ns nr : ℕ) (pf : Bool) (info lengths : List ℕ)
     → lengths ≡ lengths ++ given_in (given_by connected (Passed (slots.Frame (I ns nr pf info))) lengths)
-gives-no-segment true ns nr pf info lengths = sym (append-nil lengths)
-gives-no-segment false ns nr pf info lengths = sym (append-nil lengths)
+gives-no-segment connected ns nr pf info lengths = grind (arith, append-nil)
 
 -- ---- segments are handed over
 
@@ -31,20 +28,8 @@ pub listens-on : (old mid : EndListener) (new : Taking) (terms : Terms) (role : 
     (lengths : List ℕ)
     → mid ≡ record old { receiver = mid.receiver } → StandsIn new (delivered i) → Listens old terms role agreed connected i lengths
     → Listens (record mid { receiver = new }) terms role agreed connected (delivered i) lengths
-listens-on old mid new terms role agreed connected i lengths beside stands h =
-    subst (λ (l : EndListener). Listens (record l { receiver = new }) terms role agreed connected (delivered i) lengths) (sym beside)
-    (record {
-      role_is = h.role_is;
-      check_is = h.check_is;
-      agreed_is = h.agreed_is;
-      takes = stands;
-      breaks = h.breaks;
-      connected_is = h.connected_is;
-    })
+listens-on old mid new terms role agreed connected i lengths beside stands h = grind (arith)
 
 pub idle-again : (old new : EndListener) (turns : ℕ) → new.receiver.window ≡ old.receiver.window → new.receiver.taken ≡ old.receiver.taken
     → length new.receiver.ready ≡ 0 → HasTaken old turns → IsIdle new turns
-idle-again old new turns window taken none h = record {
-  taken = record { begun = subst (λ (n : ℕ). 1 ≤ n) (sym window) h.begun; few = subst (λ (n : ℕ). n ≤ 127 * turns) (sym taken) h.few };
-  none = none;
-}
+idle-again old new turns window taken none h = grind (arith)

@@ -1,9 +1,8 @@
 -- What more octets of the recordings leave as it was.
-use Rattle.line_tap.proofs.Cited.{◌≡◌, ℕ, ◌+◌, ◌*◌, ◌≤◌, List, [], ◌∷◌, ◌++◌, length, take, arith, length-append, sym, ◌∙◌, ap, subst}
-use Rattle.line_tap.proofs.Cited.{append-nil, drop-append_seam, take-append-le, concat-append, concat, Check, I, Heard, Passed, Sent}
-use Rattle.line_tap.proofs.Cited.{Incoming, KeepsTaken, Modulates, Wire, bits_of, Tapping, tapping, line_of, terms_of, octets_of, next_bits}
-use Rattle.line_tap.proofs.Cited.{HoldsNext, Hears, Sends, GoesOn, Tells, got_in, check_by, received, taking_in, Turn, samples_in, mode_of}
-use Rattle.line_tap.proofs.Cited.{tap_of, Both, of, Role, Originator, Answerer}
+use Rattle.line_tap.proofs.Cited.{◌≡◌, ℕ, ◌+◌, ◌*◌, ◌≤◌, List, [], ◌∷◌, ◌++◌, length, take, arith, length-append, sym, ◌∙◌, ap, append-nil}
+use Rattle.line_tap.proofs.Cited.{drop-append_seam, take-append-le, concat-append, concat, Check, I, Heard, Passed, Sent, Incoming}
+use Rattle.line_tap.proofs.Cited.{KeepsTaken, Wire, Tapping, tapping, line_of, terms_of, octets_of, HoldsNext, Hears, Sends, GoesOn, Tells}
+use Rattle.line_tap.proofs.Cited.{got_in, check_by, received, taking_in, Turn, samples_in, Both, of, Role, Originator, Answerer}
 use Rattle.std.specs.Prelude.{drop}
 use Rattle.lapm_frames.specs.declared.sent.Sent.TheVariants as slots
 use Rattle.line_tap.proofs.NextSlots.{samples-take}
@@ -18,21 +17,11 @@ front-same c n body more h =
 
 pub holds-longer : (c : Wire) (check : Check) (role : Role) (ts : List Turn) (body more : List ℕ) (s : Sent)
     → HoldsNext c check role ts body s → HoldsNext c check role ts (body ++ more) s
-holds-longer c check role ts body more s h = record {
-  whole = omega (arith, h.whole, length-append {A = ℕ} body more);
-  codable = h.codable;
-  modulated = subst (Modulates (tap_of (mode_of role)) (bits_of c role ts ++ next_bits c check role ts s))
-      (sym (front-same c (length ts + 1) body more h.whole)) h.modulated;
-}
+holds-longer c check role ts body more s h = grind (arith, length-append, front-same)
 
 pub holds-shorter : (c : Wire) (check : Check) (role : Role) (ts : List Turn) (body more : List ℕ) (s : Sent)
     → octets_of c (length ts + 1) ≤ length body → HoldsNext c check role ts (body ++ more) s → HoldsNext c check role ts body s
-holds-shorter c check role ts body more s whole h = record {
-  whole = whole;
-  codable = h.codable;
-  modulated = subst (Modulates (tap_of (mode_of role)) (bits_of c role ts ++ next_bits c check role ts s))
-      (front-same c (length ts + 1) body more whole) h.modulated;
-}
+holds-shorter c check role ts body more s whole h = grind (arith, front-same)
 
 -- ---- turns
 
@@ -60,10 +49,7 @@ sends-longer x more ts t Answerer h = record {
 }
 
 pub goes-longer : (x : Tapping) (more : Both (List ℕ)) (ts : List Turn) (t : Turn) → GoesOn x ts t → GoesOn (longer x more) ts t
-goes-longer x more ts t h = record {
-  hears = hears-longer x (and_more x.bodies more) ts t h.hears;
-  sends = λ role. sends-longer x more ts t role (h.sends role);
-}
+goes-longer x more ts t h = grind (arith, hears-longer, sends-longer)
 
 pub tells-longer : (x : Tapping) (more : Both (List ℕ)) (ts : List Turn) → Tells x ts → Tells (longer x more) ts
 tells-longer x more [] h = tt

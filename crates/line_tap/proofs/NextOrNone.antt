@@ -1,10 +1,8 @@
 -- Whether a recording holds a slot of the next turn, and which, can be told.
-use Rattle.line_tap.proofs.Cited.{◌≡◌, inl, inr, ℕ, suc, ◌+◌, ◌-◌, ◌*◌, ◌%◌, ◌<◌, ◌≤◌, Bool, List, [], ◌∷◌, ◌++◌, length, take, arith, ap}
-use Rattle.line_tap.proofs.Cited.{subst, Some, cases_lt, All-nil, All-cons, All-head, All-tail, length-line_bits, line_bits, opening, TAIL}
-use Rattle.line_tap.proofs.Cited.{AreOctets, Check, checked, information_of, IsSendable, Frame, Sent, Modulates, Decided, tap-some, Wire}
-use Rattle.line_tap.proofs.Cited.{bits_of, phase_behind, next_bits, octets_of, HoldsNext, Turn, samples_in, mode_of, IsCodable, tap_of}
-use Rattle.line_tap.proofs.Cited.{Role, Sample}
-use Rattle.std.specs.Prelude.{ℤ, pos, negsuc}
+use Rattle.line_tap.proofs.Cited.{◌≡◌, inl, inr, ℕ, suc, ◌-◌, ◌*◌, ◌%◌, ◌<◌, ◌≤◌, Bool, List, [], ◌∷◌, length, arith, subst, Some, cases_lt}
+use Rattle.line_tap.proofs.Cited.{All-nil, All-cons, All-head, All-tail, length-line_bits, opening, TAIL, AreOctets, Check, checked}
+use Rattle.line_tap.proofs.Cited.{information_of, IsSendable, Frame, Sent, Modulates, Decided, tap-some, Wire, HoldsNext, Turn, mode_of}
+use Rattle.line_tap.proofs.Cited.{IsCodable, tap_of, Role, Sample}
 use Rattle.lapm_frames.specs.declared.sent.Sent.TheVariants as sent
 use Rattle.sample_line.specs.Signals.{FrameFits}
 use Rattle.line_run.proofs.Recordings.{recorded-some}
@@ -17,35 +15,8 @@ use Rattle.sample_line.proofs.Once.{modulates-once}
 at-most : (m n : ℕ) → Decided (m ≤ n)
 at-most m n = elim (cases_lt n m) [ inl l ↦ inr (λ k. omega (arith, l, k)) | inr k ↦ inl k ]
 
-abbrev magnitude : ℤ → ℕ
-magnitude (pos n) = n
-magnitude (negsuc n) = n
-
-same-coordinate : (a b : ℤ) → Decided (a ≡ b)
-same-coordinate (pos m) (pos n) = go (number-decided m n)
-  where
-    go : Decided (m ≡ n) → Decided (pos m ≡ pos n)
-    go (inl e) = inl (ap pos e)
-    go (inr f) = inr (λ e. f (back e))
-      where
-        back : pos m ≡ pos n → m ≡ n
-        back e = ap magnitude e
-same-coordinate (negsuc m) (negsuc n) = go (number-decided m n)
-  where
-    go : Decided (m ≡ n) → Decided (negsuc m ≡ negsuc n)
-    go (inl e) = inl (ap negsuc e)
-    go (inr f) = inr (λ e. f (back e))
-      where
-        back : negsuc m ≡ negsuc n → m ≡ n
-        back e = ap magnitude e
-same-coordinate (pos m) (negsuc n) = inr (λ e. absurd cc)
-same-coordinate (negsuc m) (pos n) = inr (λ e. absurd cc)
-
 same-sample : (a b : Sample) → Decided (a ≡ b)
-same-sample a b = go (same-coordinate a.re b.re) (same-coordinate a.im b.im)
-  where
-    go : Decided (a.re ≡ b.re) → Decided (a.im ≡ b.im) → Decided (a ≡ b)
-    go b d = grind (arith)
+same-sample a b = grind (arith)
 
 -- ---- what can be coded
 
@@ -81,9 +52,7 @@ is-codable check sender dlci symbols phase (sent.Frame frame) = frame-fits check
 -- ---- whether samples are those of some bits
 
 in-fours : (tap : ℕ) (bits : List Bool) (samples : List Sample) → Modulates tap bits samples → length bits % 4 ≡ 0
-in-fours tap bits samples h =
-    let same : length h.line ≡ length (line_bits h.quads) = ap length h.in_fours in
-    omega (arith, h.scrambled.lengths, same, length-line_bits h.quads)
+in-fours tap bits samples h = grind (arith, length-line_bits)
 
 are-made : (c : Wire) (role : Role) (bits : List Bool) (samples : List Sample) → Decided (Modulates (tap_of (mode_of role)) bits samples)
 are-made c role bits samples = go (number-decided (length bits % 4) 0)
@@ -102,15 +71,7 @@ are-made c role bits samples = go (number-decided (length bits % 4) 0)
 -- ---- so of each slot it can be told whether it is the next one,
 
 is-next : (c : Wire) (check : Check) (role : Role) (ts : List Turn) (body : List ℕ) (s : Sent) → Decided (HoldsNext c check role ts body s)
-is-next c check role ts body s =
-    go (at-most (octets_of c (length ts + 1)) (length body)) (is-codable check role c.dlci c.symbols (phase_behind c role ts) s)
-    (are-made c role (bits_of c role ts ++ next_bits c check role ts s) (take (c.symbols * (length ts + 1)) (samples_in body)))
-  where
-    go : Decided (octets_of c (length ts + 1) ≤ length body) → Decided (IsCodable check role c.dlci c.symbols (phase_behind c role ts) s)
-        → Decided (Modulates (tap_of (mode_of role)) (bits_of c role ts ++ next_bits c check role ts s)
-        (take (c.symbols * (length ts + 1)) (samples_in body)))
-        → Decided (HoldsNext c check role ts body s)
-    go b k m = grind (arith)
+is-next c check role ts body s = grind (arith, at-most, is-codable, are-made)
 
 -- and whether one of all that an end may send is.
 pub next-or-none : (c : Wire) (check : Check) (role : Role) (ts : List Turn) (body : List ℕ)

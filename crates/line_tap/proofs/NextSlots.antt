@@ -1,8 +1,7 @@
 -- What a reader takes for the next slot is the next slot that the recording holds, and the other way.
-use Rattle.line_tap.proofs.Cited.{◌≡◌, ◌∙◌, ℕ, zero, suc, ◌+◌, ◌*◌, ◌≤◌, List, [], ◌∷◌, ◌++◌, length, take, drop, refl, sym, ap, subst}
-use Rattle.line_tap.proofs.Cited.{arith, common_steps, Signal, signal_bits, Check, Sent, Modulates, Wire, signals, bits_of, IsNext}
-use Rattle.line_tap.proofs.Cited.{ReadsFor, carries, HoldsNext, next_bits, octets_of, SlotReader, Turn, samples_in, sample_of, bits_behind}
-use Rattle.line_tap.proofs.Cited.{mode_of, signal_of, IsCodable, Framing, tap_of, Role, Sample}
+use Rattle.line_tap.proofs.Cited.{◌≡◌, ◌∙◌, ℕ, zero, suc, ◌+◌, ◌*◌, ◌≤◌, List, [], ◌∷◌, ◌++◌, length, take, drop, refl, sym, ap, arith}
+use Rattle.line_tap.proofs.Cited.{common_steps, signal_bits, Check, Sent, Wire, signals, bits_of, IsNext, ReadsFor, carries, HoldsNext}
+use Rattle.line_tap.proofs.Cited.{next_bits, octets_of, SlotReader, Turn, samples_in, sample_of, bits_behind, Role}
 use Rattle.std.proofs.Math.Seq.{take-add}
 
 pub samples-drop : (n : ℕ) (octets : List ℕ) → 4 * n ≤ length octets → samples_in (drop (4 * n) octets) ≡ drop n (samples_in octets)
@@ -31,8 +30,7 @@ abbrev pub piece_of : Wire → ℕ → List ℕ → List ℕ
 piece_of c turns body = take (4 * c.symbols) (drop (octets_of c turns) body)
 
 pub one-slot-more : (c : Wire) (turns : ℕ) (body : List ℕ) → octets_of c (turns + 1) ≤ length body
-    → take (c.symbols * (turns + 1)) (samples_in body)
-    ≡ take (c.symbols * turns) (samples_in body) ++ samples_in (piece_of c turns body)
+    → take (c.symbols * (turns + 1)) (samples_in body) ≡ take (c.symbols * turns) (samples_in body) ++ samples_in (piece_of c turns body)
 one-slot-more c turns body h =
     let n : ℕ = c.symbols * turns in
     let next : c.symbols * (turns + 1) ≡ n + c.symbols = mul-one c.symbols turns in
@@ -43,7 +41,7 @@ one-slot-more c turns body h =
     ∙ ap (λ xs. take n (samples_in body) ++ xs) (sym (samples-take c.symbols (drop (4 * n) body) rest))
   where
     mul-one : (a b : ℕ) → a * (b + 1) ≡ a * b + a
-    mul-one a b = grind (arith, common_steps)
+    mul-one a b = grind (arith)
 
     rest-long : (i j : ℕ) (xs : List ℕ) → i + j ≤ length xs → j ≤ length (drop i xs)
     rest-long i j xs h = grind (arith, common_steps)
@@ -52,45 +50,15 @@ one-slot-more c turns body h =
 same-bits : (r : SlotReader) (c : Wire) (check : Check) (role : Role) (ts : List Turn) (s : Sent) → ReadsFor r c check role ts
     → signal_bits (4 * r.symbols) (signals c role ts) ++ bits_behind (4 * r.symbols) (signals c role ts) (carries r s)
     ≡ bits_of c role ts ++ next_bits c check role ts s
-same-bits r c check role ts s h =
-    let sigs : List Signal = signals c role ts in
-    ap (λ n. signal_bits (4 * n) sigs ++ bits_behind (4 * n) sigs (carries r s)) h.symbols
-    ∙ ap (λ (w : Framing). bits_of c role ts ++ bits_behind (4 * c.symbols) sigs (signal_of w.check w.sender w.dlci s)) h.framing
+same-bits r c check role ts s h = grind (arith)
 
 pub held-is-next : (r : SlotReader) (c : Wire) (check : Check) (role : Role) (ts : List Turn) (body : List ℕ) (s : Sent)
     → ReadsFor r c check role ts → HoldsNext c check role ts body s
     → IsNext r (signals c role ts) (take (c.symbols * length ts) (samples_in body)) (samples_in (piece_of c (length ts) body)) s
-held-is-next r c check role ts body s h k =
-    let sigs : List Signal = signals c role ts in
-    let front : List Sample = take (c.symbols * length ts) (samples_in body) in
-    let more : List Sample = samples_in (piece_of c (length ts) body) in
-    record {
-      codable = subst (λ (w : Framing). IsCodable w.check w.sender w.dlci r.symbols r.phase s) (sym h.framing)
-          (subst (λ n. IsCodable check role c.dlci n r.phase s) (sym h.symbols)
-          (subst (λ p. IsCodable check role c.dlci c.symbols p s) (sym h.phase) k.codable));
-      modulated = subst (λ (w : Framing). Modulates (tap_of (mode_of w.sender))
-          (signal_bits (4 * r.symbols) sigs ++ bits_behind (4 * r.symbols) sigs (carries r s)) (front ++ more)) (sym h.framing)
-          (subst (λ bits. Modulates (tap_of (mode_of role)) bits (front ++ more)) (sym (same-bits r c check role ts s h))
-          (subst (Modulates (tap_of (mode_of role)) (bits_of c role ts ++ next_bits c check role ts s))
-          (one-slot-more c (length ts) body k.whole) k.modulated));
-    }
+held-is-next r c check role ts body s h k = grind (arith, same-bits, one-slot-more)
 
 pub next-is-held : (r : SlotReader) (c : Wire) (check : Check) (role : Role) (ts : List Turn) (body : List ℕ) (s : Sent)
     → ReadsFor r c check role ts → octets_of c (length ts + 1) ≤ length body
     → IsNext r (signals c role ts) (take (c.symbols * length ts) (samples_in body)) (samples_in (piece_of c (length ts) body)) s
     → HoldsNext c check role ts body s
-next-is-held r c check role ts body s h whole k =
-    let sigs : List Signal = signals c role ts in
-    let front : List Sample = take (c.symbols * length ts) (samples_in body) in
-    let more : List Sample = samples_in (piece_of c (length ts) body) in
-    record {
-      whole = whole;
-      codable = subst (λ p. IsCodable check role c.dlci c.symbols p s) h.phase
-          (subst (λ n. IsCodable check role c.dlci n r.phase s) h.symbols
-          (subst (λ (w : Framing). IsCodable w.check w.sender w.dlci r.symbols r.phase s) h.framing k.codable));
-      modulated = subst (Modulates (tap_of (mode_of role)) (bits_of c role ts ++ next_bits c check role ts s))
-          (sym (one-slot-more c (length ts) body whole))
-          (subst (λ bits. Modulates (tap_of (mode_of role)) bits (front ++ more)) (same-bits r c check role ts s h)
-          (subst (λ (w : Framing). Modulates (tap_of (mode_of w.sender))
-          (signal_bits (4 * r.symbols) sigs ++ bits_behind (4 * r.symbols) sigs (carries r s)) (front ++ more)) h.framing k.modulated));
-    }
+next-is-held r c check role ts body s h whole k = grind (arith, one-slot-more, same-bits)

@@ -1,11 +1,10 @@
 -- A script and two recordings tell one thing.
-use Rattle.line_tap.proofs.Cited.{◌≡◌, ◌⊎◌, inl, inr, ℕ, suc, ◌+◌, ◌*◌, ◌<◌, ◌≤◌, List, [], ◌∷◌, ◌++◌, length, arith, refl, sym, ◌∙◌, ap}
-use Rattle.line_tap.proofs.Cited.{subst, Option, Some, mul-suc, cases_lt, concat, phase-low, HEAD, TAIL, slots_of, Check, Heard, Sent, Left}
-use Rattle.line_tap.proofs.Cited.{SlotsTellWhatWasSent, Wire, signals, bits_of, IsHeardOf, IsHeardWell, LineEnd, SlotsHaveRoom, TapEnd}
-use Rattle.line_tap.proofs.Cited.{IsDone, Leaves, LastHears, EndsWhole, EndsLine, EndsOnLine, EndsBy, TellsOnce, Tapping, line_of, terms_of}
-use Rattle.line_tap.proofs.Cited.{phase_behind, next_bits, octets_of, HoldsNext, told, Hears, GoesOn, Tells, chance_line, check_by}
-use Rattle.line_tap.proofs.Cited.{judged_by, received, given_to, Spoken, Side, Turn, trace_text, IsInLimits, mode_of, tap_of, of, other}
-use Rattle.line_tap.proofs.Cited.{Role, Originator, Answerer, PointsDiffer}
+use Rattle.line_tap.proofs.Cited.{◌≡◌, ◌⊎◌, inl, inr, ℕ, ◌+◌, ◌*◌, ◌<◌, ◌≤◌, List, [], ◌∷◌, ◌++◌, length, arith, refl, sym, ◌∙◌, ap, subst}
+use Rattle.line_tap.proofs.Cited.{Some, mul-suc, cases_lt, phase-low, HEAD, TAIL, slots_of, Check, Sent, Left, SlotsTellWhatWasSent, Wire}
+use Rattle.line_tap.proofs.Cited.{signals, bits_of, IsHeardOf, IsHeardWell, LineEnd, SlotsHaveRoom, TapEnd, IsDone, Leaves, LastHears}
+use Rattle.line_tap.proofs.Cited.{EndsWhole, EndsLine, EndsOnLine, EndsBy, TellsOnce, Tapping, line_of, terms_of, phase_behind, next_bits}
+use Rattle.line_tap.proofs.Cited.{octets_of, HoldsNext, told, Hears, GoesOn, Tells, chance_line, check_by, judged_by, given_to, Side, Turn}
+use Rattle.line_tap.proofs.Cited.{trace_text, IsInLimits, mode_of, tap_of, of, other, Role, Originator, Answerer, PointsDiffer}
 use Rattle.line_run.specs.Sampled as lines
 use Rattle.line_run.specs.LineLaws.{HeardOnce, OneLineEndBy, EndsOrIsHeard}
 use Rattle.line_tap.specs.Ends.{LineLost, ChanceMatch, BadTap, EndsBadly}
@@ -38,14 +37,7 @@ holds-once laws c check role ts body s others long low h k =
 -- ---- one turn
 
 side-same : (s t : Side) → s.heard ≡ t.heard → s.check ≡ t.check → s.sent ≡ t.sent → s.given ≡ t.given → s ≡ t
-side-same s t a b e g =
-    sides s.heard t.heard s.check t.check s.sent t.sent s.given t.given a b e g
-  where
-    side : Heard → Check → Option Spoken → Option ℕ → Side
-    side h k o g = record { heard = h; check = k; sent = o; given = g }
-
-    sides : (h i : Heard) (k l : Check) (o p : Option Spoken) (g j : Option ℕ) → h ≡ i → k ≡ l → o ≡ p → g ≡ j → side h k o g ≡ side i l p j
-    sides h i k l o p g j a b e f = rw (a, b, e, f) refl
+side-same s t a b e g = grind (arith)
 
 turn-same : (t u : Turn) → ((role : Role) → of role t ≡ of role u) → t ≡ u
 turn-same t u e = turns t.orig u.orig t.answ u.answ (e Originator) (e Answerer)
@@ -67,17 +59,14 @@ one-turn : OnceLaws → (x : Tapping) (ts : List Turn) (t u : Turn) → Hears x 
     → ((role : Role) → (of role t).sent ≡ (of role u).sent) → t ≡ u
 one-turn laws x ts t u h k e =
     turn-same t u (λ role. side-same (of role t) (of role u) (heard-same laws x ts t u h k role) (h.checks role ∙ sym (k.checks role))
-    (e role)
-    (h.given role ∙ ap (given_to role ts) (heard-same laws x ts t u h k role) ∙ sym (k.given role)))
+    (e role) (h.given role ∙ ap (given_to role ts) (heard-same laws x ts t u h k role) ∙ sym (k.given role)))
 
 one-going : OnceLaws → (x : Tapping) (ts : List Turn) (t u : Turn) → IsInLimits x.script → GoesOn x ts t → GoesOn x ts u → t ≡ u
 one-going laws x ts t u w g h =
-    one-turn laws x ts t u g.hears h.hears
-    (λ role. (g.sends role).sent_is
+    one-turn laws x ts t u g.hears h.hears (λ role. (g.sends role).sent_is
     ∙ ap (λ s. Some (told (check_by (terms_of x)) s))
     (holds-once laws (line_of x) (check_by (terms_of x)) role ts (of role x.bodies) (g.sends role).sent (h.sends role).sent
-    (laws.room x.script w).0 (omega arith)
-    (g.sends role).holds (h.sends role).holds)
+    (laws.room x.script w).0 (omega arith) (g.sends role).holds (h.sends role).holds)
     ∙ sym (h.sends role).sent_is)
 
 one-tells : OnceLaws → (x : Tapping) (ts us : List Turn) → IsInLimits x.script → length ts ≡ length us → Tells x ts → Tells x us → ts ≡ us
@@ -93,11 +82,7 @@ one-tells laws x (t ∷ ts) (u ∷ us) w e h k =
 
 well-in : (x : Tapping) (ts : List Turn) (t : Turn) → Hears x ts t → (role : Role)
     → IsHeardWell (line_of x) (other role) ts (judged_by (terms_of x) role ts)
-well-in x ts t h role = record {
-  heard = (of role t).heard;
-  is = subst (λ z. IsHeardOf (line_of x) (other role) ts z (of role t).heard) (h.checks role) (h.heard role).heard_of;
-  well = (h.heard role).well;
-}
+well-in x ts t h role = grind (arith)
 
 line-or-hears : OnceLaws → (x : Tapping) (ts : List Turn) (t : Turn) (end : LineEnd) → EndsLine x ts end → Hears x ts t → ⊥
 line-or-hears laws x ts t end e h = laws.either (line_of x) ts (λ role. judged_by (terms_of x) role ts) end e (well-in x ts t h)
@@ -158,19 +143,14 @@ left-same a b e t = lefts a.got.orig b.got.orig a.got.answ b.got.answ a.trace b.
 
 leaves-once : (x : Tapping) (ts us : List Turn) (text others : List ℕ) (a b : Left) → ts ≡ us → text ≡ others → Leaves x ts text a
     → Leaves x us others b → a ≡ b
-leaves-once x ts us text others a b e t h k =
-    left-same a b (λ role. h.got_is role ∙ ap (λ l. concat (received (terms_of x) role l).taken) e ∙ sym (k.got_is role))
-    (h.trace_is ∙ t ∙ sym k.trace_is)
+leaves-once x ts us text others a b e t h k = grind (arith, left-same)
 
 last-once : OnceLaws → (x : Tapping) (ts : List Turn) (a b : LastHears x ts) → a.last ≡ b.last
 last-once laws x ts a b = one-turn laws x ts a.last b.last a.hears b.hears (λ role. a.silent role ∙ sym (b.silent role))
 
 refused-once : (x : Tapping) (ts : List Turn) (a b : Role) (left others : Left) → EndsBadly x ts a (length ts) left
     → EndsBadly x ts b (length ts) others → a ≡ b
-refused-once x ts Originator Originator left others h k = refl
-refused-once x ts Answerer Answerer left others h k = refl
-refused-once x ts Originator Answerer left others h k = absurd (h.refused k.refused.0.0 k.refused.0.1)
-refused-once x ts Answerer Originator left others h k = absurd (k.refused h.refused.0.0 h.refused.0.1)
+refused-once x ts a b left others h k = grind (arith)
 
 same-cause : OnceLaws → (x : Tapping) (ts : List Turn) (k q : Cause) (a b : Left) → EndsWith x ts k a → EndsWith x ts q b
     → (k ≡ q) × (a ≡ b)
@@ -197,12 +177,7 @@ same-cause laws x ts (On_line end) (On_line other_end) a b h w =
 -- ---- how many turns
 
 more-octets : (c : Wire) (n : ℕ) → HEAD + TAIL < c.symbols → octets_of c n < octets_of c (n + 1)
-more-octets c n long =
-    let e : c.symbols * (n + 1) ≡ c.symbols * suc n = ap (λ m. c.symbols * m) (plus-one n) in
-    omega (arith, e, mul-suc c.symbols n, long)
-  where
-    plus-one : (n : ℕ) → n + 1 ≡ suc n
-    plus-one n = omega arith
+more-octets c n long = grind (arith, mul-suc)
 
 ends-or-goes : OnceLaws → (x : Tapping) (ts : List Turn) (k : Cause) (left : Left) (t : Turn) → IsInLimits x.script → EndsWith x ts k left
     → GoesOn x ts t → ⊥
@@ -228,8 +203,7 @@ cut x (u ∷ us) n l h =
     ]
 
 not-longer : OnceLaws → (x : Tapping) (ts us : List Turn) (k : Cause) (left : Left) → IsInLimits x.script → Tells x ts
-    → EndsWith x ts k left
-    → Tells x us → length ts < length us → ⊥
+    → EndsWith x ts k left → Tells x us → length ts < length us → ⊥
 not-longer laws x ts us k left w h e g l =
     let c = cut x us (length ts) l g in
     let same = one-tells laws x c.turns ts w c.count c.tells h in

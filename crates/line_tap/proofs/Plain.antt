@@ -1,20 +1,15 @@
 -- Turns of a run without what the line doesn't tell: the meant numbers, and the checks of frames that have no numbers.
-use Rattle.line_tap.proofs.Cited.{arith, ◌≡◌, ℕ, zero, suc, ◌-◌, ◌*◌, Bool, true, false, cond, List, [], ◌∷◌, ◌++◌, length, map, drop, refl}
-use Rattle.line_tap.proofs.Cited.{sym, ◌∙◌, ap, subst, Option, Some, None, length-map, drop-map, option_map, is_some, ◌||◌, signal_bits}
-use Rattle.line_tap.proofs.Cited.{FlagSlot, with_check, Check, Sixteen, has_number, spelled, Frame, Heard, Sent, Wire, signals, bits_of}
-use Rattle.line_tap.proofs.Cited.{IsHeardOf, IsHeardWell, HeardIn, told, given_in, given_breaks, check_by, judged_by, taking_in, received}
-use Rattle.line_tap.proofs.Cited.{given_by, given_to, has_passed, is_xid, opens, Spoken, Side, Turn, side_line, turn_text, trace_text}
-use Rattle.line_tap.proofs.Cited.{delay_of, signal_of, of, Role, Originator, Answerer, Terms}
+use Rattle.line_tap.proofs.Cited.{arith, ◌≡◌, ℕ, zero, suc, ◌-◌, ◌*◌, Bool, true, cond, List, [], ◌∷◌, ◌++◌, length, map, drop, refl, ◌∙◌}
+use Rattle.line_tap.proofs.Cited.{ap, Option, Some, length-map, drop-map, option_map, is_some, ◌||◌, signal_bits, Check, Sixteen}
+use Rattle.line_tap.proofs.Cited.{has_number, Frame, Heard, Sent, Wire, signals, bits_of, IsHeardOf, IsHeardWell, HeardIn, told, given_in}
+use Rattle.line_tap.proofs.Cited.{given_breaks, check_by, judged_by, taking_in, received, given_to, has_passed, is_xid, Spoken, Side, Turn}
+use Rattle.line_tap.proofs.Cited.{side_line, turn_text, trace_text, signal_of, of, Role, Originator, Answerer, Terms}
 use Rattle.std.proofs.Common.{slice_get}
 use Rattle.std.proofs.lemmas.Option.{slice_get-map}
 use Rattle.lapm_frames.specs.declared.sent.Sent.TheVariants as slots
-use Rattle.noise_script.specs.Script.{loses}
-use Rattle.sample_line.specs.Recorded.{Records}
-use Rattle.sample_line.specs.Outcomes.{IsOutcome}
-use Rattle.sample_line.specs.Path.{LosesAt}
 use Rattle.link_run.specs.Carried.{sent_in, sent_ago}
 use Rattle.link_run.specs.Overheard.{passes_in}
-use Rattle.line_run.specs.Sampled.{signal_in, and_then, signals_before, bits_before, ArrivesAs}
+use Rattle.line_run.specs.Sampled.{signal_in, signals_before, bits_before, ArrivesAs}
 use Rattle.line_run.specs.Sampled.{LosesLine}
 
 -- a slot, an end in a turn, a turn, as the line tells them
@@ -68,15 +63,10 @@ plain-breaks check role (t ∷ ts) =
     ∙ ap (λ l. l ++ given_in (of role t).given) (plain-breaks check role ts)
 
 pub plain-given_to : (check : Check) (role : Role) (ts : List Turn) (h : Heard) → given_to role (plains check ts) h ≡ given_to role ts h
-plain-given_to check role ts h =
-    ap (λ b. given_by b h (given_breaks role (plains check ts))) (plain-passed (opens role) check role ts)
-    ∙ ap (given_by (has_passed (opens role) role ts) h) (plain-breaks check role ts)
+plain-given_to check role ts h = grind (arith, plain-passed, plain-breaks)
 
 plain-line : (check : Check) (turn : ℕ) (role : Role) (s : Side) → side_line turn role (plain_side check s) ≡ side_line turn role s
-plain-line check turn role s = go s.sent refl
-  where
-    go : (o : Option Spoken) → s.sent ≡ o → side_line turn role (plain_side check s) ≡ side_line turn role s
-    go o e = grind (arith)
+plain-line check turn role s = grind (arith)
 
 pub plain-text : (check : Check) (ts : List Turn) → trace_text (plains check ts) ≡ trace_text ts
 plain-text check [] = refl
@@ -106,29 +96,16 @@ checked-drop check role (suc n) (t ∷ ts) h = checked-drop check role n ts h.1
 pub plain-signal : (check own : Check) (role : Role) (dlci : ℕ) (s : Sent)
     → ((frame : Frame) → s ≡ slots.Frame frame → has_number frame ≡ true → own ≡ check)
     → signal_of check role dlci s ≡ signal_of own role dlci s
-plain-signal check own role dlci slots.Mark h = refl
-plain-signal check own role dlci slots.Odp h = refl
-plain-signal check own role dlci slots.Adp h = refl
-plain-signal check own role dlci slots.Flags h = refl
-plain-signal check own role dlci (slots.Frame frame) h =
-    ap (λ k. FlagSlot (Some (with_check k (spelled frame role dlci)))) (go (has_number frame) refl)
-  where
-    go : (b : Bool) → has_number frame ≡ b → cond b check Sixteen ≡ cond b own Sixteen
-    go true e = sym (h frame refl e)
-    go false e = refl
+plain-signal check own role dlci s h = grind (arith)
 
 plain-signal_in : (c : Wire) (check : Check) (role : Role) (o : Option Spoken) → HasCheck check o
     → signal_in c role (option_map (plain_slot check) o) ≡ signal_in c role o
-plain-signal_in c check role None h = refl
-plain-signal_in c check role (Some slot) h =
-    ap (λ x. x ∷ []) (plain-signal check slot.check role c.dlci slot.sent (λ frame e n. h slot frame refl e n))
+plain-signal_in c check role o h = grind (arith, plain-signal)
 
 -- nothing else goes beside as many turns
 before-by : (c : Wire) (check : Check) (role : Role) (ts : List Turn) → signals c role (plains check ts) ≡ signals c role ts
     → signals_before c role (plains check ts) ≡ signals_before c role ts
-before-by c check role ts e =
-    ap (λ n. and_then (signals c role (plains check ts)) (c.beside role n)) (length-map ts (plain check))
-    ∙ ap (λ l. and_then l (c.beside role (length ts))) e
+before-by c check role ts e = grind (arith, length-map)
 
 pub plain-signals : (c : Wire) (check : Check) (role : Role) (ts : List Turn) → AllChecked check role ts
     → signals c role (plains check ts) ≡ signals c role ts
@@ -144,15 +121,11 @@ plain-bits c check role ts h = ap (signal_bits (4 * c.symbols)) (plain-signals c
 
 bits-dropped : (c : Wire) (check : Check) (role : Role) (n : ℕ) (ts : List Turn) → AllChecked check role ts
     → bits_of c role (drop n (plains check ts)) ≡ bits_of c role (drop n ts)
-bits-dropped c check role n ts h =
-    ap (bits_of c role) (drop-map (plain check) n ts) ∙ plain-bits c check role (drop n ts) (checked-drop check role n ts h)
+bits-dropped c check role n ts h = grind (arith, drop-map, plain-bits, checked-drop)
 
 before-dropped : (c : Wire) (check : Check) (role : Role) (n : ℕ) (ts : List Turn) → AllChecked check role ts
     → bits_before c role (drop n (plains check ts)) ≡ bits_before c role (drop n ts)
-before-dropped c check role n ts h =
-    ap (bits_before c role) (drop-map (plain check) n ts)
-    ∙ ap (signal_bits (4 * c.symbols))
-    (before-by c check role (drop n ts) (plain-signals c check role (drop n ts) (checked-drop check role n ts h)))
+before-dropped c check role n ts h = grind (arith, drop-map, before-by, plain-signals, checked-drop)
 
 length-dropped : (check : Check) (n : ℕ) (ts : List Turn) → length (drop n (plains check ts)) ≡ length (drop n ts)
 length-dropped check n ts = ap length (drop-map (plain check) n ts) ∙ length-map (drop n ts) (plain check)
@@ -171,53 +144,23 @@ arrives-plain : (c : Wire) (check : Check) (sender : Role) (earlier upto others 
     (heard : Heard) → bits_before c sender others ≡ bits_before c sender earlier → bits_of c sender later ≡ bits_of c sender upto
     → length others ≡ length earlier
     → ArrivesAs c sender earlier upto hearing o heard → ArrivesAs c sender others later hearing (option_map (plain_slot check) o) heard
-arrives-plain c check sender earlier upto others later hearing None heard b u n h = h
-arrives-plain c check sender earlier upto others later hearing (Some slot) heard b u n h = record {
-  before = h.before;
-  samples = h.samples;
-  recorded_before = subst (λ xs. Records c.script sender xs h.before) (sym b) h.recorded_before;
-  recorded = subst (λ xs. Records c.script sender xs h.samples) (sym u) h.recorded;
-  not_lost = h.not_lost;
-  octets = h.octets;
-  patterns = h.patterns;
-  received = h.received;
-  outcome = subst (λ m. IsOutcome (loses c.script sender m) sender c.dlci slot.sent h.octets h.patterns heard) (sym n) h.outcome;
-}
+arrives-plain c check sender earlier upto others later hearing o heard b u n h = grind (arith)
 
 pub heard_of-plain : (c : Wire) (check : Check) (sender : Role) (ts : List Turn) (hearing : Check) (heard : Heard)
     → AllChecked check sender ts → IsHeardOf c sender ts hearing heard → IsHeardOf c sender (plains check ts) hearing heard
-heard_of-plain c check sender ts hearing heard a h =
-    let d = delay_of c.script sender in
-    subst (λ o. ArrivesAs c sender (drop d (plains check ts)) (drop (d - 1) (plains check ts)) hearing o heard)
-    (sym (plain-ago check d sender ts))
-    (arrives-plain c check sender (drop d ts) (drop (d - 1) ts) (drop d (plains check ts)) (drop (d - 1) (plains check ts)) hearing
-    (sent_ago d sender ts) heard (before-dropped c check sender d ts a) (bits-dropped c check sender (d - 1) ts a)
-    (length-dropped check d ts) h)
+heard_of-plain c check sender ts hearing heard a h = grind (arith, plain-ago, arrives-plain, before-dropped, bits-dropped, length-dropped)
 
 pub well-plain : (c : Wire) (check : Check) (sender : Role) (ts : List Turn) (hearing : Check) → AllChecked check sender ts
     → IsHeardWell c sender ts hearing → IsHeardWell c sender (plains check ts) hearing
-well-plain c check sender ts hearing a h =
-    record { heard = h.heard; is = heard_of-plain c check sender ts hearing h.heard a h.is; well = h.well }
+well-plain c check sender ts hearing a h = grind (arith, heard_of-plain)
 
 pub heard_in-plain : (c : Wire) (check : Check) (ts : List Turn) (t : Turn) → ((role : Role) → AllChecked check role ts) → HeardIn c ts t
     → HeardIn c (plains check ts) (plain check t)
-heard_in-plain c check ts t a h Originator = record {
-  heard_of = heard_of-plain c check Answerer ts t.orig.check t.orig.heard (a Answerer) (h Originator).heard_of;
-  well = (h Originator).well;
-}
-heard_in-plain c check ts t a h Answerer = record {
-  heard_of = heard_of-plain c check Originator ts t.answ.check t.answ.heard (a Originator) (h Answerer).heard_of;
-  well = (h Answerer).well;
-}
+heard_in-plain c check ts t a h given = grind (arith, heard_of-plain)
 
 some-plain : (check : Check) (o : Option Spoken) → is_some (option_map (plain_slot check) o) ≡ is_some o
 some-plain check o = grind (arith)
 
 pub loses-plain : (c : Wire) (check : Check) (sender : Role) (ts : List Turn) (symbol : ℕ) → AllChecked check sender ts
     → LosesLine c sender ts symbol → LosesLine c sender (plains check ts) symbol
-loses-plain c check sender ts symbol a h =
-    let d = delay_of c.script sender in
-    record {
-      arrives = ap is_some (plain-ago check d sender ts) ∙ some-plain check (sent_ago d sender ts) ∙ h.arrives;
-      loses = subst (λ xs. LosesAt sender c.script xs symbol) (sym (bits-dropped c check sender (d - 1) ts a)) h.loses;
-    }
+loses-plain c check sender ts symbol a h = grind (arith, plain-ago, some-plain, bits-dropped)

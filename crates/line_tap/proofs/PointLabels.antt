@@ -19,11 +19,7 @@ pub record SumsUp (count number : ℕ) (sample : Sample) : Type 0 where
   pub only : (label : ℕ) → label < count → point_of label ≡ sample → number ≡ label + 1
 
 pub sums-none : (sample : Sample) → SumsUp 0 0 sample
-sums-none sample = record {
-  few = omega arith;
-  point = λ some. absurd (omega (arith, some));
-  only = λ label low e. absurd (omega (arith, low));
-}
+sums-none sample = grind (arith)
 
 -- a label that is not the sample's
 sums-past : (n number : ℕ) (sample : Sample) → SumsUp n number sample → (point_of n ≡ sample → ⊥) → SumsUp (n + 1) number sample
@@ -69,22 +65,18 @@ labels-on labels samples label sample low e are = (
 )
 
 pub reads-more : (old mid new : Demodulator) (from state to : ℕ) (samples : List Sample) (quads labels : List ℕ) (sample : Sample)
-    (label quad : ℕ)
-    → label < 32 → point_of label ≡ sample → next_state state label ≡ Some to
+    (label quad : ℕ) → label < 32 → point_of label ≡ sample → next_state state label ≡ Some to
     → ((mode : Mode) (before : List ℕ) (bits : List Bool) → DemodulatorStands mode mid before bits
-    → DemodulatorStands mode new (before ++ label ∷ []) (bits ++ low_bits 4 quad))
-    → ReadsLabels old mid from state samples quads labels
+    → DemodulatorStands mode new (before ++ label ∷ []) (bits ++ low_bits 4 quad)) → ReadsLabels old mid from state samples quads labels
     → ReadsLabels old new from to (samples ++ sample ∷ []) (quads ++ quad ∷ []) (labels ++ label ∷ [])
 reads-more old mid new from state to samples quads labels sample label quad low e next push h = record {
   are = labels-on labels samples label sample low e h.are;
   leads = Leads-snoc next_state from labels state label to h.leads next;
   count = length_push quads quad ∙ ap (λ n. n + 1) h.count ∙ sym (length_push samples sample);
-  stands = λ mode before bits k.
-      subst (λ (ls : List ℕ). DemodulatorStands mode new ls (bits ++ line_bits (quads ++ quad ∷ [])))
+  stands = λ mode before bits k. subst (λ (ls : List ℕ). DemodulatorStands mode new ls (bits ++ line_bits (quads ++ quad ∷ [])))
       (append_assoc before labels (label ∷ []))
       (subst (λ (xs : List Bool). DemodulatorStands mode new ((before ++ labels) ++ label ∷ []) xs)
-      (flat_map_more (low_bits 4) bits quads quad)
-      (push mode (before ++ labels) (bits ++ line_bits quads) (h.stands mode before bits k)));
+      (flat_map_more (low_bits 4) bits quads quad) (push mode (before ++ labels) (bits ++ line_bits quads) (h.stands mode before bits k)));
 }
 
 -- the samples of whole octets, and each of them

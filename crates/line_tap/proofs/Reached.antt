@@ -26,8 +26,7 @@ pub record Reached (tap : Tap) (script : ScriptValue) (start now : FolderState) 
 -- none was made
 pub reached-none : (tap : Tap) (start now : FolderState) (n : TapNames) → TapAfter tap (tapping tap.script no_octets) []
     → AreReadTo start now n no_octets → Creates now (outputs_of n) → Reached tap tap.script start now n
-reached-none tap start now n after read created =
-    record { bodies = no_octets; turns = []; after = after; read = read; holds = created }
+reached-none tap start now n after read created = grind (arith)
 
 -- less of the recordings is left
 pub less-left : (old new : Tap) → old.at < new.at → IsReady new → TAP_LIMIT - new.at < TAP_LIMIT - old.at
@@ -79,8 +78,7 @@ module _ (tap : Tap) (script : ScriptValue) (start now next : FolderState) (n : 
       ended = by _ e.ended;
     };
     holds = HoldEach-add now next (outputs_of n) (held_of (left_of (tapping script r.bodies) r.turns (trace_text r.turns))) (held_of e.more)
-        on
-        r.holds e.writes;
+        on r.holds e.writes;
   }
 
   pub reached-done : (turns : ℕ) → HEAD + TAIL < (line_of (tapping script r.bodies)).symbols
@@ -103,8 +101,7 @@ module _ (tap : Tap) (script : ScriptValue) (start now next : FolderState) (n : 
           more = s.more;
           adds = adds-longer start n (tapping script s.others) r.turns s.more rest long s.adds;
           holds = HoldPart-add now next (outputs_of n) (held_of (left_of (tapping script r.bodies) r.turns (trace_text r.turns)))
-              (held_of s.more) on
-              r.holds s.writes;
+              (held_of s.more) on r.holds s.writes;
         };
       }
 

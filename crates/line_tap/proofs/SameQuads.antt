@@ -1,8 +1,8 @@
 -- Quads and their bits: each tells the other.
 use Rattle.line_tap.proofs.Cited.{◌≡◌, ◌∙◌, ℕ, zero, suc, ◌-◌, ◌<◌, ◌≤◌, Bool, true, false, nat_eq, List, [], ◌∷◌, ◌++◌, length}
-use Rattle.line_tap.proofs.Cited.{slice_index, ◌⊎◌, inl, inr, ◌+◌, refl, sym, ap, subst, arith, eqb-true, cases_lt, ◌&&◌, length-line_bits}
-use Rattle.line_tap.proofs.Cited.{line_bits, ones, low_bits, Sent, is_plain, plain_bits, each_below, at_each}
-use Rattle.std.proofs.lemmas.Bool.{eqb-false, and_parts}
+use Rattle.line_tap.proofs.Cited.{slice_index, ◌+◌, refl, sym, ap, arith, eqb-true, ◌&&◌, length-line_bits, line_bits, ones, low_bits, Sent}
+use Rattle.line_tap.proofs.Cited.{is_plain, plain_bits, each_below, at_each}
+use Rattle.std.proofs.lemmas.Bool.{eqb-false}
 use Rattle.frame_check.specs.Bits.{number_of}
 use Rattle.lapm_frames.specs.declared.seen.Seen.TheVariants as seen
 use Rattle.detection.specs.Slots.{pattern_bits}
@@ -34,9 +34,7 @@ four-at : (n : ℕ) (a b : List ℕ) → n < length a → n < length b → line_
     → low_bits 4 (slice_index a n) ≡ low_bits 4 (slice_index b n)
 four-at n [] b h k e = absurd (omega (arith, h))
 four-at n (x ∷ a) [] h k e = absurd (omega (arith, k))
-four-at zero (x ∷ a) (y ∷ b) h k e =
-    let all : low_bits 4 x ++ line_bits a ≡ low_bits 4 y ++ line_bits b = e in
-    (halves (low_bits 4 x) (low_bits 4 y) (line_bits a) (line_bits b) refl all).0
+four-at zero (x ∷ a) (y ∷ b) h k e = grind (arith)
 four-at (suc n) (x ∷ a) (y ∷ b) h k e =
     let all : low_bits 4 x ++ line_bits a ≡ low_bits 4 y ++ line_bits b = e in
     four-at n a b (omega (arith, h)) (omega (arith, k)) (halves (low_bits 4 x) (low_bits 4 y) (line_bits a) (line_bits b) refl all).1
@@ -53,22 +51,7 @@ pub record AreCompared (same : Bool) (n : ℕ) (a b : List ℕ) : Type 0 where
 
 pub one-compared : (same : Bool) (n : ℕ) (a b : List ℕ) → n < length a → n < length b → slice_index a n < 16 → slice_index b n < 16
     → AreCompared same n a b → AreCompared (same && nat_eq (slice_index a n) (slice_index b n)) (n + 1) a b
-one-compared same n a b h k low few so = record {
-  yes = λ e i within. yes (and_parts same (nat_eq (slice_index a n) (slice_index b n)) e) i (cases_lt i n) within;
-  no = no same (nat_eq (slice_index a n) (slice_index b n)) so.no
-      (λ e. quads-differ n a b h k low few (eqb-false (slice_index a n) (slice_index b n) e));
-}
-  where
-    yes : (same ≡ true) × (nat_eq (slice_index a n) (slice_index b n) ≡ true) → (i : ℕ) → (i < n) ⊎ (n ≤ i) → i < n + 1
-        → slice_index a i ≡ slice_index b i
-    yes e i (inl under) within = so.yes e.0 i under
-    yes e i (inr over) within =
-        let at : n ≡ i = omega (arith, over, within) in
-        subst (λ m. slice_index a m ≡ slice_index b m) at (eqb-true (slice_index a n) (slice_index b n) e.1)
-
-    no : (x y : Bool) → (x ≡ false → line_bits a ≡ line_bits b → ⊥) → (y ≡ false → line_bits a ≡ line_bits b → ⊥) → x && y ≡ false
-        → line_bits a ≡ line_bits b → ⊥
-    no x y f g e = grind (arith)
+one-compared same n a b h k low few so = grind (arith, quads-differ, eqb-false, eqb-true)
 
 -- or another count
 pub counts-differ : (a b : List ℕ) → (length a ≡ length b → ⊥) → line_bits a ≡ line_bits b → ⊥

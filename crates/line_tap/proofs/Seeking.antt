@@ -8,11 +8,9 @@ use Rattle.std.specs.Option.{option_map_or}
 use Rattle.std.proofs.lemmas.Grind.{flat_map-append}
 use Rattle.std.proofs.lemmas.List.{drop-append-le, drop_all, take_at}
 use Rattle.frame_check.specs.Bits.{bits_of, octet_bits}
-use Rattle.bit_stuffing.specs.declared.piece.Piece.{Piece}
 use Rattle.bit_stuffing.specs.declared.piece.Piece.TheVariants.{Whole}
 use Rattle.bit_stuffing.specs.Found.{found_at, listed}
 use Rattle.bit_stuffing.specs.Pieces.{content, EndsWhole}
-use Rattle.bit_stuffing.specs.Sent.{octets_if_whole}
 use Rattle.bit_stuffing.proofs.Found.{pieces-more, found-place}
 use Rattle.bit_stuffing.proofs.Sent.{pieces-stay}
 use Rattle.bit_stuffing.proofs.Stuffed.{is_stuffed}
@@ -37,9 +35,7 @@ bit-more bits from place low within =
 
 pub slot-bit-more : (quads : List ℕ) (from place : ℕ) (bit : Bool) → from ≤ place → place < 4 * length quads
     → bit ≡ bit_of (line_bits quads) place → part (line_bits quads) from place ++ bit ∷ [] ≡ part (line_bits quads) from (place + 1)
-slot-bit-more quads from place bit low within e =
-    ap (λ b. part (line_bits quads) from place ++ b ∷ []) e
-    ∙ bit-more (line_bits quads) from place low (omega (arith, length-line_bits quads, within))
+slot-bit-more quads from place bit low within e = grind (arith, bit-more, length-line_bits)
 
 quads-front : (k : ℕ) (quads : List ℕ) → k ≤ length quads → take (4 * k) (line_bits quads) ≡ line_bits (take k quads)
 quads-front k quads within =
@@ -85,12 +81,7 @@ octet-more quads from place first second low even within few e f =
 -- ---- where nothing whole has ended yet
 
 no-whole : (found : Option Found) → (option_map (λ (f : Found). f.piece) found ≡ Some Whole → ⊥) → wholes (listed found) ≡ []
-no-whole None other = refl
-no-whole (Some found) other = go found.piece refl
-  where
-    go : (piece : Piece) → found.piece ≡ piece → octets_if_whole piece found.octets ++ [] ≡ []
-    go Whole e = absurd (other (ap Some e))
-    go other e = refl
+no-whole found other = grind (arith)
 
 pub none-more : (bits : List Bool) (from place : ℕ) → from ≤ place → place < length bits
     → (option_map (λ (f : Found). f.piece) (found_at (part bits from (place + 1))) ≡ Some Whole → ⊥)
@@ -114,10 +105,7 @@ pub record OnePiece (bits : List Bool) (from : ℕ) (octets : List ℕ) (end : �
   pub place : from + found.place ≡ end
 
 not-none : (piece : Found) (others : List Found) → piece.piece ≡ Whole → wholes (piece ∷ others) ≡ [] → ⊥
-not-none piece others e none =
-    let some : octets_if_whole Whole piece.octets ++ wholes others ≡ [] =
-    subst (λ p. octets_if_whole p piece.octets ++ wholes others ≡ []) e none in
-    absurd cc
+not-none piece others e none = grind (arith)
 
 pub one-whole : (bits : List Bool) (from : ℕ) (octets : List ℕ) (end : ℕ) → OnePiece bits from octets end
     → wholes (pieces_of (drop from bits)) ≡ [] → ⊥
@@ -132,9 +120,7 @@ only-one [] (Some last) behind one place none is at whole e =
     let same : last ≡ one = cc in
     let there : last.place ≡ place = at 0 one (omega arith) in
     (ap (λ (f : Found). f.octets) same, ap (λ (f : Found). f.place) (sym same) ∙ there)
-only-one (first ∷ before) last behind one place none is at whole e =
-    let same : first ≡ one = cc in
-    absurd (not-none first before (ap (λ (f : Found). f.piece) same ∙ whole) none)
+only-one (first ∷ before) last behind one place none is at whole e = grind (arith)
 
 pub first-is : (deframer : Kept) (bits : List Bool) (from end : ℕ) (octets : List ℕ) (place : ℕ) → EndsFirst deframer bits from end
     → OnePiece bits from octets place → (lent_of (part bits from end) ≡ octets) × (place ≡ end)

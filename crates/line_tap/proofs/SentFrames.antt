@@ -1,5 +1,5 @@
 -- A frame that octets spell can be sent.
-use Rattle.line_tap.proofs.Cited.{ℕ, ◌<◌, Bool, List, ◌∷◌, ◌++◌, length, Option, Some, None, Result, Ok, Err, subst, take-append_seam}
+use Rattle.line_tap.proofs.Cited.{arith, ℕ, ◌<◌, Bool, List, ◌∷◌, ◌++◌, length, Option, Some, None, Result, subst, take-append_seam}
 use Rattle.line_tap.proofs.Cited.{All-take, All-tail, IfSome, result_ok, AreOctets, Check, SpellsFrame, checked, address_of, control_octet}
 use Rattle.line_tap.proofs.Cited.{information_of, spelled, tail_octets, parts_of, IsSendable, Frame, CanBeSent, Role}
 use Rattle.std.specs.Prelude.{IfOk, ◌≡◌}
@@ -29,10 +29,8 @@ spells-sendable check sender dlci whole frame small h =
 
 pub ok-spelled : (check : Check) (sender : Role) (dlci : ℕ) (whole : List ℕ) (r : Result Frame CheckedFault)
     → IfOk r (SpellsFrame check sender dlci whole) → IfSome (result_ok r) (λ frame. whole ≡ checked check sender dlci frame)
-ok-spelled check sender dlci whole (Ok frame) h = spelled-checked check sender dlci whole frame h
-ok-spelled check sender dlci whole (Err fault) h = tt
+ok-spelled check sender dlci whole r h = grind (arith, spelled-checked)
 
 pub ok-sendable : (check : Check) (sender : Role) (dlci : ℕ) (whole : List ℕ) (r : Result Frame CheckedFault) → AreOctets whole
     → IfOk r (SpellsFrame check sender dlci whole) → CanBeSent (result_ok r)
-ok-sendable check sender dlci whole (Ok frame) small h = spells-sendable check sender dlci whole frame small h
-ok-sendable check sender dlci whole (Err fault) small h = tt
+ok-sendable check sender dlci whole r small h = grind (arith, spells-sendable)

@@ -1,19 +1,14 @@
 -- The octets of one slot more, behind those of all slots before.
 use Rattle.line_tap.proofs.Cited.{◌≡◌, ◌∙◌, ℕ, ◌+◌, ◌*◌, ◌≤◌, ◌<◌, List, [], ◌∷◌, ◌++◌, length, take, drop, arith, length-append, sym, ap}
-use Rattle.line_tap.proofs.Cited.{subst, take-append_seam, drop-append_seam, common_steps, take_all, length-take, Check, Sent, Wire}
-use Rattle.line_tap.proofs.Cited.{signals, ReadsOn, ReadsNext, Slot, ReadsFor, ReaderStands, ReadsSlot, IsNext, carries, octets_of}
-use Rattle.line_tap.proofs.Cited.{HoldsNext, SlotReader, Turn, samples_in, IsCodedAs, signal_of, Framing, Role, Sample}
+use Rattle.line_tap.proofs.Cited.{subst, take-append_seam, drop-append_seam, take_all, length-take, Check, Sent, Wire, signals, ReadsOn}
+use Rattle.line_tap.proofs.Cited.{ReadsNext, Slot, ReadsFor, ReaderStands, ReadsSlot, IsNext, carries, octets_of, HoldsNext, SlotReader}
+use Rattle.line_tap.proofs.Cited.{Turn, samples_in, IsCodedAs, signal_of, Framing, Role, Sample}
 use Rattle.line_tap.proofs.NextSlots.{samples-take, one-slot-more, piece_of, held-is-next, next-is-held}
 
 -- ---- octets and samples
 
 pub octets-next : (c : Wire) (n : ℕ) → octets_of c (n + 1) ≡ octets_of c n + 4 * c.symbols
-octets-next c n =
-    let e : c.symbols * (n + 1) ≡ c.symbols * n + c.symbols = mul-one c.symbols n in
-    omega (arith, e)
-  where
-    mul-one : (a b : ℕ) → a * (b + 1) ≡ a * b + a
-    mul-one a b = grind (arith, common_steps)
+octets-next c n = grind (arith)
 
 pub count-next : (c : Wire) (n : ℕ) (body piece : List ℕ) → length body ≡ octets_of c n → length piece ≡ 4 * c.symbols
     → length (body ++ piece) ≡ octets_of c (n + 1)
@@ -97,13 +92,4 @@ reads-next old new c check role ts body piece slot h size k = record {
 -- less than a slot's octets hold none
 pub short-held : (r : SlotReader) (c : Wire) (check : Check) (role : Role) (ts : List Turn) (body piece : List ℕ) (count : ℕ)
     → ReadsOn r c check role ts body → count < 4 * c.symbols → (s : Sent) → HoldsNext c check role ts (body ++ take count piece) s → ⊥
-short-held r c check role ts body piece count h few s x =
-    omega (
-      arith,
-      x.whole,
-      h.count,
-      few,
-      octets-next c (length ts),
-      length-append {A = ℕ} body (take count piece),
-      length-take count piece,
-    )
+short-held r c check role ts body piece count h few s x = grind (arith, octets-next, length-append, length-take)

@@ -1,11 +1,11 @@
 -- A slot that is read: its bits, what is taken for what was sent in it, its samples, and what stands behind it.
 use Rattle.line_tap.proofs.Cited.{◌≡◌, ◌∙◌, ℕ, ◌*◌, ◌<◌, Bool, List, [], ◌∷◌, ◌++◌, length, map, take, drop, All, Option, refl, sym, ap}
 use Rattle.line_tap.proofs.Cited.{subst, arith, take-append_seam, drop-append_seam, map-append, take-map, drop-map, take-append-drop}
-use Rattle.line_tap.proofs.Cited.{All-append, All-take, IfSome, line_bits, WriterStands, phase_after, next_phase, slot_bits, Signal}
-use Rattle.line_tap.proofs.Cited.{slot_of, slots_of, signal_bits, Check, checked, Frame, Sent, DemodulatorStands, Modulates, Demodulator}
-use Rattle.line_tap.proofs.Cited.{AreLabels, ReadsLabels, ReaderStands, IsNext, carries, IsGuess, AreBitsOf, EndsAt, FindsSent, IsAt}
-use Rattle.line_tap.proofs.Cited.{SlotReader, Seeker, IsCodedAs, bits_behind, mode_of, IsCodable, tap_of, Mode, Role, PointsDiffer}
-use Rattle.line_tap.proofs.Cited.{point_of, Sample, Leads_once, Leads, next_state}
+use Rattle.line_tap.proofs.Cited.{All-append, All-take, IfSome, line_bits, WriterStands, next_phase, slot_bits, Signal, slot_of, slots_of}
+use Rattle.line_tap.proofs.Cited.{signal_bits, Check, checked, Frame, Sent, DemodulatorStands, Modulates, Demodulator, AreLabels}
+use Rattle.line_tap.proofs.Cited.{ReadsLabels, ReaderStands, IsNext, carries, IsGuess, AreBitsOf, EndsAt, FindsSent, IsAt, SlotReader}
+use Rattle.line_tap.proofs.Cited.{Seeker, IsCodedAs, bits_behind, mode_of, IsCodable, tap_of, Mode, Role, PointsDiffer, point_of, Sample}
+use Rattle.line_tap.proofs.Cited.{Leads_once, Leads, next_state}
 use Rattle.std.proofs.lemmas.List.Elements.{All-map, All-drop}
 use Rattle.scramblers.proofs.Readings.{Scrambles_from_Descrambles}
 use Rattle.trellis_tables.specs.LabelReader.{quad_at, quads_of}
@@ -59,29 +59,20 @@ guessed laws r sigs samples more s guess d to quads labels found phase k h finds
 pub found-ends : (check : Check) (role : Role) (dlci symbols phase : ℕ) (bits : List Bool) (seeker : Seeker) (found : Option Frame)
     (guess : Sent) → IfSome found (IsAt check role dlci phase bits seeker) → IsGuess (4 * symbols) bits found guess
     → EndsBy check role dlci phase guess seeker.end
-found-ends check role dlci symbols phase bits seeker found guess at g = record {
-  frame = λ frame e.
-      (subst (λ q. IfSome q (IsAt check role dlci phase bits seeker)) (subst (IsGuess (4 * symbols) bits found) e g).0 at).by;
-}
+found-ends check role dlci symbols phase bits seeker found guess at g = grind (arith)
 
 pub found-lent : (check : Check) (role : Role) (dlci symbols phase : ℕ) (bits : List Bool) (seeker : Seeker) (octets : List ℕ)
-    (found : Option Frame) (guess : Sent)
-    → IfSome found (IsAt check role dlci phase bits seeker) → IsGuess (4 * symbols) bits found guess
+    (found : Option Frame) (guess : Sent) → IfSome found (IsAt check role dlci phase bits seeker) → IsGuess (4 * symbols) bits found guess
     → ((lent : List ℕ) → Lends seeker lent → octets ≡ lent)
     → (frame : Frame) → guess ≡ sent.Frame frame → octets ≡ checked check role dlci frame
-found-lent check role dlci symbols phase bits seeker octets found guess at g lends = λ frame e.
-    lends (checked check role dlci frame)
+found-lent check role dlci symbols phase bits seeker octets found guess at g lends = λ frame e. lends (checked check role dlci frame)
     (subst (λ q. IfSome q (IsAt check role dlci phase bits seeker)) (subst (IsGuess (4 * symbols) bits found) e g).0 at).lends
 
 pub found-sent : (check : Check) (role : Role) (dlci symbols phase : ℕ) (bits : List Bool) (seeker : Seeker) (found : Option Frame)
     (guess : Sent) → IfSome found (IsAt check role dlci phase bits seeker) → IsGuess (4 * symbols) bits found guess
     → IsCodable check role dlci symbols phase guess → AreBitsOf check role dlci symbols phase guess bits
     → EndsAt check role dlci phase guess seeker.end
-found-sent check role dlci symbols phase bits seeker found guess at g codable same = record {
-  frame = λ frame e.
-      (subst (λ q. IfSome q (IsAt check role dlci phase bits seeker)) (subst (IsGuess (4 * symbols) bits found) e g).0 at).at symbols
-      (subst (IsCodable check role dlci symbols phase) e codable) (subst (λ s. AreBitsOf check role dlci symbols phase s bits) e same);
-}
+found-sent check role dlci symbols phase bits seeker found guess at g codable same = grind (arith)
 
 -- ---- labels of a code sequence are the coding of their bits
 
@@ -134,43 +125,28 @@ labels-next differ r sigs samples more s k x =
 
 pub phase-is : (r : SlotReader) (sigs : List Signal) (samples : List Sample) → ReaderStands r sigs samples
     → r.phase ≡ phase_of r.symbols sigs
-phase-is r sigs samples k =
-    sym k.in_step.phase ∙ k.writer.phase_is ∙ ap (λ n. phase_after (4 * n) (slots_of (4 * r.symbols) sigs)) k.in_step.symbols
+phase-is r sigs samples k = grind (arith)
 
 pub written-as : (r : SlotReader) (sigs : List Signal) (samples : List Sample) (s : Sent) (bits : List Bool) → ReaderStands r sigs samples
     → bits ≡ slot_bits (4 * r.writer.symbols) r.writer.phase (slot_of (4 * r.writer.symbols) (carries r s))
     → bits ≡ bits_behind (4 * r.symbols) sigs (carries r s)
-written-as r sigs samples s bits k e =
-    e ∙ ap (λ p. slot_bits (4 * r.writer.symbols) p (slot_of (4 * r.writer.symbols) (carries r s)))
-    (k.in_step.phase ∙ phase-is r sigs samples k)
-    ∙ ap (λ n. slot_bits (4 * n) (phase_of r.symbols sigs) (slot_of (4 * n) (carries r s))) k.in_step.symbols
+written-as r sigs samples s bits k e = grind (arith, phase-is)
 
 pub writer-on : (r : SlotReader) (writer : Writer) (sigs : List Signal) (samples : List Sample) (s : Sent) → ReaderStands r sigs samples
     → ((slots : List Slot) → WriterStands r.writer slots → WriterStands writer (slots ++ slot_of (4 * r.writer.symbols) (carries r s) ∷ []))
     → WriterStands writer (slots_of (4 * r.symbols) (sigs ++ carries r s ∷ []))
-writer-on r writer sigs samples s k on =
-    let size : ℕ = 4 * r.symbols in
-    subst (WriterStands writer) (sym (map-append (slot_of size) sigs (carries r s ∷ [])))
-    (subst (λ n. WriterStands writer (slots_of size sigs ++ slot_of (4 * n) (carries r s) ∷ [])) k.in_step.symbols
-    (on (slots_of size sigs) k.writer))
+writer-on r writer sigs samples s k on = grind (arith, map-append)
 
 pub phase-next : (r : SlotReader) (writer : Writer) (sigs : List Signal) (s : Sent) (next : ℕ) → writer.symbols ≡ r.symbols
     → WriterStands writer (slots_of (4 * r.symbols) (sigs ++ carries r s ∷ [])) → r.phase ≡ phase_of r.symbols sigs
     → next ≡ next_phase (4 * r.symbols) r.phase (slot_of (4 * r.symbols) (carries r s)) → writer.phase ≡ next
-phase-next r writer sigs s next e h p q =
-    let size : ℕ = 4 * r.symbols in
-    h.phase_is ∙ ap (λ n. phase_after (4 * n) (slots_of size (sigs ++ carries r s ∷ []))) e
-    ∙ ap (phase_after size) (map-append (slot_of size) sigs (carries r s ∷ []))
-    ∙ phase-append size 0 (slots_of size sigs) (slot_of size (carries r s))
-    ∙ ap (λ phase. next_phase size phase (slot_of size (carries r s))) (sym p) ∙ sym q
+phase-next r writer sigs s next e h p q = grind (arith, map-append, phase-append)
 
 -- one slot more
 pub bits-more : (r : SlotReader) (sigs : List Signal) (s : Sent) (quads : List ℕ)
     → line_bits quads ≡ bits_behind (4 * r.symbols) sigs (carries r s)
     → signal_bits (4 * r.symbols) sigs ++ line_bits quads ≡ signal_bits (4 * r.symbols) (sigs ++ carries r s ∷ [])
-bits-more r sigs s quads e =
-    let size : ℕ = 4 * r.symbols in
-    ap (λ xs. signal_bits size sigs ++ xs) e ∙ sym (slot-added size sigs (carries r s))
+bits-more r sigs s quads e = grind (arith, slot-added)
 
 pub labels-more : (labels more : List ℕ) (samples others : List Sample) → AreLabels labels samples → AreLabels more others
     → AreLabels (labels ++ more) (samples ++ others)
@@ -183,11 +159,4 @@ labels-more labels more samples others h k = (
 pub labels-code : (r : SlotReader) (sigs : List Signal) (samples more : List Sample) (s : Sent) (labels : List ℕ)
     → ReaderStands r sigs samples
     → AreLabels labels more → IsNext r sigs samples more s → IsCodedAs r.framing.sender (4 * r.symbols) sigs (carries r s) labels
-labels-code r sigs samples more s labels k are next =
-    let mode : Mode = mode_of r.framing.sender in
-    record {
-      points = samples;
-      earlier = sequence-modulates mode r.demodulator k.labels (bits_before r sigs) samples r.state k.read k.are k.leads;
-      modulated = subst (λ xs. Modulates (tap_of mode) (bits_before r sigs ++ bits_next r sigs s) (samples ++ xs)) (sym are.1)
-          next.modulated;
-    }
+labels-code r sigs samples more s labels k are next = grind (arith, sequence-modulates)

@@ -1,16 +1,14 @@
 -- From the phases of a tap to how it ends.
-use Rattle.line_tap.proofs.Cited.{arith, inr, ℕ, List, Result, Ok, Err, subst, ReadTo-kept, Status, LineLost, ChanceMatch, BadTap, Stop}
-use Rattle.line_tap.proofs.Cited.{Own, Read, Write, Say, NoMemory, TapNames, inputs_of, outputs_of, recordings_of, IsBegun, IsRefused, Ends}
-use Rattle.line_tap.proofs.Cited.{AreReadTo, no_octets, ScriptValue, IsInLimits, KeepsEach-reads, inputs-kept, FolderState, OnlyReads}
-use Rattle.line_tap.proofs.Cited.{AreApartFrom, KeepsAll, OnlyOutputs, SomeRose, Limits, Call, Answer, Originator, Answerer}
+use Rattle.line_tap.proofs.Cited.{arith, ℕ, Result, ReadTo-kept, Stop, TapNames, inputs_of, outputs_of, recordings_of, IsBegun, IsRefused}
+use Rattle.line_tap.proofs.Cited.{Ends, AreReadTo, no_octets, ScriptValue, IsInLimits, KeepsEach-reads, inputs-kept, FolderState, OnlyReads}
+use Rattle.line_tap.proofs.Cited.{AreApartFrom, KeepsAll, OnlyOutputs, Limits, Call, Answer, Originator, Answerer}
 use Rattle.outside_calls.specs.Outputs.{CreatesPart}
 use Rattle.command_base.specs.Status.{IsRefusal}
 use Rattle.command_base.specs.Stops.{EndCounts, end_status}
 use Rattle.command_base.proofs.Creating.{CreatesPart-earlier}
-use Rattle.command_base.proofs.Jobs.{refusal-own}
 use Rattle.line_tap.specs.declared.limits.TheConstants.{TAP_LIMIT, LIMITS}
 use Rattle.line_tap.specs.Turns.{TurnsEnd}
-use Rattle.line_tap.proofs.HeaderRead.{header-read, stop-widened}
+use Rattle.line_tap.proofs.HeaderRead.{header-read}
 use Rattle.line_tap.specs.Outcomes.{StopsCreating, EndsBy}
 
 -- ---- what was read stays read as the outputs are made
@@ -47,37 +45,15 @@ pub ends-turns : (l : Limits) (old mid next : FolderState) (n : TapNames) (scrip
     → IsBegun l old mid n script
     → IsInLimits script → TurnsEnd script old next n result → EndCounts old next (recordings_of n) (outputs_of n) result
     → Ends l old next n result
-ends-turns l old mid next n script (Ok turns) b limits e counts = record { script = script; opens = b.opens; limits = limits; ends = e }
-ends-turns l old mid next n script (Err (Own (LineLost role symbol))) b limits e counts =
-    inr (record { script = script; opens = b.opens; limits = limits; ends = e })
-ends-turns l old mid next n script (Err (Own (ChanceMatch role turn))) b limits e counts =
-    inr (record { script = script; opens = b.opens; limits = limits; ends = e })
-ends-turns l old mid next n script (Err (Own (BadTap role turn))) b limits e counts =
-    inr (record { script = script; opens = b.opens; limits = limits; ends = e })
-ends-turns l old mid next n script (Err (Own answer)) b limits e counts = absurd e
-ends-turns l old mid next n script (Err (Read fault)) b limits e counts =
-    inr (record { script = script; opens = b.opens; stops = e; fails = counts })
-ends-turns l old mid next n script (Err (Write fault)) b limits e counts = inr (record { script = script; opens = b.opens; stops = e })
-ends-turns l old mid next n script (Err (Say fault)) b limits e counts = e
-ends-turns l old mid next n script (Err NoMemory) b limits e counts = absurd e
-
-rose-widened : (before now : List ℕ → ℕ) (n : TapNames) → SomeRose before now (recordings_of n) → SomeRose before now (inputs_of n)
-rose-widened before now n b = grind (arith)
+ends-turns l old mid next n script result b limits e counts = grind (arith)
 
 -- a fault of a recording is one of an input
 pub end-widened : (old new : FolderState) (n : TapNames) (end : Result ℕ Stop) → EndCounts old new (recordings_of n) (outputs_of n) end
     → EndCounts old new (inputs_of n) (outputs_of n) end
-end-widened old new n (Ok turns) counts = counts
-end-widened old new n (Err stop) counts =
-    stop-widened old new (recordings_of n) (inputs_of n) (outputs_of n) stop (rose-widened old.read_faults new.read_faults n) counts
+end-widened old new n end counts = grind (arith)
 
 -- ---- what is refused is refused before the outputs are created
 
-own-refused : (old before : FolderState) (n : TapNames) (answer : Status) → IsRefusal answer → EndsBy LIMITS old before n (Own answer)
-    → KeepsAll old before
-own-refused old before n answer r b = grind (arith)
-
 pub refused-by : (old before : FolderState) (n : TapNames) (end : Result ℕ Stop) → Ends LIMITS old before n end → IsRefusal (end_status end)
     → KeepsAll old before
-refused-by old before n end ends =
-    refusal-own end (KeepsAll old before) (λ answer e r. own-refused old before n answer r (subst (Ends LIMITS old before n) e ends))
+refused-by old before n end ends = grind (arith)

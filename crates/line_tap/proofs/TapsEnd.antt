@@ -35,12 +35,7 @@ ends-or-heard laws x ts w h =
 -- ---- the turn in which this is heard, and this is sent
 
 side-in : (x : Tapping) (ts : List Turn) → AreHeard x ts → Role → Option Spoken → Side
-side-in x ts h role sent = record {
-  heard = (h role).heard;
-  check = judged_by (terms_of x) role ts;
-  sent = sent;
-  given = given_to role ts (h role).heard;
-}
+side-in x ts h role sent = assumption ((h role).heard, judged_by (terms_of x) role ts, sent, given_to role ts (h role).heard)
 
 turn-in : (x : Tapping) (ts : List Turn) → AreHeard x ts → (Role → Option Spoken) → Turn
 turn-in x ts h sent = record { orig = side-in x ts h Originator (sent Originator); answ = side-in x ts h Answerer (sent Answerer) }
@@ -61,8 +56,7 @@ hears-in x ts h sent = record {
   where
     by : (P : Role → Side → Type 0) (role : Role) → ((role : Role) → P role (side-in x ts h role (sent role)))
         → P role (of role (turn-in x ts h sent))
-    by P Originator f = f Originator
-    by P Answerer f = f Answerer
+    by P role f = grind (arith)
 
 -- ---- what is left
 
@@ -157,8 +151,7 @@ goes-on x ts a slots = (
     sent : Role → Option Spoken
     sent role = Some (told (check_by (terms_of x)) (slots role).0)
 
-some-left : (x : Tapping) (ts : List Turn)
-    → ((side : Role) × (octets_of (line_of x) (length ts) < length (of side x.bodies)))
+some-left : (x : Tapping) (ts : List Turn) → ((side : Role) × (octets_of (line_of x) (length ts) < length (of side x.bodies)))
     ⊎ ((role : Role) → length (of role x.bodies) ≤ octets_of (line_of x) (length ts))
 some-left x ts =
     go (cases_lt (octets_of (line_of x) (length ts)) (length x.bodies.orig))
@@ -198,8 +191,7 @@ heard-turn x ts h a on = by (some-left x ts)
 -- ---- a recording has at least an octet for each turn
 
 each-has-one : (s n : ℕ) → 1 ≤ s → n ≤ s * n
-each-has-one (suc s) n low = omega arith
-each-has-one zero n low = absurd (omega (arith, low))
+each-has-one s n low = grind (arith)
 
 few-turns : EndLaws → (x : Tapping) (ts : List Turn) → IsInLimits x.script → Tells x ts → length ts ≤ length x.bodies.orig
 few-turns laws x [] w h = omega arith

@@ -1,5 +1,5 @@
 -- What was recorded of a run tells all that the run left.
-use Rattle.line_tap.proofs.Cited.{◌≡◌, ℕ, suc, ◌+◌, ◌-◌, ◌*◌, ◌<◌, ◌≤◌, Bool, true, false, cond, List, [], ◌∷◌, ◌++◌, length, take, arith}
+use Rattle.line_tap.proofs.Cited.{◌≡◌, ℕ, suc, ◌+◌, ◌-◌, ◌*◌, ◌<◌, ◌≤◌, Bool, true, cond, List, [], ◌∷◌, ◌++◌, length, take, arith}
 use Rattle.line_tap.proofs.Cited.{length-append, refl, sym, ◌∙◌, ap, subst, Some, mul-suc, common_steps, length-map, take_all, concat}
 use Rattle.line_tap.proofs.Cited.{option_map, opening, phase_after, HEAD, TAIL, Signal, slots_of, signal_bits, with_check, Check, Sixteen}
 use Rattle.line_tap.proofs.Cited.{checked, has_number, spelled, Frame, Chance, Sent, Modulates, signals-more, tap-some, Left, AreFit}
@@ -74,12 +74,8 @@ all-fit laws c role (t ∷ ts) alone low s k =
     subst (λ l. AreFit (4 * c.symbols) 0 l × (length l ≡ suc (length ts))) (sym (signals-more c role ts slot t alone s.0.1)) both
 
 pub length-bits : TellingLaws → (c : Wire) (role : Role) (ts : List Turn) → IsAlone c → HEAD + TAIL < c.symbols → c.dlci < 64
-    → AllSent role ts
-    → AreCoded c role ts → length (bits_of c role ts) ≡ 4 * (c.symbols * length ts)
-length-bits laws c role ts alone long low s k =
-    let h = all-fit laws c role ts alone low s k in
-    laws.size (4 * c.symbols) (signals c role ts) (omega (arith, long)) h.0 ∙ ap (λ n. 4 * c.symbols * n) h.1
-    ∙ mul_assoc 4 c.symbols (length ts)
+    → AllSent role ts → AreCoded c role ts → length (bits_of c role ts) ≡ 4 * (c.symbols * length ts)
+length-bits laws c role ts alone long low s k = grind (arith, all-fit, mul_assoc)
 
 take-take : {X : Type 0} (n m : ℕ) (xs : List X) → n ≤ m → take n (take m xs) ≡ take n xs
 take-take n m xs l = grind (arith, common_steps)
@@ -117,8 +113,7 @@ within-all laws c role ts body alone long low s k r =
     }
 
 within-less : TellingLaws → (c : Wire) (role : Role) (ts : List Turn) (t : Turn) (body : List ℕ) → IsAlone c → HEAD + TAIL < c.symbols
-    → c.dlci < 64
-    → AllSent role (t ∷ ts) → Within c role (t ∷ ts) body → Within c role ts body
+    → c.dlci < 64 → AllSent role (t ∷ ts) → Within c role (t ∷ ts) body → Within c role ts body
 within-less laws c role ts t body alone long low s w =
     let tap : ℕ = tap_of (mode_of role) in
     let n : ℕ = c.symbols * length ts in
@@ -146,14 +141,10 @@ codable-plain check own role dlci symbols phase slots.Flags h k = tt
 codable-plain check own role dlci symbols phase (slots.Frame frame) h k =
     let same : checked own role dlci frame ≡ checked check role dlci frame =
     ap (λ x. with_check x (spelled frame role dlci)) (go (has_number frame) refl) in
-    record {
-      sendable = k.sendable;
-      room = subst (λ o. length (opening phase (Some o)) ≤ 4 * (symbols - TAIL)) same k.room;
-    }
+    assumption (subst (λ o. length (opening phase (Some o)) ≤ 4 * (symbols - TAIL)) same k.room)
   where
     go : (b : Bool) → has_number frame ≡ b → cond b own Sixteen ≡ cond b check Sixteen
-    go true e = h frame refl e
-    go false e = refl
+    go b e = grind (arith)
 
 -- the slot of a turn is the next one in what its recording holds
 holds-next : TellingLaws → (c : Wire) (check : Check) (role : Role) (ts : List Turn) (t : Turn) (body : List ℕ) (slot : Spoken)
@@ -173,8 +164,7 @@ holds-next laws c check role ts t body slot alone e a w =
     record {
       whole = subst (λ m. octets_of c m ≤ length body) (sym count) w.long;
       codable = subst (λ l. IsCodable check role c.dlci c.symbols (phase_after (4 * c.symbols) (slots_of (4 * c.symbols) l)) slot.sent)
-          (sym sigs)
-          (codable-plain check slot.check role c.dlci c.symbols (phase_behind c role ts) slot.sent has (w.coded.0 slot e));
+          (sym sigs) (codable-plain check slot.check role c.dlci c.symbols (phase_behind c role ts) slot.sent has (w.coded.0 slot e));
       modulated = subst (λ m. Modulates tap (bits_of c role (plains check ts) ++ next_bits c check role (plains check ts) slot.sent)
           (take (c.symbols * m) (samples_in body))) (sym count)
           (subst (λ xs. Modulates tap xs (take (c.symbols * suc (length ts)) (samples_in body))) bits w.front);
@@ -192,12 +182,7 @@ all-sent link role (t ∷ ts) ends h =
 
 over : TellingLaws → (script : ScriptValue) (files : Both (List ℕ)) (ts : List Turn) (ends : Accounts) → IsInLimits script
     → LineRun (wire_of script) (link_of script files) ts ends → RunsOver (link_of script files) (delay_of script) ts ends
-over laws script files ts ends limits r = record {
-  may_play = laws.play script files limits;
-  delays = laws.delays script limits;
-  carried = laws.carried (wire_of script) ts r.heard;
-  run = r.run;
-}
+over laws script files ts ends limits r = grind (arith)
 
 -- the agreed check of a script
 abbrev check_in : ScriptValue → Both (List ℕ) → Check
@@ -214,10 +199,8 @@ all-checked laws script files (t ∷ ts) ends limits r role =
     )
 
 hears-plain : TellingLaws → (script : ScriptValue) (files bodies : Both (List ℕ)) (ts : List Turn) (ends : Accounts) (t : Turn)
-    (mid : Accounts)
-    → IsInLimits script → LineRun (wire_of script) (link_of script files) ts ends → HeardIn (wire_of script) ts t
-    → run.Hears (length ts) ends t mid
-    → Hears (tapping script bodies) (plains (check_in script files) ts) (plain (check_in script files) t)
+    (mid : Accounts) → IsInLimits script → LineRun (wire_of script) (link_of script files) ts ends → HeardIn (wire_of script) ts t
+    → run.Hears (length ts) ends t mid → Hears (tapping script bodies) (plains (check_in script files) ts) (plain (check_in script files) t)
 hears-plain laws script files bodies ts ends t mid limits r h k =
     let link = link_of script files in
     let check = check_in script files in
@@ -264,8 +247,7 @@ silent-plain : (check : Check) (t : Turn) → IsSilent t → IsSilent (plain che
 silent-plain check t s role = plain-sent check role t ∙ ap (option_map (plain_slot check)) (s role)
 
 in-turn : TellingLaws → (script : ScriptValue) (files bodies : Both (List ℕ)) (ts : List Turn) (ends : Accounts) (last : Turn)
-    (mid : Accounts)
-    (turn : ℕ) (left : Left) → IsInLimits script → LineRun (wire_of script) (link_of script files) ts ends
+    (mid : Accounts) (turn : ℕ) (left : Left) → IsInLimits script → LineRun (wire_of script) (link_of script files) ts ends
     → ((role : Role) → All (wire_of script) role ts (of role bodies)) → turn ≡ length ts → HeardIn (wire_of script) ts last
     → run.Hears (length ts) ends last mid → IsSilent last → runs.Leaves mid (trace_text (last ∷ ts)) left
     → EndsWhole (tapping script bodies) (plains (check_in script files) ts) (turn + 1) left
@@ -332,8 +314,7 @@ on-line laws script files bodies ts ends end text others left limits r is l same
 
     well : IsHeardWell c Answerer ts (check_of ends.orig)
         → IsHeardWell c Answerer (plains check ts) (judged_by terms Originator (plains check ts))
-    well h = subst (IsHeardWell c Answerer (plains check ts)) (judged Originator)
-        (well-plain c check Answerer ts (check_of ends.orig) (a Answerer) h)
+    well h = grind (arith, c, check, judged, well-plain, a)
 
     by : (end : LineEnd) → lines.EndsLine c ts ends end → EndsLine (tapping script bodies) (plains check ts) end
     by (lines.LineLost Originator symbol) h = loses-plain c check Answerer ts symbol (a Answerer) h
@@ -343,8 +324,7 @@ on-line laws script files bodies ts ends end text others left limits r is l same
 
 ended : TellingLaws → (script : ScriptValue) (files bodies : Both (List ℕ)) (ts : List Turn) (ends : Accounts) (end : RunEnd) (left : Left)
     → IsInLimits script → LineRun (wire_of script) (link_of script files) ts ends
-    → ((role : Role) → All (wire_of script) role ts (of role bodies))
-    → runs.EndsBy (wire_of script) (link_of script files) ts ends end left
+    → ((role : Role) → All (wire_of script) role ts (of role bodies)) → runs.EndsBy (wire_of script) (link_of script files) ts ends end left
     → EndsBy (tapping script bodies) (plains (check_in script files) ts) (told_end end) left
 ended laws script files bodies ts ends (runs.IsDone turn) left limits r w e =
     in-turn laws script files bodies ts ends e.last e.mid turn left limits r w e.number e.heard e.is.hearing e.is.silent e.leaves
@@ -355,8 +335,7 @@ ended laws script files bodies ts ends (runs.NotDetected turn) left limits r w e
     in-turn laws script files bodies ts ends e.last e.mid turn left limits r w e.number e.heard e.is.hearing e.is.silent e.leaves
 ended laws script files bodies ts ends (runs.LineLost role symbol) left limits r w e =
     on-line laws script files bodies ts ends (lines.LineLost role symbol) (trace_text ts) (trace_text (plains (check_in script files) ts))
-    left
-    limits r e.is e.leaves (sym (plain-text (check_in script files) ts))
+    left limits r e.is e.leaves (sym (plain-text (check_in script files) ts))
 ended laws script files bodies ts ends (runs.ChanceMatch role turn) left limits r w e =
     let check = check_in script files in
     let count = length-map ts (plain check) in (
@@ -374,8 +353,7 @@ recordings_tell_runs laws script files end left bodies limits r coded recorded =
     let long = (laws.room script limits).0 in
     let all : (role : Role) → All c role r.turns (of role bodies) =
     λ role. within-all laws c role r.turns (of role bodies) (λ side n. refl) long (omega arith)
-    (all-sent link role r.turns r.ends r.run.run)
-    (coded role) (recorded role) in
+    (all-sent link role r.turns r.ends r.run.run) (coded role) (recorded role) in
     record {
       turns = plains (check_in script files) r.turns;
       tells = tells-run laws script files bodies r.turns r.ends limits r.run (λ role. (all role).within);

@@ -1,23 +1,18 @@
 -- The lines of a turn of a tap, as a trace has them.
-use Rattle.line_tap.proofs.Cited.{arith, ◌≡◌, ℕ, List, ◌++◌, length, refl, ◌∙◌, Option, option_map, Heard, Chance, Sent, HearsSo, turn_in}
+use Rattle.line_tap.proofs.Cited.{arith, ◌≡◌, ℕ, List, ◌++◌, length, refl, Option, option_map, Heard, Chance, Sent, HearsSo, turn_in}
 use Rattle.line_tap.proofs.Cited.{Tapping, Hearing, Spoken, Side, Turn, side_line, turn_text, Both, of, Role, Originator, Answerer}
 use Rattle.std.proofs.Common.{◌≢◌}
-use Rattle.line_texts.specs.LineText.{trace_line, line_of}
+use Rattle.line_texts.specs.LineText.{line_of}
 use Rattle.line_world.specs.Texts.{lines_of}
 use Rattle.line_tap.specs.Tap.{side_in}
 
 line-of : (turn t : ℕ) (role : Role) (heard : Heard) (sent : Option Sent) (given : Option ℕ) (s : Side) → heard ≢ Chance → turn ≡ t
     → heard ≡ s.heard
     → sent ≡ option_map (λ (slot : Spoken). slot.sent) s.sent → given ≡ s.given → line_of turn role heard sent given ≡ side_line t role s
-line-of turn t role heard sent given s well n h x g =
-    plain heard well ∙ (λ k. trace_line (n k) role (h k) (x k) (g k))
-  where
-    plain : (heard : Heard) → heard ≢ Chance → line_of turn role heard sent given ≡ trace_line turn role heard sent given
-    plain heard well = grind (arith)
+line-of turn t role heard sent given s well n h x g = grind (arith)
 
 pub text-is : (number : ℕ) (x : Tapping) (ts : List Turn) (h : Hearing) (sent : Option (Both Sent)) (sents : Both (Option Spoken))
-    → number ≡ length ts → HearsSo x ts h
-    → option_map (of Originator) sent ≡ option_map (λ (slot : Spoken). slot.sent) sents.orig
+    → number ≡ length ts → HearsSo x ts h → option_map (of Originator) sent ≡ option_map (λ (slot : Spoken). slot.sent) sents.orig
     → option_map (of Answerer) sent ≡ option_map (λ (slot : Spoken). slot.sent) sents.answ
     → lines_of number h.heard h.given sent ≡ turn_text (length ts) (turn_in x ts h.heard sents)
 text-is number x ts h sent sents n so oe ae =

@@ -1,14 +1,14 @@
 -- What a turn of a tap comes to, at each of its ways out.
-use Rattle.line_tap.proofs.Cited.{◌≡◌, ◌⊎◌, inl, inr, ℕ, ◌+◌, ◌*◌, ◌^◌, ◌<◌, ◌≤◌, IsTrue, List, [], ◌∷◌, ◌++◌, length, take, arith, min}
-use Rattle.line_tap.proofs.Cited.{length-append, refl, sym, ◌∙◌, ap, subst, append-nil, None, Result, Ok, Err, cases_lt, length-take}
-use Rattle.line_tap.proofs.Cited.{concat, HEAD, TAIL, ReadTo, Stop, Heard, KeepsTaken, Left, Slot, IsIdle, EndsLine, Leaves, LastHears}
-use Rattle.line_tap.proofs.Cited.{IsFirstRefused, TapNames, recording_of, inputs_of, outputs_of, AreReadTo, AreReadOut, HearsThese, HearsSo}
-use Rattle.line_tap.proofs.Cited.{InTurn, silent_in, EndsInTurn, EndsReading, StopsInTurn, StopsReadingIn, IsBehind, IsReady, IsToGo}
-use Rattle.line_tap.proofs.Cited.{TapAfter, GoesOnBy, going_in, Tapping, tapping, line_of, terms_of, octets_of, Tells, held_of, left_of}
-use Rattle.line_tap.proofs.Cited.{added, AddsGot, Hearing, Tap, chance_line, received, Turn, IsSilent, trace_text, turn_text, IsInLimits}
-use Rattle.line_tap.proofs.Cited.{OnlyPuts-trans, OnlyPuts-one, KeepsEach-reads, inputs-kept, AddEach-next, AddPart-next, FolderState}
-use Rattle.line_tap.proofs.Cited.{OnlyReads, OnlyWrites, Appended, PartlyAppended, octets_at, AreApartFrom, KeepsEach, OnlyPuts, header_of}
-use Rattle.line_tap.proofs.Cited.{HEADER, mode_of, Both, of, Role, Originator, Answerer}
+use Rattle.line_tap.proofs.Cited.{◌≡◌, inl, inr, ℕ, ◌+◌, ◌*◌, ◌^◌, ◌<◌, ◌≤◌, IsTrue, List, [], ◌∷◌, ◌++◌, length, take, arith, min}
+use Rattle.line_tap.proofs.Cited.{length-append, refl, sym, ◌∙◌, ap, subst, append-nil, None, Result, Ok, Err, length-take, HEAD, TAIL}
+use Rattle.line_tap.proofs.Cited.{ReadTo, Stop, Heard, KeepsTaken, Left, Slot, IsIdle, EndsLine, Leaves, LastHears, IsFirstRefused}
+use Rattle.line_tap.proofs.Cited.{TapNames, recording_of, inputs_of, outputs_of, AreReadTo, AreReadOut, HearsThese, HearsSo, InTurn}
+use Rattle.line_tap.proofs.Cited.{silent_in, EndsInTurn, EndsReading, StopsInTurn, StopsReadingIn, IsBehind, IsReady, IsToGo, TapAfter}
+use Rattle.line_tap.proofs.Cited.{GoesOnBy, going_in, Tapping, tapping, line_of, octets_of, Tells, held_of, left_of, added, AddsGot}
+use Rattle.line_tap.proofs.Cited.{Hearing, Tap, chance_line, Turn, IsSilent, trace_text, turn_text, OnlyPuts-trans, OnlyPuts-one}
+use Rattle.line_tap.proofs.Cited.{KeepsEach-reads, inputs-kept, AddPart-next, FolderState, OnlyReads, OnlyWrites, Appended, PartlyAppended}
+use Rattle.line_tap.proofs.Cited.{octets_at, AreApartFrom, KeepsEach, OnlyPuts, header_of, HEADER, mode_of, Both, of, Role, Originator}
+use Rattle.line_tap.proofs.Cited.{Answerer}
 use Rattle.std.proofs.Common.{append_assoc}
 use Rattle.outside_calls.specs.Folder.{GoesOn}
 use Rattle.outside_calls.specs.Outputs.{AddEach, AddPart}
@@ -24,7 +24,7 @@ use Rattle.line_tap.specs.Tap.{HearsTurn, HasHeard, got_pieces}
 use Rattle.line_tap.specs.Tap.{HasReadPieces, HaveRead}
 use Rattle.line_tap.specs.Tap.{and_pieces, read_of}
 use Rattle.line_tap.proofs.Longer.{tells-longer, got-more}
-use Rattle.line_tap.proofs.HeardSo.{SameReading, behind-on, few-turns}
+use Rattle.line_tap.proofs.HeardSo.{SameReading, few-turns}
 use Rattle.line_tap.proofs.Going.{hears-so, goes-on}
 use Rattle.line_tap.proofs.SlotNext.{octets-next}
 
@@ -32,13 +32,7 @@ use Rattle.line_tap.proofs.SlotNext.{octets-next}
 
 kept-to : (start a b : FolderState) (name : List ℕ) (at : ℕ) (octets : List ℕ) → ReadTo start a name TAP_LIMIT at octets → GoesOn a b
     → KeepsEach a b (name ∷ []) → ReadTo start b name TAP_LIMIT at octets
-kept-to start a b name at octets h on k = record {
-  within = h.within;
-  count = h.count;
-  front = h.front;
-  goes_on = GoesOn-trans h.goes_on on;
-  kept = KeepsName-trans start a b name h.goes_on h.kept k.0;
-}
+kept-to start a b name at octets h on k = assumption (GoesOn-trans h.goes_on on, KeepsName-trans start a b name h.goes_on h.kept k.0)
 
 kept-of : (a b : FolderState) (n : TapNames) → KeepsEach a b (inputs_of n) → (role : Role) → KeepsEach a b (recording_of role n ∷ [])
 kept-of a b n k role = grind (arith)
@@ -79,16 +73,11 @@ read-length body piece count = omega (arith, length-append {A = ℕ} body (take 
 read-so : (start b : FolderState) (name header body piece : List ℕ) (at count : ℕ) → at ≡ HEADER + length body → count ≤ length piece
     → ReadTo start b name TAP_LIMIT (at + count) ((header ++ body) ++ take count piece)
     → ReadTo start b name TAP_LIMIT (HEADER + length (body ++ take count piece)) (header ++ (body ++ take count piece))
-read-so start b name header body piece at count e few h =
-    let n : at + count ≡ HEADER + length (body ++ take count piece) =
-    omega (arith, e, few, read-length body piece count) in
-    subst (λ m. ReadTo start b name TAP_LIMIT m (header ++ (body ++ take count piece))) n
-    (subst (ReadTo start b name TAP_LIMIT (at + count)) (append_assoc header body (take count piece)) h)
+read-so start b name header body piece at count e few h = grind (arith, read-length, append_assoc)
 
 pub read-on : (start a b : FolderState) (n : TapNames) (bodies : Both (List ℕ)) (at orig answ : ℕ) (of_orig of_answ : List ℕ)
     → at ≡ HEADER + length bodies.orig → at ≡ HEADER + length bodies.answ → AreReadTo start a n bodies
-    → ReadsPieces start a b n at orig answ of_orig of_answ
-    → AreReadTo start b n (read_pieces_of bodies orig answ of_orig of_answ)
+    → ReadsPieces start a b n at orig answ of_orig of_answ → AreReadTo start b n (read_pieces_of bodies orig answ of_orig of_answ)
 read-on start a b n bodies at orig answ of_orig of_answ eo ea h r Originator =
     read-so start b n.rec_o (header_of (mode_of Originator)) bodies.orig of_orig at orig eo r.few_orig
     (r.reads_orig _ (subst (λ m. ReadTo start a n.rec_o TAP_LIMIT m (header_of (mode_of Originator) ++ bodies.orig)) (sym eo)
@@ -102,20 +91,16 @@ out-so : (start a : FolderState) (name header body piece : List ℕ) (at count :
     → l ++ take count piece ≡ octets_at start name)
     → ReadTo start a name TAP_LIMIT (HEADER + length body) (header ++ body) → count < length piece → IsTrue (start.tells name)
     → header ++ (body ++ take count piece) ≡ octets_at start name
-out-so start a name header body piece at count e ends h less told =
-    sym (append_assoc header body (take count piece))
-    ∙ ends (header ++ body) (subst (λ m. ReadTo start a name TAP_LIMIT m (header ++ body)) (sym e) h) less told
+out-so start a name header body piece at count e ends h less told = grind (arith, append_assoc)
 
 -- where less than a slot was read the recording was read to its end
 pub read-out : (start a b : FolderState) (n : TapNames) (x : Tapping) (ts : List Turn) (at orig answ : ℕ) (of_orig of_answ : List ℕ)
     → at ≡ HEADER + length x.bodies.orig → at ≡ HEADER + length x.bodies.answ → AreReadTo start a n x.bodies
-    → ReadsPieces start a b n at orig answ of_orig of_answ
-    → ((role : Role) → length (of role x.bodies) ≡ octets_of (line_of x) (length ts))
+    → ReadsPieces start a b n at orig answ of_orig of_answ → ((role : Role) → length (of role x.bodies) ≡ octets_of (line_of x) (length ts))
     → length of_orig ≡ 4 * (line_of x).symbols → length of_answ ≡ 4 * (line_of x).symbols
     → AreReadOut start n (tapping x.script (read_pieces_of x.bodies orig answ of_orig of_answ)) ts
 read-out start a b n x ts at orig answ of_orig of_answ eo ea h r count ro ra Originator less told =
-    out-so start a n.rec_o (header_of (mode_of Originator)) x.bodies.orig of_orig at orig eo r.end_orig (h Originator)
-    (omega (
+    out-so start a n.rec_o (header_of (mode_of Originator)) x.bodies.orig of_orig at orig eo r.end_orig (h Originator) (omega (
       arith,
       less,
       r.few_orig,
@@ -125,8 +110,7 @@ read-out start a b n x ts at orig answ of_orig of_answ eo ea h r count ro ra Ori
       read-length x.bodies.orig of_orig orig,
     )) told
 read-out start a b n x ts at orig answ of_orig of_answ eo ea h r count ro ra Answerer less told =
-    out-so start a n.rec_a (header_of (mode_of Answerer)) x.bodies.answ of_answ at answ ea r.end_answ (h Answerer)
-    (omega (
+    out-so start a n.rec_a (header_of (mode_of Answerer)) x.bodies.answ of_answ at answ ea r.end_answ (h Answerer) (omega (
       arith,
       less,
       r.few_answ,
@@ -153,19 +137,11 @@ abbrev pub nothing : List ℕ → Left
 nothing text = record { got = record { orig = []; answ = [] }; trace = text }
 
 pub leaves-none : (x : Tapping) (ts : List Turn) (text : List ℕ) → Leaves x ts (trace_text ts ++ text) (joined_left x ts (nothing text))
-leaves-none x ts text = record { got_is = got; trace_is = refl }
-  where
-    got : (role : Role) → of role (joined_left x ts (nothing text)).got ≡ concat (received (terms_of x) role ts).taken
-    got Originator = append-nil _
-    got Answerer = append-nil _
+leaves-none x ts text = grind (arith, append-nil)
 
 pub leaves-turn : KeepsTaken → (x : Tapping) (ts : List Turn) (t : Turn) (text : List ℕ)
     → Leaves x (t ∷ ts) (trace_text ts ++ text) (joined_left x ts (added x ts t text))
-leaves-turn law x ts t text = record { got_is = got; trace_is = refl }
-  where
-    got : (role : Role) → of role (joined_left x ts (added x ts t text)).got ≡ concat (received (terms_of x) role (t ∷ ts)).taken
-    got Originator = sym (got-more law x Originator ts t)
-    got Answerer = sym (got-more law x Answerer ts t)
+leaves-turn law x ts t text = grind (arith, got-more)
 
 -- a text by another name
 with-text : (x : Tapping) (ts : List Turn) (text others : List ℕ) (left : Left) → text ≡ others → Leaves x ts text left
@@ -178,8 +154,7 @@ pub add-nothing : (a : FolderState) (n : TapNames) → AddEach a a (outputs_of n
 add-nothing a n = (inl (refl, λ told. refl), (inl (refl, λ told. refl), (inl (refl, λ told. refl), tt)))
 
 pub loses-line : (start a : FolderState) (n : TapNames) (x : Tapping) (ts : List Turn) (role : Role) (symbol : ℕ) → Tells x ts
-    → AreReadTo start a n x.bodies → EndsLine x ts (lines.LineLost role symbol)
-    → EndsInTurn start a a n x ts (ends.LineLost role symbol)
+    → AreReadTo start a n x.bodies → EndsLine x ts (lines.LineLost role symbol) → EndsInTurn start a a n x ts (ends.LineLost role symbol)
 loses-line start a n x ts role symbol tells read e = record {
   others = x.bodies;
   read = read;
@@ -211,8 +186,7 @@ meets-chance start a b n x ts role number apart tells read e same w put = record
 
 pub stops-at-chance : (start a b : FolderState) (n : TapNames) (x : Tapping) (ts : List Turn) (role : Role) (number : ℕ)
     → AreApartFrom (inputs_of n) (outputs_of n) → Tells x ts → AreReadTo start a n x.bodies → EndsLine x ts (lines.ChanceMatch role)
-    → number ≡ length ts → OnlyWrites a b n.trace → PartlyAppended a b n.trace (chance_line number role)
-    → StopsInTurn start a b n x ts
+    → number ≡ length ts → OnlyWrites a b n.trace → PartlyAppended a b n.trace (chance_line number role) → StopsInTurn start a b n x ts
 stops-at-chance start a b n x ts role number apart tells read e same w part = record {
   others = x.bodies;
   read = read-later start a b n x.bodies apart (OnlyPuts-one a b (n.got_o ∷ n.got_a ∷ []) n.trace [] w) read;
@@ -279,10 +253,8 @@ so-heard tap x ts h k = record { hears = k.0.hears; orig = k.1; answ = k.2 }
 
 -- by what the calls of a turn say up to there
 pub has-pieces : (heard mid tap : Tap) (start a b c : FolderState) (n : TapNames) (x : Tapping) (ts : List Turn) (h : Hearing)
-    (counts : Both ℕ)
-    → AreApartFrom (inputs_of n) (outputs_of n) → AreReadTo start a n x.bodies → HearsTurn heard x ts (Ok h)
-    → OnlyPuts a b (outputs_of n) → OnlyReads b c
-    → (HasHeard heard x ts h.heard → AddEach a b (outputs_of n) (got_pieces x ts h.heard))
+    (counts : Both ℕ) → AreApartFrom (inputs_of n) (outputs_of n) → AreReadTo start a n x.bodies → HearsTurn heard x ts (Ok h)
+    → OnlyPuts a b (outputs_of n) → OnlyReads b c → (HasHeard heard x ts h.heard → AddEach a b (outputs_of n) (got_pieces x ts h.heard))
     → (HasHeard heard x ts h.heard → InTurn mid x ts h.heard)
     → (InTurn mid x ts h.heard → AreReadTo start b n x.bodies → HasReadPieces tap start c n x ts h.heard counts)
     → HasPieces tap start a b c n x ts h counts
@@ -303,19 +275,16 @@ has-count : (tap : Tap) (x : Tapping) (ts : List Turn) → IsBehind tap x ts →
 has-count tap x ts h role = grind (arith)
 
 at-count : (tap : Tap) (x : Tapping) (ts : List Turn) → IsBehind tap x ts → (body : List ℕ)
-    → length body ≡ octets_of (line_of x) (length ts)
-    → tap.at ≡ HEADER + length body
+    → length body ≡ octets_of (line_of x) (length ts) → tap.at ≡ HEADER + length body
 at-count tap x ts h body count = h.at ∙ ap (λ n. HEADER + n) (sym count)
 
 pub read-turn : (old new : Tap) (x : Tapping) (ts : List Turn) (heard : Both Heard) → SameReading old new
     → new.orig.listener ≡ old.orig.listener → new.answ.listener ≡ old.answ.listener → new.lines ≡ old.lines → InTurn old x ts heard
     → InTurn new x ts heard
-read-turn old new x ts heard same o a l h =
-    record { behind = behind-on old new x ts same h.behind; hears = h.hears; orig = rw o h.orig; answ = rw a h.answ; lines = rw l h.lines }
+read-turn old new x ts heard same o a l h = grind (arith)
 
 pub has-read-pieces : (old new : Tap) (start b c : FolderState) (n : TapNames) (x : Tapping) (ts : List Turn) (heard : Both Heard)
-    (counts : Both ℕ)
-    → InTurn old x ts heard → InTurn new x ts heard → new.at ≡ old.at → AreReadTo start b n x.bodies
+    (counts : Both ℕ) → InTurn old x ts heard → InTurn new x ts heard → new.at ≡ old.at → AreReadTo start b n x.bodies
     → ReadsPieces start b c n old.at counts.orig counts.answ new.orig.piece.items new.answ.piece.items
     → HasReadPieces new start c n x ts heard counts
 has-read-pieces old new start b c n x ts heard counts h k same read p =
@@ -331,8 +300,7 @@ has-read-pieces old new start b c n x ts heard counts h k same read p =
     }
 
 hears-now : (tap : Tap) (x : Tapping) (ts : List Turn) (h : Hearing) (counts : Both ℕ) → HearsSo x ts h → HearsSo (now_of tap x counts) ts h
-hears-now tap x ts h counts k =
-    record { hears = record { heard_of = k.hears.heard_of; well = k.hears.well }; orig = k.orig; answ = k.answ }
+hears-now tap x ts h counts k = grind (arith)
 
 tells-now : (tap : Tap) (x : Tapping) (ts : List Turn) (counts : Both ℕ) → Tells x ts → Tells (now_of tap x counts) ts
 tells-now tap x ts counts h =
@@ -343,8 +311,7 @@ goes-on-to a b c n p r = GoesOn-trans p.goes_on r.goes_on
 
 put-still : (tap : Tap) (start a b c : FolderState) (n : TapNames) (x : Tapping) (ts : List Turn) (h : Hearing) (counts : Both ℕ)
     → HasPieces tap start a b c n x ts h counts → AddEach a c (outputs_of n) (got_pieces x ts h.heard)
-put-still tap start a b c n x ts h counts k =
-    AddEach-kept a b c (outputs_of n) (got_pieces x ts h.heard) k.only.goes_on k.put (KeepsEach-reads b c (outputs_of n) k.reads)
+put-still tap start a b c n x ts h counts k = grind (arith)
 
 -- ---- nothing was read
 
@@ -359,33 +326,15 @@ last-hears x ts h k = record {
 }
 
 none-more : (tap : Tap) (x : Tapping) (ts : List Turn) (counts : Both ℕ) → IsBehind tap x ts → counts.orig ≡ 0 → counts.answ ≡ 0
-    → (role : Role)
-    → length (of role (read_of tap x counts)) ≤ octets_of (line_of x) (length ts)
-none-more tap x ts counts h eo ea Originator =
-    omega (arith, h.orig.count, eo, read-length x.bodies.orig tap.orig.piece.items counts.orig)
-none-more tap x ts counts h eo ea Answerer =
-    omega (arith, h.answ.count, ea, read-length x.bodies.answ tap.answ.piece.items counts.answ)
+    → (role : Role) → length (of role (read_of tap x counts)) ≤ octets_of (line_of x) (length ts)
+none-more tap x ts counts h eo ea role = grind (arith, read-length)
 
 -- ---- a slot is refused
 
 some-more : (tap : Tap) (x : Tapping) (ts : List Turn) (counts : Both ℕ) → IsBehind tap x ts → counts.orig ≤ length tap.orig.piece.items
     → counts.answ ≤ length tap.answ.piece.items → (counts.orig ≡ 0 → counts.answ ≡ 0 → ⊥)
     → (side : Role) × (octets_of (line_of x) (length ts) < length (of side (read_of tap x counts)))
-some-more tap x ts counts h fo fa some = by (cases_lt 0 counts.orig)
-  where
-    by : (0 < counts.orig) ⊎ (counts.orig ≤ 0) → (side : Role)
-        × (octets_of (line_of x) (length ts) < length (of side (read_of tap x counts)))
-    by (inl l) = (
-      Originator,
-      omega (arith, h.orig.count, l, fo, read-length x.bodies.orig tap.orig.piece.items counts.orig),
-    )
-    by (inr none) = (Answerer, at)
-      where
-        answ-some : 0 < counts.answ
-        answ-some = elim (cases_lt 0 counts.answ) [ inl l ↦ l | inr m ↦ absurd (some (omega (arith, none)) (omega (arith, m))) ]
-
-        at : octets_of (line_of x) (length ts) < length (of Answerer (read_of tap x counts))
-        at = omega (arith, h.answ.count, answ-some, fa, read-length x.bodies.answ tap.answ.piece.items counts.answ)
+some-more tap x ts counts h fo fa some = grind (arith, read-length)
 
 pub ends-badly : KeepsTaken → (tap : Tap) (start a b c : FolderState) (n : TapNames) (x : Tapping) (ts : List Turn) (h : Hearing)
     (counts : Both ℕ)
@@ -406,8 +355,7 @@ ends-badly law tap start a b c n x ts h counts role number k some same refused =
           some = some-more tap x ts counts k.pieces.turn.behind k.pieces.few_orig k.pieces.few_answ some;
           refused = refused;
           leaves = with-text y (t ∷ ts) (trace_text ts ++ []) (trace_text ts) (joined_left y ts (added y ts t []))
-              (append-nil (trace_text ts))
-              (leaves-turn law y ts t []);
+              (append-nil (trace_text ts)) (leaves-turn law y ts t []);
         };
         writes = add-none a c n (added x ts t []) (put-still tap start a b c n x ts h counts k);
       },
@@ -441,9 +389,7 @@ module _ (tap : Tap) (start a b c d : FolderState) (n : TapNames) (x : Tapping) 
     (k : HasPieces tap start a b c n x ts h counts) (w : OnlyWrites c d n.trace) where
   -- and the lines are written, or a part of them
   put-lines : (text : List ℕ) → Appended c d n.trace text → AddEach a d (outputs_of n) (held_of (added x ts (silent_in x ts h.heard) text))
-  put-lines text put =
-      AddEach-next a c d (n.got_o ∷ n.got_a ∷ []) n.trace [] (got_pieces x ts h.heard) text tt k.apart.0 (goes-on-to a b c n k.only k.reads)
-      (put-still tap start a b c n x ts h counts k) w (inr put)
+  put-lines text put = grind (arith)
 
   part-lines : (text : List ℕ) → PartlyAppended c d n.trace text
       → AddPart a d (outputs_of n) (held_of (added x ts (silent_in x ts h.heard) text))
@@ -482,8 +428,7 @@ module _ (tap : Tap) (start a b c d : FolderState) (n : TapNames) (x : Tapping) 
       let y : Tapping = now_of tap x counts in
       record {
         others = read_of tap x counts;
-        read = read-later start c d n (read_of tap x counts) k.apart (OnlyPuts-one c d (n.got_o ∷ n.got_a ∷ []) n.trace [] w)
-            k.pieces.read;
+        read = read-later start c d n (read_of tap x counts) k.apart (OnlyPuts-one c d (n.got_o ∷ n.got_a ∷ []) n.trace [] w) k.pieces.read;
         tells = tells-now tap x ts counts k.pieces.turn.behind.tells;
         more = added x ts t (turn_text (length ts) t);
         adds = inr (inl (
@@ -530,38 +475,19 @@ module _ (tap : Tap) (start a b c d : FolderState) (n : TapNames) (x : Tapping) 
 pub whole-orig : (tap mid : Tap) (x : Tapping) (ts : List Turn) (h : Hearing) (counts : Both ℕ) (slots : Both Slot)
     → InTurn tap x ts h.heard → counts.orig ≤ length tap.orig.piece.items → IsToGo mid (now_of tap x counts) ts h slots
     → counts.orig ≡ length tap.orig.piece.items
-whole-orig tap mid x ts h counts slots k few go =
-    omega (
-      arith,
-      go.read.orig.holds.whole,
-      few,
-      k.behind.orig.count,
-      k.behind.orig_room,
-      octets-next (line_of x) (length ts),
-      read-length x.bodies.orig tap.orig.piece.items counts.orig,
-    )
+whole-orig tap mid x ts h counts slots k few go = grind (arith, octets-next, read-length)
 
 -- a piece has octets
 pub some-octets : (tap new : Tap) (x : Tapping) (ts : List Turn) (heard : Both Heard) → HEAD + TAIL < (line_of x).symbols
     → InTurn tap x ts heard → new.orig.piece ≡ tap.orig.piece → 0 < length new.orig.piece.items
-some-octets tap new x ts heard long k same =
-    let room : length new.orig.piece.items ≡ 4 * (line_of x).symbols = rw same k.behind.orig_room in omega (arith, long, room)
+some-octets tap new x ts heard long k same = grind (arith)
 
 -- the tap is ready for the next turn
 pub ready-again : (old mid new : Tap) (x : Tapping) (t : Turn) (ts : List Turn) → IsReady old → TapAfter new x (t ∷ ts)
     → new.script ≡ old.script
     → IsIdle mid.orig.listener (old.turn + 1) → IsIdle mid.answ.listener (old.turn + 1) → new.orig.listener ≡ mid.orig.listener
     → new.answ.listener ≡ mid.answ.listener → new.turn ≡ old.turn + 1 → old.at < new.at → new.at ≤ TAP_LIMIT → IsReady new
-ready-again old mid new x t ts h after script io ia lo la turn more within = record {
-  limits = subst IsInLimits (sym script) h.limits;
-  orig = rw (lo, turn) io;
-  answ = rw (la, turn) ia;
-  early = omega (arith, turn, more, h.early);
-  within = within;
-  what = x;
-  turns = t ∷ ts;
-  after = after;
-}
+ready-again old mid new x t ts h after script io ia lo la turn more within = grind (arith)
 
 -- ---- what was touched, and counted
 
@@ -570,9 +496,7 @@ only-read a b c n p r = OnlyPuts-trans a b c (outputs_of n) p (OnlyPuts-reads b 
 
 pub only-written : (a b c d : FolderState) (n : TapNames) → OnlyPuts a b (outputs_of n) → OnlyReads b c → OnlyWrites c d n.trace
     → OnlyPuts a d (outputs_of n)
-only-written a b c d n p r w =
-    OnlyPuts-trans a c d (outputs_of n) (only-read a b c n p r)
-    (OnlyPuts-one c d (n.got_o ∷ n.got_a ∷ []) n.trace [] w)
+only-written a b c d n p r w = grind (arith, only-read)
 
 -- ---- what stands at each way out
 
@@ -597,6 +521,4 @@ nearer-by old mid new same some moved = omega (arith, same, some, moved)
 
 pub within-by : (tap mid new : Tap) (before count : ℕ) → tap.at ≡ before → mid.at ≡ tap.at → mid.orig.piece ≡ tap.orig.piece
     → count ≡ length tap.orig.piece.items → before + count ≤ TAP_LIMIT → new.at ≡ mid.at + length mid.orig.piece.items → new.at ≤ TAP_LIMIT
-within-by tap mid new before count first same piece whole within moved =
-    let long : length mid.orig.piece.items ≡ length tap.orig.piece.items = rw piece refl in
-    omega (arith, first, same, long, whole, within, moved)
+within-by tap mid new before count first same piece whole within moved = grind (arith)

@@ -72,8 +72,7 @@ abbrev pub NoneShort : Tapping → Both (List ℕ) → List Turn → Type 0
 NoneShort x more ts = (role : Role) → length (of role x.bodies) < octets_of (line_of x) (length ts + 1) → of role more ≡ []
 
 pub none-short : (start : FolderState) (n : TapNames) (x : Tapping) (ts : List Turn)
-    (r : (role : Role) → Rest start n role (of role x.bodies))
-    → AreReadOut start n x ts → NoneShort x (more_of start n x.bodies r) ts
+    (r : (role : Role) → Rest start n role (of role x.bodies)) → AreReadOut start n x ts → NoneShort x (more_of start n x.bodies r) ts
 none-short start n x ts r out b less = grind (arith)
 
 -- ---- ends
@@ -89,12 +88,7 @@ last-longer x more ts h = record { last = h.last; hears = hears-longer x (and_mo
 pub none-longer : (x : Tapping) (more : Both (List ℕ)) (ts : List Turn) → HEAD + TAIL < (line_of x).symbols → NoneShort x more ts
     → ((role : Role) → length (of role x.bodies) ≤ octets_of (line_of x) (length ts)) → (role : Role)
     → length (of role (longer x more).bodies) ≤ octets_of (line_of x) (length ts)
-none-longer x more ts long short h Originator =
-    let none = short Originator (omega (arith, h Originator, long, octets-next (line_of x) (length ts))) in
-    omega (arith, h Originator, ap length none, length-append {A = ℕ} x.bodies.orig more.orig)
-none-longer x more ts long short h Answerer =
-    let none = short Answerer (omega (arith, h Answerer, long, octets-next (line_of x) (length ts))) in
-    omega (arith, h Answerer, ap length none, length-append {A = ℕ} x.bodies.answ more.answ)
+none-longer x more ts long short h role = grind (arith, octets-next, length-append)
 
 ends-on-line-longer : (x : Tapping) (more : Both (List ℕ)) (ts : List Turn) (end : LineEnd) (text : List ℕ) (left : Left)
     → EndsOnLine x ts end text left → EndsOnLine (longer x more) ts end text left
@@ -122,8 +116,7 @@ refused-longer x more ts Answerer short h = (
 
 some-longer : (x : Tapping) (more : Both (List ℕ)) (m : ℕ) → (side : Role) × (m < length (of side x.bodies))
     → (side : Role) × (m < length (of side (longer x more).bodies))
-some-longer x more m (Originator, h) = (Originator, omega (arith, h, length-append {A = ℕ} x.bodies.orig more.orig))
-some-longer x more m (Answerer, h) = (Answerer, omega (arith, h, length-append {A = ℕ} x.bodies.answ more.answ))
+some-longer x more m side = grind (arith, length-append)
 
 pub whole-longer : (x : Tapping) (more : Both (List ℕ)) (ts : List Turn) (turns : ℕ) (left : Left) → HEAD + TAIL < (line_of x).symbols
     → NoneShort x more ts → EndsBy x ts (ends.IsDone turns) left → EndsBy (longer x more) ts (ends.IsDone turns) left
@@ -165,11 +158,7 @@ turn-longer x more ts adds long short h = record { turn = h.turn; makes = by h.m
   where
     by : MakesTurn x ts h.turn → MakesTurn (longer x more) ts h.turn
     by (inl g) = inl (goes-longer x more ts h.turn g)
-    by (inr l) = inr (record {
-      hears = hears-longer x (and_more x.bodies more) ts h.turn l.hears;
-      silent = l.silent;
-      none = none-longer x more ts long short l.none;
-    })
+    by (inr l) = inr (assumption (hears-longer x (and_more x.bodies more) ts h.turn l.hears, none-longer x more ts long short l.none))
 
 pub adds-longer : (start : FolderState) (n : TapNames) (x : Tapping) (ts : List Turn) (adds : Left)
     (r : (role : Role) → Rest start n role (of role x.bodies)) → HEAD + TAIL < (line_of x).symbols → AddsSo start n x ts adds

@@ -5,7 +5,6 @@ pub use Rattle.std.proofs.Common.{nat_lt, not, refl, rules, subst, suc, sym, tak
 pub use Rattle.std.proofs.Common.{◌∙◌, ◌∷◌, ◌≡◌, ◌≢◌, ◌≤◌, ◌⊎◌}
 pub use Rattle.std.proofs.Math.Seq.{take-append_seam}
 pub use Rattle.std.proofs.lemmas.Bool.{cases_lt, false≢true}
-pub use Rattle.std.proofs.lemmas.Bool.Decides.{nat_tests}
 pub use Rattle.std.proofs.lemmas.List.{length-drop, length-replicate, length-take, length-take-le, map-append, take-append-le, take_all}
 pub use Rattle.std.proofs.lemmas.List.{take_more}
 pub use Rattle.std.proofs.lemmas.List.Folds.{concat-append}
@@ -90,8 +89,7 @@ pub use Rattle.link_run.specs.Trace.{turn_text}
 pub use Rattle.noise_script.specs.Script.{IsInLimits, ScriptValue, delay_of, loses}
 pub use Rattle.outside_calls.proofs.Holding.{Holds-kept, Holds-more, HoldsPart-more}
 pub use Rattle.outside_calls.proofs.Putting.{AddEach-kept, AddEach-next, AddPart-longer, AddPart-next, AddPart-none, KeepsEach-reads}
-pub use Rattle.outside_calls.proofs.Putting.{KeepsEach-refl, OnlyPuts-one, OnlyPuts-reads, OnlyPuts-refl, OnlyPuts-trans, SomeRose-earlier}
-pub use Rattle.outside_calls.proofs.Putting.{inputs-kept}
+pub use Rattle.outside_calls.proofs.Putting.{KeepsEach-refl, OnlyPuts-one, OnlyPuts-reads, OnlyPuts-refl, OnlyPuts-trans, inputs-kept}
 pub use Rattle.outside_calls.proofs.Steps.{CountsStand-refl, CountsStand-trans, FaultsStand-trans, GoesOn-refl, OnlyReads-trans}
 pub use Rattle.outside_calls.proofs.Steps.{octets-kept, told_later}
 pub use Rattle.outside_calls.specs.Folder.{Adds, Appended, CountsStand, FaultsStand, FolderState, GoesOn, HasCause, KeepsName, OnlyReads}

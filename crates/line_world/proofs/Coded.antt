@@ -12,25 +12,17 @@ signals_of role stream = map (carried_signal role) stream
 
 pub same-signal : (e : EndCoder) (c : Wire) (role : Role) (stream : List Carried) (x : Carried) (sent : Sent) (check : Check) (dlci : ℕ)
     → HasCoded e c role stream → IsPut x sent check dlci → signal_of check e.coder.sender dlci sent ≡ carried_signal role x
-same-signal e c role stream x sent check dlci h p =
-    ap (λ z. signal_of z e.coder.sender dlci sent) (sym p.check_is)
-    ∙ ap (λ z. signal_of x.spoken.check z dlci sent) h.sends
-    ∙ ap (λ z. signal_of x.spoken.check role z sent) (sym p.dlci_is) ∙ ap (signal_of x.spoken.check role x.dlci) (sym p.sent_is)
+same-signal e c role stream x sent check dlci h p = grind (arith)
 
 pub codes-as : (e : EndCoder) (c : Wire) (role : Role) (stream : List Carried) (x : Carried) (signal : Signal) (labels : List ℕ)
     → HasCoded e c role stream → signal ≡ carried_signal role x
     → IsCodedAs e.coder.sender (bits_in e.coder) (signals_of role stream) signal labels
     → IsCodedAs role (4 * c.symbols) (signals_of role stream) (carried_signal role x) labels
-codes-as e c role stream x signal labels h same k =
-    subst (λ s. IsCodedAs role (4 * c.symbols) (signals_of role stream) s labels) same
-    (subst (λ n. IsCodedAs role (4 * n) (signals_of role stream) signal labels) h.symbols
-    (subst (λ r. IsCodedAs r (bits_in e.coder) (signals_of role stream) signal labels) h.sends k))
+codes-as e c role stream x signal labels h same k = grind (arith)
 
 pub codes-on : (e : EndCoder) (coder : Coding) (bits : List ℕ) (c : Wire) (role : Role) (stream : List Carried) (x : Carried)
-    (signal : Signal)
-    → HasCoded e c role stream → signal ≡ carried_signal role x → coder.sender ≡ e.coder.sender
-    → coder.writer.symbols ≡ e.coder.writer.symbols
-    → CoderStands coder (signals_of role stream ++ signal ∷ [])
+    (signal : Signal) → HasCoded e c role stream → signal ≡ carried_signal role x → coder.sender ≡ e.coder.sender
+    → coder.writer.symbols ≡ e.coder.writer.symbols → CoderStands coder (signals_of role stream ++ signal ∷ [])
     → line_bits bits ≡ bits_behind (bits_in e.coder) (signals_of role stream) signal
     → HasCoded (record { coder = coder; newest = bits }) c role (stream ++ x ∷ [])
 codes-on e coder bits c role stream x signal h same sender symbols stands bits-are = record {
@@ -50,13 +42,12 @@ codes-on e coder bits c role stream x signal h same sender symbols stands bits-a
 pub newest-is : (l : Lines) (c : Wire) (role own : Role) (links : ℕ) (streams : Both (List Carried)) (front : List Carried) (x : Carried)
     (bits : List ℕ) → LinesWait l c links streams → of role streams ≡ front ++ x ∷ [] → role ≡ own → bits ≡ (coder_of own l).newest
     → line_bits bits ≡ bits_behind (4 * c.symbols) (signals_of role front) (carried_signal role x)
-newest-is l c role own links streams front x bits h e is b =
-    ap line_bits (b ∙ ap (λ r. (coder_of r l).newest) (sym is)) ∙ (h.coders role).newest front x e
+newest-is l c role own links streams front x bits h e is b = grind (arith)
 
 -- what is so of each role's coder is so of both
 pub both-coded : (l : Lines) (c : Wire) (streams : Both (List Carried)) → HasCoded l.orig c Originator streams.orig
     → HasCoded l.answ c Answerer streams.answ → (role : Role) → HasCoded (coder_of role l) c role (of role streams)
-both-coded l c streams ho ha q5 = grind (arith)
+both-coded l c streams ho ha role = grind (arith)
 
 pub nothing-newest : (front : List Carried) (x : Carried) → [] ≡ front ++ x ∷ [] → ⊥
 nothing-newest [] x e = absurd cc

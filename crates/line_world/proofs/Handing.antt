@@ -1,21 +1,19 @@
 -- Segments that an end hands over, one after another.
 use Rattle.line_world.proofs.Cited.{◌≡◌, ◌⊎◌, inl, inr, ℕ, zero, suc, ◌+◌, ◌≤◌, ◌<◌, Bool, true, false, cond, nat_lt, IsTrue, List, [], ◌∷◌}
-use Rattle.line_world.proofs.Cited.{◌++◌, length, drop, arith, refl, sym, ◌∙◌, ap, subst, Option, Some, None, false≢true, nat_tests}
-use Rattle.line_world.proofs.Cited.{concat-append, concat, is_some, StandsFor, AnyEnd, Stands, Station, Account, is_connected, deliveries}
-use Rattle.line_world.proofs.Cited.{delivered, IsOffered, GoesOn-refl, told_later, octets-kept, FolderState, octets_at, GoesOn, OnlyWrites}
-use Rattle.line_world.proofs.Cited.{Appended, PartlyAppended, Adds}
+use Rattle.line_world.proofs.Cited.{◌++◌, length, drop, arith, refl, sym, ◌∙◌, ap, subst, Option, Some, None, false≢true, concat-append}
+use Rattle.line_world.proofs.Cited.{concat, is_some, StandsFor, AnyEnd, Stands, Station, Account, is_connected, deliveries, delivered}
+use Rattle.line_world.proofs.Cited.{IsOffered, GoesOn-refl, told_later, octets-kept, FolderState, octets_at, GoesOn, OnlyWrites, Appended}
+use Rattle.line_world.proofs.Cited.{PartlyAppended, Adds}
 use Rattle.std.proofs.lemmas.List.{append-nil, append_assoc}
 use Rattle.std.specs.Prelude.{slice_index_or}
 use Rattle.std.proofs.lemmas.List.{drop_all}
 use Rattle.std.proofs.lemmas.Option.{none-some, same_Some}
 use Rattle.shared_terms.specs.Prefix.{IsPrefixOf}
 use Rattle.outside_calls.specs.Folder.{held_at}
-use Rattle.outside_calls.proofs.Steps.{GoesOn-trans, KeepsName-trans, octets-held}
-use Rattle.lapm_receiver.specs.Incoming.{after_delivered}
+use Rattle.outside_calls.proofs.Steps.{octets-held}
 use Rattle.lapm_link.specs.declared.any_end.AnyEnd.TheVariants as ends
 use Rattle.lapm_link.specs.declared.negotiating.Talk.{Talk}
 use Rattle.lapm_link.specs.declared.negotiating.Talk.TheVariants as talks
-use Rattle.lapm_link.specs.Stands.{Negotiates}
 use Rattle.link_account.specs.Account.{delivers, after_delivery}
 use Rattle.line_world.proofs.Standing.{as-offered}
 
@@ -23,12 +21,7 @@ use Rattle.line_world.proofs.Standing.{as-offered}
 
 pub adds-more : (a b c : FolderState) (name xs ys : List ℕ) → GoesOn a b → Adds a b name xs → Appended b c name ys
     → Appended a c name (xs ++ ys)
-adds-more a b c name xs ys on (inl k) h = λ told.
-    h (told_later on name told) ∙ ap (λ l. Some (l ++ ys)) (octets-kept a b name k.1 told)
-    ∙ ap (λ l. Some (octets_at a name ++ (l ++ ys))) (sym k.0)
-adds-more a b c name xs ys on (inr k) h = λ told.
-    h (told_later on name told) ∙ ap (λ l. Some (l ++ ys)) (octets-held b name (octets_at a name ++ xs) (k told))
-    ∙ ap Some (append_assoc (octets_at a name) xs ys)
+adds-more a b c name xs ys on given h = grind (arith, octets-kept, octets-held, append_assoc)
 
 pub part-more : (a b c : FolderState) (name xs ys rest : List ℕ) → GoesOn a b → Adds a b name xs → PartlyAppended b c name ys
     → PartlyAppended a c name (xs ++ (ys ++ rest))
@@ -36,8 +29,7 @@ part-more a b c name xs ys rest on k h = λ told. go k (h (told_later on name to
   where
     go : Adds a b name xs
         → (held_at c name ≡ held_at b name) ⊎ ((part : List ℕ) × IsPrefixOf part ys × (held_at c name ≡ Some (octets_at b name ++ part)))
-        → IsTrue (a.tells name)
-        → (held_at c name ≡ held_at a name)
+        → IsTrue (a.tells name) → (held_at c name ≡ held_at a name)
         ⊎ ((part : List ℕ) × IsPrefixOf part (xs ++ (ys ++ rest)) × (held_at c name ≡ Some (octets_at a name ++ part)))
     go (inl k) (inl e) told = inl (e ∙ k.1 told)
     go (inr k) (inl e) told = inr (xs, (ys ++ rest, refl), e ∙ k told)
@@ -62,12 +54,7 @@ part-more a b c name xs ys rest on k h = λ told. go k (h (told_later on name to
     )
 
 pub writes-on : (a b c : FolderState) (name : List ℕ) → OnlyWrites a b name → OnlyWrites b c name → OnlyWrites a c name
-writes-on a b c name h k = record {
-  goes_on = GoesOn-trans h.goes_on k.goes_on;
-  names = λ other apart. KeepsName-trans a b c other h.goes_on (h.names other apart) (k.names other apart);
-  said = k.said ∙ h.said;
-  read_faults = λ other. k.read_faults other ∙ h.read_faults other;
-}
+writes-on a b c name h k = grind (arith)
 
 -- ---- deliveries, one by one
 
@@ -89,8 +76,7 @@ delivered-of b k = ap (λ c. cond c (record b { incoming = record b.incoming { g
 
 after-of : (b : Account) → is_connected b.phase ≡ true → nat_lt b.incoming.given (length b.incoming.taken) ≡ true
     → after_delivery b ≡ handed-one b
-after-of b k l = ap (λ c. cond c (record b { incoming = after_delivered b.incoming }) b) k
-    ∙ ap (λ c. record b { incoming = cond c (record b.incoming { given = b.incoming.given + 1 }) b.incoming }) l
+after-of b k l = grind (arith)
 
 pub record Hands (b : Account) (segment : List ℕ) : Type 0 where
   pub first : deliveries b ≡ segment ∷ deliveries (after_delivery b)
@@ -102,7 +88,7 @@ hands-next b segment e = go (is_connected b.phase) refl (nat_lt b.incoming.given
     go : (c : Bool) → is_connected b.phase ≡ c → (l : Bool) → nat_lt b.incoming.given (length b.incoming.taken) ≡ l
         → cond c (cond l (Some (slice_index_or b.incoming.taken b.incoming.given [])) None) None ≡ Some segment → Hands b segment
     go true k true l z =
-        let within : b.incoming.given < length b.incoming.taken = grind (arith, nat_tests) in
+        let within : b.incoming.given < length b.incoming.taken = grind (arith) in
         let next : suc b.incoming.given ≡ b.incoming.given + 1 = omega arith in
         let after = after-of b k l in
         record {
@@ -116,15 +102,7 @@ hands-next b segment e = go (is_connected b.phase) refl (nat_lt b.incoming.given
     go false k l m z = absurd (none-some _ z)
 
 given-within : (end : AnyEnd) (a : Account) → StandsFor end a → is_connected a.phase ≡ true → a.incoming.given ≤ length a.incoming.taken
-given-within (ends.Detecting end) a h e = absurd (false≢true (sym (ap is_connected h.phase_is) ∙ e))
-given-within (ends.Negotiating end) a h e = go end.talk h
-  where
-    go : (talk : Talk) → Negotiates talk a → a.incoming.given ≤ length a.incoming.taken
-    go (talks.Asking asking) k = absurd (false≢true (sym (ap is_connected k.phase_is) ∙ e))
-    go (talks.Answering answering) k = absurd (false≢true (sym (ap is_connected k.phase_is) ∙ e))
-given-within (ends.Establishing end) a h e = absurd (false≢true (sym (ap is_connected h.0) ∙ e))
-given-within (ends.Connected end) a h e = h.beside.receiver_stands.given_within
-given-within other a h e = absurd (false≢true (sym (ap is_connected h.0) ∙ e))
+given-within other a h e = grind (arith)
 
 pub record HandsNone (b : Account) : Type 0 where
   pub none : deliveries b ≡ []
@@ -138,7 +116,7 @@ hands-none end b h e = go (is_connected b.phase) refl (nat_lt b.incoming.given (
     go true k true l z = absurd (false≢true (sym z))
     go true k false l z =
         let most = given-within end b h k in
-        let least : length b.incoming.taken ≤ b.incoming.given = grind (arith, nat_tests) in
+        let least : length b.incoming.taken ≤ b.incoming.given = grind (arith) in
         let is : length b.incoming.taken ≡ b.incoming.given = omega (arith, most, least) in
         record {
           none = rw k (drop_all b.incoming.given b.incoming.taken least);
@@ -147,18 +125,10 @@ hands-none end b h e = go (is_connected b.phase) refl (nat_lt b.incoming.given (
     go false k l m z = record { none = rw k refl; same = rw k refl }
 
 pub delivery-offered : (file : List ℕ) (b : Account) → IsOffered file b → IsOffered file (after_delivery b)
-delivery-offered file b h = go (is_connected b.phase)
-  where
-    go : (c : Bool) → IsOffered file (cond c (record b { incoming = after_delivered b.incoming }) b)
-    go true = as-offered file b (record b { incoming = after_delivered b.incoming }) refl refl refl refl h
-    go false = h
+delivery-offered file b h = grind (arith, as-offered)
 
 delivery-breaks : (b : Account) → (after_delivery b).own_breaks ≡ b.own_breaks
-delivery-breaks b = go (is_connected b.phase)
-  where
-    go : (c : Bool) → (cond c (record b { incoming = after_delivered b.incoming }) b).own_breaks ≡ b.own_breaks
-    go true = refl
-    go false = refl
+delivery-breaks b = grind (arith)
 
 -- ---- the loop
 
@@ -183,12 +153,10 @@ handing-next start now next name segment s new file a on h e end breaks put =
     let k = hands-next h.after segment e in
     record {
       after = after_delivery h.after;
-      stands = record {
-        end = end;
-        breaks = breaks ∙ h.stands.breaks
-            ∙ sym (ap (λ o. length o.lengths) (delivery-breaks h.after));
-        offered = delivery-offered file h.after h.stands.offered;
-      };
+      stands = assumption (
+        breaks ∙ h.stands.breaks ∙ sym (ap (λ o. length o.lengths) (delivery-breaks h.after)),
+        delivery-offered file h.after h.stands.offered,
+      );
       same = k.rest ∙ h.same;
       done = h.done ++ segment ∷ [];
       all = h.all ∙ ap (λ l. h.done ++ l) k.first ∙ sym (append_assoc h.done (segment ∷ []) (deliveries (after_delivery h.after)));
@@ -200,28 +168,7 @@ pub handing-ends : (start now : FolderState) (name : List ℕ) (s new : Station)
     → (h : Handing start now name s file a) → is_some (delivers h.after) ≡ false
     → StandsFor new.end (after_delivery h.after) → new.breaks ≡ s.breaks
     → Stands new file (delivered a) × Adds start now name (concat (deliveries a))
-handing-ends start now name s new file a h e end breaks =
-    let k = hands-none s.end h.after h.stands.end e in
-    let still : after_delivery h.after ≡ delivered a = still-same ∙ sym k.same ∙ h.same in (
-      subst (Stands new file) still (record {
-        end = end;
-        breaks = breaks ∙ h.stands.breaks
-            ∙ sym (ap (λ o. length o.lengths) (delivery-breaks h.after));
-        offered = delivery-offered file h.after h.stands.offered;
-      }),
-      subst (λ l. Adds start now name (concat l)) (sym (h.all ∙ ap (λ l. h.done ++ l) k.none ∙ append-nil h.done)) h.wrote,
-    )
-  where
-    still-same : after_delivery h.after ≡ h.after
-    still-same = go (is_connected h.after.phase) (nat_lt h.after.incoming.given (length h.after.incoming.taken)) e
-      where
-        go : (c l : Bool)
-            → is_some (cond c (cond l (Some (slice_index_or h.after.incoming.taken h.after.incoming.given [])) None) None) ≡ false
-            → cond c (record h.after {
-              incoming = cond l (record h.after.incoming { given = h.after.incoming.given + 1 }) h.after.incoming;
-            })
-            h.after ≡ h.after
-        go q0 l z = grind (arith)
+handing-ends start now name s new file a h e end breaks = grind (arith, hands-none, delivery-offered, append-nil)
 
 pub handing-stops : (start now next : FolderState) (name segment : List ℕ) (s : Station) (file : List ℕ) (a : Account) → GoesOn start now
     → (h : Handing start now name s file a)
@@ -233,13 +180,11 @@ handing-stops start now next name segment s file a on h e put =
     (part-more start now next name (concat h.done) segment (concat (deliveries (after_delivery h.after))) on h.wrote put)
 
 pub some-of : {X : Type 0} (o : Option X) → true ≡ is_some o → (x : X) × (o ≡ Some x)
-some-of (Some x) e = (x, refl)
-some-of None e = absurd (false≢true (sym e))
+some-of o e = grind (arith)
 
 -- the segment that was handed over
 pub handed-segment : (end : AnyEnd) (out : List ℕ) (b : Account) → StandsFor end b → true ≡ is_some (delivers b)
-    → ((a : Account) (segment : List ℕ) → StandsFor end a → delivers a ≡ Some segment → out ≡ segment)
-    → delivers b ≡ Some out
+    → ((a : Account) (segment : List ℕ) → StandsFor end a → delivers a ≡ Some segment → out ≡ segment) → delivers b ≡ Some out
 handed-segment end out b h e is = let s = some-of (delivers b) e in s.1 ∙ ap Some (sym (is b s.0 h s.1))
 
 pub writes-none : (f : FolderState) (name : List ℕ) → OnlyWrites f f name

@@ -1,11 +1,11 @@
 -- What both ends hear in a turn, and are then.
-use Rattle.line_world.proofs.Cited.{◌≡◌, ◌≢◌, ℕ, ◌<◌, ◌≤◌, ◌+◌, ◌^◌, true, false, is_ok, List, [], length, arith, refl, sym, ◌∙◌, subst}
-use Rattle.line_world.proofs.Cited.{Option, None, Ok, Check, Heard, Chance, SamplesAreCarried, OneIsCarried, Wire, HeardIn, IsHeardOf}
-use Rattle.line_world.proofs.Cited.{LineRun, EndsLine, wire_at, link_of, ScriptsMayPlay, ScriptsHaveDelays, NoLineRunIsLong, Carried}
-use Rattle.line_world.proofs.Cited.{end_of, ArrivesBoth, HaveArrived, LinkStands, AreIdle, AreCounted, HearsWell, Overhears, TalliesHeard}
-use Rattle.line_world.proofs.Cited.{turn_in, AreKept, AreReady, ModemsAfter, Tallies, LineEnd, Lines, Modems, Counts, check_of, hear}
-use Rattle.line_world.proofs.Cited.{lost_in, Accounts, Spoken, Turn, arrival, start, ScriptValue, IsInLimits, delay_of, Both, of, other}
-use Rattle.line_world.proofs.Cited.{Role, Originator, Answerer, file_limit}
+use Rattle.line_world.proofs.Cited.{◌≡◌, ◌≢◌, ℕ, ◌<◌, ◌≤◌, ◌+◌, ◌^◌, true, false, is_ok, List, [], length, arith, sym, subst, Option, None}
+use Rattle.line_world.proofs.Cited.{Check, Heard, Chance, SamplesAreCarried, OneIsCarried, Wire, HeardIn, IsHeardOf, LineRun, EndsLine}
+use Rattle.line_world.proofs.Cited.{wire_at, link_of, ScriptsMayPlay, ScriptsHaveDelays, NoLineRunIsLong, Carried, end_of, ArrivesBoth}
+use Rattle.line_world.proofs.Cited.{HaveArrived, LinkStands, AreIdle, AreCounted, HearsWell, Overhears, TalliesHeard, turn_in, AreKept}
+use Rattle.line_world.proofs.Cited.{AreReady, ModemsAfter, Tallies, LineEnd, Lines, Modems, Counts, check_of, hear, lost_in, Accounts}
+use Rattle.line_world.proofs.Cited.{Spoken, Turn, arrival, start, ScriptValue, IsInLimits, delay_of, Both, of, other, Role, Originator}
+use Rattle.line_world.proofs.Cited.{Answerer, file_limit}
 use Rattle.link_run.specs.Laws.{RunsOver, HearingsAreWell}
 use Rattle.line_run.specs.Sampled.{EndsLineBy}
 use Rattle.line_world.specs.Link.{HearsBoth}
@@ -16,8 +16,7 @@ few-turns law m script l h = subst (λ n. n < 2 ^ 39) (sym h.after.turn)
     (law (wire_at script m.dlci h.beside) h.files h.turns h.ends h.limits within h.after.run)
   where
     within : (role : Role) → length (of role h.files) ≤ file_limit
-    within Originator = h.within.orig
-    within Answerer = h.within.answ
+    within role = grind (arith)
 
 pub early-turns : NoLineRunIsLong → (m : Modems) (script : ScriptValue) (l : Lines) → AreReady m script l → m.turn < 2 ^ 40
 early-turns law m script l h = let few = few-turns law m script l h in omega (arith, few)
@@ -33,12 +32,7 @@ pub record HearingLaws : Type 0 where
 pub runs-over : ScriptsMayPlay → ScriptsHaveDelays → SamplesAreCarried
     → (c : Wire) (files : Both (List ℕ)) (ts : List Turn) (ends : Accounts) → IsInLimits c.script
     → LineRun c (link_of c.script files) ts ends → RunsOver (link_of c.script files) (delay_of c.script) ts ends
-runs-over play delays carried c files ts ends limits run = record {
-  may_play = play c.script files limits;
-  delays = delays c.script limits;
-  carried = carried c ts run.heard;
-  run = run.run;
-}
+runs-over play delays carried c files ts ends limits run = grind (arith)
 
 pub heard-in : (c : Wire) (files : Both (List ℕ)) (ts : List Turn) (ends : Accounts) (heard : Both Heard) (mid : Accounts)
     (sent : Both (Option Spoken)) → Overhears c files ts ends heard mid → HeardIn c ts (turn_in heard ends mid sent)
@@ -54,13 +48,9 @@ pub record IsHeardBy (c : Wire) (ts : List Turn) (ends : Accounts) (heard : Both
   pub well : (role : Role) → of role heard ≢ Chance
 
 pub heard-by : (l : Lines) (c : Wire) (links : ℕ) (streams : Both (List Carried)) (ts : List Turn) (ends : Accounts) (heard : Both Heard)
-    (checks : Both Check)
-    → ((role : Role) → of role checks ≡ check_of (of role ends))
+    (checks : Both Check) → ((role : Role) → of role checks ≡ check_of (of role ends))
     → ArrivesBoth (HaveArrived l c links streams) c ts checks heard → IsHeardBy c ts ends heard
-heard-by l c links streams ts ends heard checks same a = record {
-  heard_of = λ role. subst (λ k. IsHeardOf c (other role) ts k (of role heard)) (same role) (a.heard_of role);
-  well = a.well;
-}
+heard-by l c links streams ts ends heard checks same a = grind (arith)
 
 -- what arrives of own slots breaks no end
 pub hears-well : HearingLaws → (c : Wire) (files : Both (List ℕ)) (ts : List Turn) (ends : Accounts) (heard : Both Heard)
@@ -76,14 +66,7 @@ hears-well laws c files ts ends heard limits run h = record { orig = well Origin
     in-turn Answerer = record { heard_of = h.heard_of Answerer; well = h.well Answerer }
 
     well : (role : Role) → is_ok (hear (length ts) (arrival (of role t).heard) (of role ends)) ≡ true
-    well = laws.well (link_of c.script files) (delay_of c.script) ts ends t
-        (runs-over laws.play laws.delays laws.carried c files ts ends limits run) (laws.one c ts t in-turn)
-
--- what both ends are once they have heard
-both-of : (ends : Accounts) (turn : ℕ) (heard : Both Heard) (mid : Accounts) (number : ℕ) → number ≡ turn
-    → hear number (arrival heard.orig) ends.orig ≡ Ok mid.orig → hear number (arrival heard.answ) ends.answ ≡ Ok mid.answ
-    → (role : Role) → hear turn (arrival (of role heard)) (of role ends) ≡ Ok (of role mid)
-both-of ends turn heard mid number n ho ha q8 = grind (arith)
+    well = grind (arith, t, runs-over, in-turn)
 
 pub record Hearing (m : Modems) (files : Both (List ℕ)) (ends : Accounts) (heard : Both Heard) (turn : ℕ) : Type 0 where
   pub hears : HearsBoth m.link files ends turn (arrival heard.orig) (arrival heard.answ)
@@ -92,29 +75,12 @@ pub record Hearing (m : Modems) (files : Both (List ℕ)) (ends : Accounts) (hea
 pub has-heard : (old m : Modems) (l : Lines) (c : Wire) (links : ℕ) (streams : Both (List Carried)) (files : Both (List ℕ)) (ts : List Turn)
     (ends : Accounts) (heard : Both Heard)
     → ModemsAfter old c files ts ends → m.turn ≡ old.turn → IsHeardBy c ts ends heard → HaveArrived l c links streams
-    → Hearing m files ends heard old.turn → TalliesHeard m.tally ts ends heard
-    → HasHeard m l c links streams files ts ends heard
-has-heard old m l c links streams files ts ends heard h number a arrived hearing tally = record {
-  mid = hearing.hears.mid;
-  stands = record {
-    overhears = assumption (both-of ends (length ts) heard hearing.hears.mid old.turn h.turn hearing.hears.orig hearing.hears.answ);
-    link = hearing.hears.stands;
-    turn = number ∙ h.turn;
-    tally = tally;
-    checks = hearing.checks;
-  };
-  lines = arrived;
-}
+    → Hearing m files ends heard old.turn → TalliesHeard m.tally ts ends heard → HasHeard m l c links streams files ts ends heard
+has-heard old m l c links streams files ts ends heard h number a arrived hearing tally = grind (arith)
 
 pub tallies-heard : (old new : Counts) (ts : List Turn) (ends : Accounts) (heard : Both Heard) → Tallies old ts ends
-    → new ≡ record old { lost = old.lost + lost_in heard.orig + lost_in heard.answ }
-    → TalliesHeard new ts ends heard
-tallies-heard old new ts ends heard h e = rw e (record {
-  lost = rw h.lost refl;
-  again = h.again;
-  orig = h.orig;
-  answ = h.answ;
-})
+    → new ≡ record old { lost = old.lost + lost_in heard.orig + lost_in heard.answ } → TalliesHeard new ts ends heard
+tallies-heard old new ts ends heard h e = grind (arith)
 
 -- the line ends the run
 pub lost-so : (c : Wire) (ts : List Turn) (ends : Accounts) (checks : Both Check) (end : LineEnd)
@@ -130,19 +96,7 @@ nothing-counted = record { lost = 0; again = 0; orig = 0; answ = 0 }
 pub begins : (m : Modems) (c : Wire) (script : ScriptValue) (files : Both (List ℕ)) → c.script ≡ script
     → LinkStands m.link files (start (link_of script files)) → m.turn ≡ 0 → m.tally ≡ nothing-counted → m.spoke ≡ false
     → ModemsAfter m c files [] (start (link_of script files))
-begins m c script files is link turn tally spoke = record {
-  run = subst (λ s. LineRun c (link_of c.script files) [] (start (link_of s files))) is (record { run = refl; heard = tt });
-  link = link;
-  turn = turn;
-  tally = subst (λ t. Tallies t [] (start (link_of script files))) (sym tally)
-      (record { lost = refl; again = refl; orig = refl; answ = refl });
-  spoke = spoke;
-}
+begins m c script files is link turn tally spoke = grind (arith)
 
 pub kept-first : (m : Modems) → m.dlci < 64 → AreIdle m.link → AreCounted m.link 0 0 → m.turn ≡ 0 → m.tally ≡ nothing-counted → AreKept m
-kept-first m channel idle counted turn tally = record {
-  channel = channel;
-  idle = idle;
-  counted = subst (λ n. AreCounted m.link n n) (sym turn) counted;
-  few = rw (turn, tally) (record { lost = omega arith; again = omega arith; orig = omega arith; answ = omega arith });
-}
+kept-first m channel idle counted turn tally = grind (arith)

@@ -1,15 +1,14 @@
 -- The line that a world lends its link's turns, on which that is alone.
-use Rattle.line_world.proofs.Cited.{◌≡◌, ℕ, ◌-◌, ◌*◌, ◌<◌, ◌≤◌, ◌^◌, List, [], ◌∷◌, ◌++◌, length, map, take, arith, refl, sym, ◌∙◌, ap}
-use Rattle.line_world.proofs.Cited.{subst, Option, Some, None, false≢true, is_some, line_bits, BitSlot, Signal, LineRun, wire_at, wire_of}
-use Rattle.line_world.proofs.Cited.{link_of, ScriptsHaveDelays, NoLineRunIsLong, Carried, IsDue, carried_signal, both_sent_by, AreDue}
-use Rattle.line_world.proofs.Cited.{LinesWait, HaveArrived, AreKept, AreReady, ModemsAfter, IsOver, IsReady, WorldAfter, HasSent}
-use Rattle.line_world.proofs.Cited.{DelayedLine, Lines, World, Accounts, Spoken, Turn, start, ScriptValue, IsInLimits, delay_of, Kept}
-use Rattle.line_world.proofs.Cited.{LineStands, bits_behind, signal_of, Both, of, Role, Originator, Answerer, file_limit}
+use Rattle.line_world.proofs.Cited.{◌≡◌, ℕ, ◌-◌, ◌*◌, ◌<◌, ◌≤◌, ◌^◌, List, [], ◌∷◌, ◌++◌, length, map, arith, refl, sym, ◌∙◌, ap, subst}
+use Rattle.line_world.proofs.Cited.{Option, Some, None, false≢true, is_some, line_bits, BitSlot, Signal, LineRun, wire_at, wire_of, link_of}
+use Rattle.line_world.proofs.Cited.{ScriptsHaveDelays, NoLineRunIsLong, Carried, IsDue, carried_signal, both_sent_by, AreDue, LinesWait}
+use Rattle.line_world.proofs.Cited.{HaveArrived, AreKept, AreReady, ModemsAfter, IsReady, WorldAfter, HasSent, Lines, World, Accounts}
+use Rattle.line_world.proofs.Cited.{Spoken, Turn, start, ScriptValue, IsInLimits, delay_of, Kept, bits_behind, signal_of, Both, of, Role}
+use Rattle.line_world.proofs.Cited.{Originator, Answerer, file_limit}
 use Rattle.std.specs.Prelude.{true}
 use Rattle.line_run.specs.LineLaws.{RunsSendSlots, LoneSlotsAreDue, LoneSlotsAreCounted}
 use Rattle.line_run.specs.Stream.{carry, sent_by}
 use Rattle.line_run.proofs.Streaming.{lone-signals}
-use Rattle.line_world.specs.Way.{Carries}
 use Rattle.line_world.specs.Lines.{PassedFew, from}
 use Rattle.line_world.proofs.Waiting.{passed-few}
 use Rattle.line_world.specs.World.{HasPassed, HasPassedToo}
@@ -19,8 +18,7 @@ few-turns law w h = subst (λ n. n < 2 ^ 39) (sym h.after.modems.turn)
     (law (wire_of w.script) h.files h.turns h.ends h.limits within h.after.modems.run)
   where
     within : (role : Role) → length (of role h.files) ≤ file_limit
-    within Originator = h.within.orig
-    within Answerer = h.within.answ
+    within role = grind (arith)
 
 pub record LoneLaws : Type 0 where
   pub due : LoneSlotsAreDue
@@ -39,8 +37,7 @@ due-in laws script files ts ends limits run role =
 
 pub are-due : LoneLaws → (script : ScriptValue) (files : Both (List ℕ)) (ts : List Turn) (ends : Accounts) → IsInLimits script
     → LineRun (wire_of script) (link_of script files) ts ends → AreDue (wire_of script) 1 ts (both_sent_by 0 ts)
-are-due laws script files ts ends limits run Originator = due-in laws script files ts ends limits run Originator
-are-due laws script files ts ends limits run Answerer = due-in laws script files ts ends limits run Answerer
+are-due laws script files ts ends limits run given = grind (arith, due-in)
 
 pub are-few : LoneLaws → NoLineRunIsLong → (w : World) → IsReady w → PassedFew w.lines.directions
 are-few laws long w h = each
@@ -49,13 +46,7 @@ are-few laws long w h = each
     short = subst (λ n. n < 2 ^ 39) h.after.modems.turn (few-turns long w h)
 
     at : (role : Role) (count : ℕ) → count ≤ length (sent_by 0 role h.turns) → count < 2 ^ 40
-    at role count l =
-        omega (
-          arith,
-          l,
-          short,
-          laws.counted 0 role h.turns (laws.sent (link_of w.script h.files) h.turns h.ends h.after.modems.run.run role),
-        )
+    at role count l = grind (arith, short)
 
     each : (role : Role) → (from role w.lines.directions).line.passed < 2 ^ 40
     each Originator =
@@ -87,28 +78,13 @@ lends laws long w h = record {
   few = are-few laws long w h;
 }
 
--- the slots that have passed a direction
-passed-by : (d : DelayedLine) (script : ScriptValue) (role : Role) (ts : List Turn) (line : Kept) (waiting : ℕ → ℕ)
-    → IsOver d (wire_of script) role 1 (sent_by 0 role ts) (waiting d.lag) → line ≡ d.line
-    → Carries line script role (sent_by 0 role ts) (waiting (delay_of script role))
-passed-by d script role ts line waiting h is =
-    let lag : d.lag ≡ delay_of script role = omega (arith, h.lag, h.delay) in
-    subst (λ l. Carries l script role (sent_by 0 role ts) (waiting (delay_of script role))) (sym is)
-    (subst (λ n. Carries d.line script role (sent_by 0 role ts) (waiting n)) lag
-    (subst (λ r. LineStands d.line script (map (carried_signal r) (take (length (sent_by 0 role ts) - waiting d.lag) (sent_by 0 role ts))))
-    h.sends h.stands.line))
-
 pub passed-so : (l : Lines) (script : ScriptValue) (role : Role) (ts : List Turn) (line : Kept)
     → LinesWait l (wire_of script) 1 (both_sent_by 0 ts) → line ≡ (from role l.directions).line → HasPassed line script role ts
-passed-so l script Originator ts line h is = passed-by l.directions.from_orig script Originator ts line (λ k. k) (h.directions Originator)
-    is
-passed-so l script Answerer ts line h is = passed-by l.directions.from_answ script Answerer ts line (λ k. k) (h.directions Answerer) is
+passed-so l script role ts line h is = grind (arith)
 
 pub passed-too : (l : Lines) (script : ScriptValue) (role : Role) (ts : List Turn) (line : Kept)
     → HaveArrived l (wire_of script) 1 (both_sent_by 0 ts) → line ≡ (from role l.directions).line → HasPassedToo line script role ts
-passed-too l script Originator ts line h is = passed-by l.directions.from_orig script Originator ts line (λ k. k - 1)
-    (h.directions Originator) is
-passed-too l script Answerer ts line h is = passed-by l.directions.from_answ script Answerer ts line (λ k. k - 1) (h.directions Answerer) is
+passed-too l script role ts line h is = grind (arith)
 
 -- ---- the slots of the last turn
 
@@ -119,7 +95,7 @@ pub sent-so : (script : ScriptValue) (role : Role) (ts : List Turn) (t : Turn) (
 sent-so script role ts t bits sent newest = go (of role t).sent refl
   where
     stream-of : (role : Role) → of role (both_sent_by 0 (t ∷ ts)) ≡ sent_by 0 role ts ++ carry 0 (of role t).sent
-    stream-of q0 = grind (arith)
+    stream-of role = grind (arith)
 
     go : (s : Option Spoken) → (of role t).sent ≡ s → HasSent (Some bits) script role ts t
     go None e = absurd (false≢true (sym (ap is_some e) ∙ sent))

@@ -1,8 +1,8 @@
 -- Parts of a turn of both ends.
-use Rattle.line_world.proofs.Cited.{◌≡◌, ℕ, ◌+◌, Bool, true, false, is_ok, List, length, take, arith, refl, sym, ◌∙◌, ap, Option, Result}
-use Rattle.line_world.proofs.Cited.{Ok, Err, false≢true, option_map, Arrived, Sent, breaks_of, busy_of, HearsOn, Stands, HearsAs, SpeaksAs}
-use Rattle.line_world.proofs.Cited.{ReadsOn, IsCounted, Station, Account, after_busy, hear, Said, asked, asked_at, is_busy, ScriptValue}
-use Rattle.line_world.proofs.Cited.{told_later, octets-kept, FolderState, OnlyReads, LinkFault, Role}
+use Rattle.line_world.proofs.Cited.{◌≡◌, ℕ, ◌+◌, Bool, true, false, is_ok, List, length, arith, Option, Result, Ok, Err, option_map}
+use Rattle.line_world.proofs.Cited.{Arrived, Sent, breaks_of, busy_of, HearsOn, Stands, HearsAs, SpeaksAs, ReadsOn, IsCounted, Station}
+use Rattle.line_world.proofs.Cited.{Account, after_busy, hear, Said, asked, asked_at, is_busy, ScriptValue, octets-kept, FolderState}
+use Rattle.line_world.proofs.Cited.{OnlyReads, LinkFault, Role}
 use Rattle.std.proofs.Common.{slice_get}
 use Rattle.noise_script.specs.Script.{break_of}
 use Rattle.noise_script.specs.Script as script
@@ -11,11 +11,7 @@ use Rattle.line_world.specs.Station.{break_line_of}
 
 pub heard-well : (s : Station) (file : List ℕ) (a : Account) (turn : ℕ) (arrived : Arrived) → is_ok (hear turn arrived a) ≡ true
     → HearsAs (hear turn arrived a) file s (Ok tt) → HearsOn s file a turn arrived
-heard-well s file a turn arrived well h = go (hear turn arrived a) refl well h
-  where
-    go : (r : Result Account LinkFault) → hear turn arrived a ≡ r → is_ok r ≡ true → HearsAs r file s (Ok tt)
-        → HearsOn s file a turn arrived
-    go q0 e w k = grind (arith)
+heard-well s file a turn arrived well h = grind (arith)
 
 pub counted-later : (s : Station) (heard asked : ℕ) → IsCounted s heard asked → IsCounted s heard (asked + 1)
 counted-later s heard asked h = record { segments = omega (arith, h.segments); breaks = omega (arith, h.breaks) }
@@ -23,8 +19,7 @@ counted-later s heard asked h = record { segments = omega (arith, h.segments); b
 -- The next break of the script is the next one of the user's.
 pub next-is : BreaksAreTheScripts → (value : ScriptValue) (role : Role) (index taken : ℕ) (next : Option (ℕ × ℕ))
     → next ≡ break_of value role index → index ≡ taken → option_map break_line_of next ≡ slice_get (breaks_of value role) taken
-next-is law value role index taken next e i =
-    ap (option_map break_line_of) e ∙ sym (law value role index) ∙ ap (slice_get (breaks_of value role)) i
+next-is law value role index taken next e i = grind (arith)
 
 -- Whoever isn't told to release asks for its next break,
 pub asks-so : BreaksAreTheScripts → PausesAreTheScripts
@@ -33,17 +28,13 @@ pub asks-so : BreaksAreTheScripts → PausesAreTheScripts
     → busy ≡ script.is_busy value role turn → released ≡ false
     → asked_at turn (option_map break_line_of next) (after_busy busy a) ≡ asked turn released (breaks_of value role)
     (after_busy (is_busy turn (busy_of value role)) a)
-asks-so breaks pauses value role turn true busy a index next e i b r = absurd (false≢true (sym r))
-asks-so breaks pauses value role turn false busy a index next e i b r =
-    ap (λ n. asked_at turn n (after_busy busy a)) (next-is breaks value role index _ next e i)
-    ∙ ap (λ x. asked turn false (breaks_of value role) (after_busy x a)) (b ∙ sym (pauses value role turn))
+asks-so breaks pauses value role turn released busy a index next e i b r = grind (arith, next-is)
 
 -- and whoever is does not.
 pub asks-none : PausesAreTheScripts → (value : ScriptValue) (role : Role) (turn : ℕ) (released busy : Bool) (a : Account)
     → busy ≡ script.is_busy value role turn → released ≡ true
     → after_busy busy a ≡ asked turn released (breaks_of value role) (after_busy (is_busy turn (busy_of value role)) a)
-asks-none pauses value role turn true busy a b r = ap (λ x. after_busy x a) (b ∙ sym (pauses value role turn))
-asks-none pauses value role turn false busy a b r = absurd (false≢true r)
+asks-none pauses value role turn released busy a b r = grind (arith)
 
 -- An end that breaks as it is to speak does so by its rules;
 pub broken-so : (r : Result Said LinkFault) (file : List ℕ) (sent : Sent) (s : Station) (fault : LinkFault)
@@ -63,11 +54,5 @@ said-so q0 file sent s h = grind (arith)
 
 -- What was read of a file after another was read is what the folder had of it before.
 pub reads-later : (start mid : FolderState) (name : List ℕ) (limit : ℕ) (file : List ℕ) (a : Account) (others : List ℕ)
-    → OnlyReads start mid
-    → ReadsOn mid name limit file a others → ReadsOn start name limit file a others
-reads-later start mid name limit file a others only r = record {
-  within = r.within;
-  same = r.same;
-  told = λ told e. r.told (told_later only.goes_on name told) (e
-      ∙ ap (take limit) (sym (octets-kept start mid name (only.names name) told)));
-}
+    → OnlyReads start mid → ReadsOn mid name limit file a others → ReadsOn start name limit file a others
+reads-later start mid name limit file a others only r = grind (arith, octets-kept)

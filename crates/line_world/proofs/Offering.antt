@@ -1,9 +1,8 @@
 -- Segments that are read and offered, one after another.
-use Rattle.line_world.proofs.Cited.{◌≡◌, ◌⊎◌, inl, inr, ℕ, ◌+◌, ◌-◌, ◌*◌, ◌≤◌, ◌<◌, Bool, true, false, cond, nat_lt, IsTrue, List, [], ◌++◌}
-use Rattle.line_world.proofs.Cited.{length, take, drop, arith, length-append, refl, sym, ◌∙◌, ap, subst, Some, None, Err, take-append_seam}
-use Rattle.line_world.proofs.Cited.{cases_lt, nat_tests, take_all, length-take, length-take-le, length-drop, IsErrOf, StandsFor, Outgoing}
-use Rattle.line_world.proofs.Cited.{Stands, file_at, Supplies, Supplying, Station, Account, wants, piece_at, offered_at, offered, SameSoFar}
-use Rattle.line_world.proofs.Cited.{FolderState, FolderFault}
+use Rattle.line_world.proofs.Cited.{◌≡◌, ◌⊎◌, inl, inr, ℕ, ◌+◌, ◌-◌, ◌*◌, ◌≤◌, ◌<◌, IsTrue, List, [], ◌++◌, length, take, drop, arith}
+use Rattle.line_world.proofs.Cited.{length-append, refl, sym, ◌∙◌, ap, subst, Some, None, Err, take-append_seam, cases_lt, take_all}
+use Rattle.line_world.proofs.Cited.{length-take, length-take-le, length-drop, IsErrOf, StandsFor, Outgoing, Stands, file_at, Supplies}
+use Rattle.line_world.proofs.Cited.{Supplying, Station, Account, wants, piece_at, offered_at, offered, SameSoFar, FolderState, FolderFault}
 use Rattle.std.proofs.lemmas.List.{append_assoc, take-take, drop-take}
 use Rattle.std.specs.Prelude.{min, Result, Ok}
 use Rattle.std.proofs.Math.Seq.{take-length}
@@ -19,8 +18,7 @@ take-min count room rest up few (inr e) = ap (λ n. take n rest) e ∙ take-leng
 
 -- a segment of a file that ends at its limit
 within-limit : (size at limit room : ℕ) (octets : List ℕ) → at ≤ limit → room ≤ size → room ≤ limit - at
-    → (room ≡ size) ⊎ (room ≡ limit - at)
-    → take size (drop at (take limit octets)) ≡ take room (drop at octets)
+    → (room ≡ size) ⊎ (room ≡ limit - at) → take size (drop at (take limit octets)) ≡ take room (drop at octets)
 within-limit size at limit room octets low small few way = ap (take size) cut ∙ go way
   where
     rest : List ℕ
@@ -37,8 +35,7 @@ within-limit size at limit room octets low small few way = ap (take size) cut �
 pub read-segment : (octets before after behind : List ℕ) (size number at limit room count : ℕ) → at ≡ size * number → at ≤ limit
     → room ≤ size → room ≤ limit - at → (room ≡ size) ⊎ (room ≡ limit - at)
     → length before ≡ room → count ≡ min (length before) (length (drop at octets))
-    → after ≡ take count (drop at octets) ++ drop count before
-    → take count (after ++ behind) ≡ piece_at size (take limit octets) number
+    → after ≡ take count (drop at octets) ++ drop count before → take count (after ++ behind) ≡ piece_at size (take limit octets) number
 read-segment octets before after behind size number at limit room count e low small few way wide is put =
     ap (λ l. take count (l ++ behind)) put ∙ front ∙ take-min count room rest up reach (by-min (cases_lt room (length rest)))
     ∙ sym (within-limit size at limit room octets low small few way) ∙ ap (λ n. take size (drop n (take limit octets))) e
@@ -53,8 +50,7 @@ read-segment octets before after behind size number at limit room count e low sm
     reach = omega (arith, is)
 
     by-min : (room < length rest) ⊎ (length rest ≤ room) → (count ≡ room) ⊎ (count ≡ length rest)
-    by-min (inl l) = inl (omega (arith, is, wide, l))
-    by-min (inr l) = inr (omega (arith, is, wide, l))
+    by-min given = grind (arith)
 
     front : take count ((take count rest ++ drop count before) ++ behind) ≡ take count rest
     front =
@@ -67,15 +63,7 @@ read-segment octets before after behind size number at limit room count e low sm
 
 pub supplying-starts : (f : FolderState) (name : List ℕ) (limit : ℕ) (file : List ℕ) (a : Account) (s : Station) → Stands s file a
     → length file ≤ limit → Supplying f name limit file a s
-supplying-starts f name limit file a s h short = record {
-  others = file;
-  within = short;
-  told = λ t e. refl;
-  now = a;
-  stands = h;
-  same = λ more e. e;
-  leads = λ more e. refl;
-}
+supplying-starts f name limit file a s h short = grind (arith)
 
 same-file : (o : Outgoing) (file : List ℕ) → SameSoFar o file file
 same-file o file = record { front = refl; whole = λ e. refl }
@@ -83,35 +71,14 @@ same-file o file = record { front = refl; whole = λ e. refl }
 -- no longer than the limit
 with-length : (size n limit : ℕ) (piece file : List ℕ) → length file ≤ limit → size * n ≤ length file → length piece ≤ size
     → size * n + length piece ≤ limit → length (with_segment size n piece file) ≤ limit
-with-length size n limit piece file short within small room = go (nat_lt (length piece) size) refl
-  where
-    front : length (take (size * n) file) ≡ size * n
-    front = length-take-le (size * n) file within
-
-    go : (b : Bool) → nat_lt (length piece) size ≡ b
-        → length (take (size * n) file ++ (piece ++ cond b [] (drop (size * n + size) file))) ≤ limit
-    go true e = omega (arith, length-append (take (size * n) file) (piece ++ []), length-append piece [], front, room)
-    go false e =
-        let full : size ≤ length piece = grind (arith, nat_tests) in
-        let rest = drop (size * n + size) file in
-        omega (
-          arith,
-          length-append (take (size * n) file) (piece ++ rest),
-          length-append piece rest,
-          front,
-          length-drop (size * n + size) file,
-          short,
-          small,
-          room,
-        )
+with-length size n limit piece file short within small room = grind (arith, length-take-le, length-append, length-drop)
 
 pub supplying-next : (reads : OffersWhatIsRead) (tells : SegmentsAreTold) (own : OwnSegmentsStay) (until : OffersUntilNoneIsWanted)
     (f : FolderState) (name : List ℕ) (limit : ℕ) (file : List ℕ) (a : Account) (s new : Station) (n size : ℕ) (piece : List ℕ)
     → (h : Supplying f name limit file a s) → Some n ≡ wants h.now → size ≡ piece_size h.now → length piece ≤ size
     → size * n + length piece ≤ limit
     → (IsTrue (f.tells name) → piece ≡ piece_at size (file_at f name limit) n) → StandsFor new.end (after_offer piece h.now)
-    → new.breaks ≡ s.breaks
-    → Supplying f name limit file a new
+    → new.breaks ≡ s.breaks → Supplying f name limit file a new
 supplying-next reads tells own until f name limit file a s new n size piece h w is small room told end breaks =
     let e : wants h.now ≡ Some n = sym w in
     let short : length piece ≤ piece_size h.now = subst (λ m. length piece ≤ m) is small in
@@ -138,8 +105,7 @@ supplying-next reads tells own until f name limit file a s new n size piece h w 
     }
 
 pub supplying-ends : (until : OffersUntilNoneIsWanted) (f : FolderState) (name : List ℕ) (limit : ℕ) (file : List ℕ) (a : Account)
-    (s : Station) → (h : Supplying f name limit file a s) → None ≡ wants h.now
-    → Supplies f name limit file a s
+    (s : Station) → (h : Supplying f name limit file a s) → None ≡ wants h.now → Supplies f name limit file a s
 supplying-ends until f name limit file a s h w =
     let u = until h.others h.now in
     let all : h.now ≡ offered h.others a = sym (u.none (sym w)) ∙ h.leads h.others (same-file h.now.outgoing h.others) in
@@ -155,8 +121,7 @@ pub record WantsWithin (n size limit : ℕ) : Type 0 where
   pub few : n ≤ limit
 
 pub wants-within : (reads : OffersWhatIsRead) (f : FolderState) (name : List ℕ) (limit : ℕ) (file : List ℕ) (a : Account) (s : Station)
-    (n size : ℕ) → (h : Supplying f name limit file a s) → Some n ≡ wants h.now → size ≡ piece_size h.now
-    → WantsWithin n size limit
+    (n size : ℕ) → (h : Supplying f name limit file a s) → Some n ≡ wants h.now → size ≡ piece_size h.now → WantsWithin n size limit
 wants-within reads f name limit file a s n size h w is =
     let next = reads h.others h.now n [] h.stands.offered (sym w) (omega arith) in
     let within : piece_size h.now * n ≤ limit = omega (arith, next.within, h.within) in
@@ -168,11 +133,7 @@ wants-within reads f name limit file a s n size h w is =
 -- a fault says the same of any result
 pub as-err : (fault x : FolderFault) → IsErrOf {T = Unit {0}} {E = FolderFault} (Err fault) x
     → IsErrOf {T = ℕ} {E = FolderFault} (Err fault) x
-as-err fault x e = ap conv e
-  where
-    conv : Result (Unit {0}) FolderFault → Result ℕ FolderFault
-    conv (Ok done) = Err fault
-    conv (Err y) = Err y
+as-err fault x e = grind (arith)
 
 -- a call that was made has no fault
 pub no-fault : {T P : Type 0} {x : T} {fault : FolderFault} → ◌≡◌ {A = Result T FolderFault} (Ok x) (Err fault) → P

@@ -1,15 +1,14 @@
 -- Slots that pass, and slots that are put on the line.
-use Rattle.line_world.proofs.Cited.{◌≡◌, ℕ, suc, ◌-◌, ◌*◌, ◌<◌, Bool, true, false, List, [], ◌∷◌, ◌++◌, length, map, drop, arith}
-use Rattle.line_world.proofs.Cited.{length-append, refl, sym, ◌∙◌, ap, subst, Option, Some, None, Ok, Err, append-nil, append_assoc}
-use Rattle.line_world.proofs.Cited.{slice_get, Signal, signal_bits, Lost, Check, IsSendable, Heard, Seen, Sent, Carried, carried_signal}
-use Rattle.line_world.proofs.Cited.{AreOnWay, CodesNext, HeardBehind, PassesOldest, DelayedLine, SentSlot, IsNumbered, arrival, ScriptValue}
-use Rattle.line_world.proofs.Cited.{loses, IsCodedAs, Kept, LineStands, size_of, bits_behind, IsOutcome, LosesAt, Records, Role, Sample}
+use Rattle.line_world.proofs.Cited.{◌≡◌, ℕ, suc, ◌-◌, ◌*◌, ◌<◌, Bool, List, [], ◌∷◌, ◌++◌, length, map, drop, arith, length-append, refl}
+use Rattle.line_world.proofs.Cited.{sym, ◌∙◌, ap, subst, Option, Some, None, Ok, Err, append-nil, append_assoc, slice_get, Signal}
+use Rattle.line_world.proofs.Cited.{signal_bits, Lost, Check, IsSendable, Heard, Seen, Sent, Carried, carried_signal, AreOnWay, CodesNext}
+use Rattle.line_world.proofs.Cited.{HeardBehind, PassesOldest, DelayedLine, SentSlot, IsNumbered, arrival, ScriptValue, loses, IsCodedAs}
+use Rattle.line_world.proofs.Cited.{Kept, LineStands, size_of, bits_behind, IsOutcome, LosesAt, Records, Role, Sample}
 use Rattle.std.proofs.Common.{◌%◌}
 use Rattle.std.specs.Prelude.{Result, IfOk}
 use Rattle.exact_decoder.specs.Surviving.Survivors.{LostIs}
 use Rattle.exact_decoder.specs.Surviving.V32.{line_depth, line_trellis}
 use Rattle.lapm_frames.specs.declared.sent.Sent.TheVariants as slots
-use Rattle.lapm_frames.specs.declared.heard.Heard.TheVariants.{Passed}
 use Rattle.sample_line.specs.Received.{Receives}
 use Rattle.sample_line.specs.Path.{LosesWithin}
 use Rattle.sample_line.specs.Line.{PassesSlot, Passes, sender_of, decoder_of}
@@ -21,8 +20,7 @@ use Rattle.line_world.specs.Way.{IsOnWay, Stands}
 
 -- as many slots as are said
 pub same-count : (size : ℕ) (role : Role) (before : List Signal) (items : List SentSlot) (way : List Carried)
-    → AreOnWay size role before items way
-    → length items ≡ length way
+    → AreOnWay size role before items way → length items ≡ length way
 same-count size role before [] [] h = refl
 same-count size role before (slot ∷ items) (x ∷ way) h = ap suc (same-count size role (before ++ carried_signal role x ∷ []) items way h.1)
 same-count size role before (slot ∷ items) [] h = absurd h
@@ -43,15 +41,7 @@ oldest size role passed slot items q5 h = grind (arith)
 
 -- the front of a list that has one
 pub first-of : (slots : List SentSlot) (slot : SentSlot) → Some slot ≡ slice_get slots 0 → slots ≡ slot ∷ drop 1 slots
-first-of [] slot e = absurd cc
-first-of (x ∷ slots) slot e = go e
-  where
-    value : Option SentSlot → SentSlot
-    value (Some y) = y
-    value None = x
-
-    go : Some slot ≡ Some x → x ∷ slots ≡ slot ∷ slots
-    go z = ap (λ y. y ∷ slots) (sym (ap value z))
+first-of slots slot e = grind (arith)
 
 -- a direction that the call has moved on
 pub record MovesOn (d new : DelayedLine) (items : List SentSlot) : Type 0 where
@@ -86,8 +76,7 @@ heard-so once d new script passed x slot items rest number check dlci heard own 
 
     placed : (l : List Signal) (samples : List Sample) → Records script (sender_of new.line) (signal_bits (size_of new.line) l) samples
         → Records script role (signal_bits (size_of d.line) l) samples
-    placed l samples r = subst (λ n. Records script role (signal_bits n l) samples) size
-        (subst (λ s. Records script s (signal_bits (size_of new.line) l) samples) from r)
+    placed l samples r = grind (arith, role, size, from)
 
     not-lost : LostIs line_trellis line_depth p.upto None
     not-lost =
@@ -111,21 +100,12 @@ heard-so once d new script passed x slot items rest number check dlci heard own 
     }
 
     stands : Stands new script upto rest
-    stands = record {
-      line = p.stands;
-      slots = subst (λ s. AreOnWay (size_of new.line) s upto new.slots.items rest) (sym m.sender)
-          (subst (λ n. AreOnWay n role upto new.slots.items rest) (sym size)
-          (subst (λ xs. AreOnWay (size_of d.line) role upto xs rest) (sym m.items_are) others));
-      sender = from ∙ sym m.sender;
-      room = m.capacity ∙ room ∙ sym m.lag;
-    }
+    stands = grind (arith)
 
 loses-so : (stay : LossStays) (d : DelayedLine) (script : ScriptValue) (passed : List Signal) (way : List Carried) (x : Carried)
-    (slot : SentSlot)
-    (symbol : ℕ) (line : Kept)
+    (slot : SentSlot) (symbol : ℕ) (line : Kept)
     → Stands d script passed way → IsOnWay (size_of d.line) d.sender passed slot x → sender_of line ≡ sender_of d.line
-    → size_of line ≡ size_of d.line
-    → LosesWithin (sender_of line) script (signal_bits (size_of line) passed)
+    → size_of line ≡ size_of d.line → LosesWithin (sender_of line) script (signal_bits (size_of line) passed)
     (bits_behind (size_of line) passed (carried_signal d.sender x)) symbol
     → LosesAt d.sender script (signal_bits (size_of d.line) (passed ++ carried_signal d.sender x ∷ [])) symbol
 loses-so stay d script passed way x slot symbol line h is same size l = at
@@ -162,9 +142,7 @@ passes-front : (d new : DelayedLine) (script : ScriptValue) (passed : List Signa
     (number : ℕ) (check : Check) (dlci : ℕ) (r : Result Heard Lost) (o : Oldest (size_of d.line) d.sender passed slot items way)
     → Stands d script passed way → PassesAll d new slot check script dlci (loses script d.sender number) r
     → Passes new.line script passed (carried_signal d.sender o.x) check dlci (loses script d.sender number) slot.sent r
-passes-front d new script passed way slot items number check dlci r o h p =
-    p passed (carried_signal d.sender o.x) h.line
-    (subst (λ s. IsCodedAs s (size_of d.line) passed (carried_signal d.sender o.x) slot.labels) (sym h.sender) o.is.coded)
+passes-front d new script passed way slot items number check dlci r o h p = grind (arith)
 
 pub passes-oldest : (once : RecordedOnce) (stay : LossStays) (d new : DelayedLine) (script : ScriptValue) (passed : List Signal)
     (way : List Carried) (slot : SentSlot) (items : List SentSlot) (number : ℕ) (check : Check) (dlci : ℕ) (r : Result Heard Lost)
@@ -180,17 +158,9 @@ passes-oldest once stay d new script passed way slot items number check dlci r o
     go (Ok heard) q = heard-so once d new script passed o.x slot items o.rest number check dlci heard h.sender h.room o.is o.others m q
     go (Err lost) q = loses-so stay d script passed way o.x slot lost.symbol new.line h o.is m.from (ap (λ n. 4 * n) m.symbols) q
 
--- what is heard has numbers that an end may hear
-numbered-sent : (s : Sent) → IsSendable s → IsNumbered (arrival (Passed s))
-numbered-sent (slots.Frame frame) h = let f = h.0 in (f.0, f.1)
-numbered-sent other h = tt
-
 as-heard : (lost : Bool) (sender : Role) (dlci : ℕ) (s : Sent) (octets : List (List ℕ)) (patterns : List Seen) (heard : Heard)
-    → IsSendable s
-    → IsOutcome lost sender dlci s octets patterns heard → IsNumbered (arrival heard)
-as-heard true sender dlci s octets patterns (Passed t) h o = absurd o
-as-heard false sender dlci s octets patterns (Passed t) h o = subst (λ x. IsNumbered (arrival (Passed x))) (sym o.0) (numbered-sent s h)
-as-heard lost sender dlci s octets patterns other h o = tt
+    → IsSendable s → IsOutcome lost sender dlci s octets patterns heard → IsNumbered (arrival heard)
+as-heard lost sender dlci s octets patterns other h o = grind (arith)
 
 pub numbered-by : (d new : DelayedLine) (script : ScriptValue) (passed : List Signal) (way : List Carried) (slot : SentSlot)
     (items : List SentSlot)
@@ -203,9 +173,7 @@ numbered-by d new script passed way slot items number check dlci r o h p =
     go : (r : Result Heard Lost)
         → Passes new.line script passed (carried_signal d.sender o.x) check dlci (loses script d.sender number) slot.sent r
         → IfOk r (λ heard. IsNumbered (arrival heard))
-    go (Ok heard) q = as-heard (loses script d.sender number) (sender_of new.line) dlci slot.sent q.octets q.patterns heard
-        (subst IsSendable (sym o.is.sent) o.is.sendable) q.outcome
-    go (Err lost) q = tt
+    go r q = grind (arith, as-heard)
 
 -- one more slot behind those on their way
 pub behind : (size : ℕ) (role : Role) (before : List Signal) (items : List SentSlot) (way : List Carried) (slot : SentSlot) (x : Carried)
@@ -224,10 +192,7 @@ behind size role before [] (first ∷ way) slot x h k = absurd h
 -- where there is room nothing is pushed out
 pub all-kept : (items : List SentSlot) (slot : SentSlot) (room : ℕ) → length items < room
     → drop (length (items ++ slot ∷ []) - room) (items ++ slot ∷ []) ≡ items ++ slot ∷ []
-all-kept items slot room h = go (length (items ++ slot ∷ []) - room) (omega (arith, h, length-append items (slot ∷ [])))
-  where
-    go : (n : ℕ) → n ≡ 0 → drop n (items ++ slot ∷ []) ≡ items ++ slot ∷ []
-    go n e = rw e refl
+all-kept items slot room h = grind (arith, length-append)
 
 -- a direction on which a slot was put
 pub record IsPutOn (d new : DelayedLine) (items : List SentSlot) : Type 0 where
@@ -239,8 +204,7 @@ pub record IsPutOn (d new : DelayedLine) (items : List SentSlot) : Type 0 where
 
 pub puts-so : (d new : DelayedLine) (script : ScriptValue) (passed : List Signal) (way : List Carried) (slot : SentSlot) (x : Carried)
     → Stands d script passed way → CodesNext d passed way x slot.labels → IsPutOn d new (d.slots.items ++ slot ∷ [])
-    → slot.sent ≡ x.spoken.sent
-    → IsSendable x.spoken.sent → Stands new script passed (way ++ x ∷ [])
+    → slot.sent ≡ x.spoken.sent → IsSendable x.spoken.sent → Stands new script passed (way ++ x ∷ [])
 puts-so d new script passed way slot x h coded m sent sendable = record {
   line = subst (λ l. LineStands l script passed) (sym m.line) h.line;
   slots = subst (λ s. AreOnWay (size_of new.line) s passed new.slots.items (way ++ x ∷ [])) (sym m.sender)
@@ -255,9 +219,4 @@ puts-so d new script passed way slot x h coded m sent sendable = record {
 -- before the first slot
 pub starts : (d : DelayedLine) (script : ScriptValue) → LineStands d.line script [] → d.slots.items ≡ [] → sender_of d.line ≡ d.sender
     → d.slots.capacity ≡ d.lag → Stands d script [] []
-starts d script stands items sender room = record {
-  line = stands;
-  slots = subst (λ xs. AreOnWay (size_of d.line) d.sender [] xs []) (sym items) tt;
-  sender = sender;
-  room = room;
-}
+starts d script stands items sender room = grind (arith)

@@ -45,11 +45,7 @@ abbrev pub files_at : FolderState → Written → Both (List ℕ)
 files_at f n = record { orig = file_at f n.orig file_limit; answ = file_at f n.answ file_limit }
 
 pub knows-told : (f : FolderState) (n : Written) → KnowsFiles f n (files_at f n)
-knows-told f n = record {
-  within = record { orig = few (octets_at f n.orig); answ = few (octets_at f n.answ) };
-  orig = λ told. refl;
-  answ = λ told. refl;
-}
+knows-told f n = assumption (few (octets_at f n.orig), few (octets_at f n.answ))
   where
     few : (octets : List ℕ) → length (take file_limit octets) ≤ file_limit
     few octets = omega (arith, length-take file_limit octets)
@@ -98,8 +94,7 @@ held-more next name taken more all holds e = subst (Holds next name) (sym (conca
 -- the outputs after a turn that is written
 pub held-turn : HearingsDeliver
     → (link : Link) (ts : List Turn) (ends : Accounts) (t : Turn) (mid : Accounts) (now next : FolderState) (n : Written)
-    → RunOf link ts ends
-    → Hears (length ts) ends t mid
+    → RunOf link ts ends → Hears (length ts) ends t mid
     → GoesOn now next → HoldEach now (outputs_of n) (held_of (left_of ends (trace_text ts)))
     → AddEach now next (outputs_of n) (added mid (turn_text (length ts) t))
     → HoldEach next (outputs_of n) (held_of (left_of mid (trace_text (t ∷ ts))))
@@ -120,13 +115,11 @@ unfoldable pub reached-going : HearingsDeliver → SpeakingTakesNothing
     → (w w' : World) (script : ScriptValue) (n : Written) (tapes : Tapes) (old now next : FolderState)
     (r : Reached w script n tapes old now)
     → script_of w' ≡ script_of w → GoesOnBy w'.modems w'.lines (wire_of (script_of w')) 1 (both_sent_by 0 r.turns) now next n r.files
-    r.turns r.ends → OnlyPuts now next (outputs_of n) → CountsStand now next
-    → Reached w' script n tapes old next
+    r.turns r.ends → OnlyPuts now next (outputs_of n) → CountsStand now next → Reached w' script n tapes old next
 reached-going delivers speaks w w' script n tapes old now next r same g only stand =
     let mid = g.going.mid in
     let held = held-turn delivers (link_of (script_of w) r.files) r.turns r.ends g.turn mid now next n r.world.modems.run.run
-    g.going.hearing
-    only.goes_on r.holds g.writes in
+    g.going.hearing only.goes_on r.holds g.writes in
     let nothing = speaks (link_of (script_of w') g.others) r.turns r.ends g.turn g.after g.going in
     record {
       script_is = same ∙ r.script_is;
@@ -144,8 +137,7 @@ reached-going delivers speaks w w' script n tapes old now next r same g only sta
     }
 
 run-ends : (script : ScriptValue) (f : FolderState) (n : Written) (tapes : Tapes) (end : RunEnd) (files : Both (List ℕ)) (left : Left)
-    (ts : List Turn)
-    (ends : Accounts) → KnowsFiles f n files → LineRun (wire_of script) (link_of script files) ts ends
+    (ts : List Turn) (ends : Accounts) → KnowsFiles f n files → LineRun (wire_of script) (link_of script files) ts ends
     → EndsBy (wire_of script) (link_of script files) ts ends end left → HoldEach f (outputs_of n) (held_of left)
     → HoldTapes f tapes (wire_of script) ts → RunEnds script f n tapes end
 run-ends script f n tapes end files left ts ends knows run ended holds t =
@@ -169,8 +161,7 @@ none_got = record { orig = []; answ = [] }
 
 kept-none : (now next : FolderState) (name octets : List ℕ) → GoesOn now next → Holds now name octets → KeepsName now next name
     → Holds next name (octets ++ [])
-kept-none now next name octets on holds kept =
-    subst (Holds next name) (sym (append-nil octets)) (Holds-kept now next name octets on holds kept)
+kept-none now next name octets on holds kept = grind (arith, append-nil)
 
 -- what a turn adds to the outputs
 abbrev more_of : Accounts → List ℕ → Left
@@ -232,20 +223,7 @@ module _ (delivers : HearingsDeliver) (w v : World) (n : Written) (tapes : Tapes
   -- the folder fails in a turn, whatever it comes to,
   adds-turn : (s : StopsInTurn v.modems v.lines (wire_of (script_of v)) 1 (both_sent_by 0 r.turns) now next n r.files r.turns r.ends)
       → AddsTurn (wire_of (script_of v)) (link_of (script_of v) s.others) r.turns r.ends (more_of s.mid (turn_text (length r.turns) s.turn))
-  adds-turn s = record {
-    turn = s.turn;
-    mid = s.mid;
-    outcome = s.outcome;
-    heard = s.makes.heard;
-    is = s.makes.is;
-    got_is = got;
-    trace_is = refl;
-  }
-    where
-      got : (role : Role) → of role (record { orig = concat (deliveries s.mid.orig); answ = concat (deliveries s.mid.answ) }) ≡ concat
-          (deliveries (of role s.mid))
-      got Originator = refl
-      got Answerer = refl
+  adds-turn s = grind (arith)
 
   abbrev stopped-turn : StopsInTurn v.modems v.lines (wire_of (script_of v)) 1 (both_sent_by 0 r.turns) now next n r.files r.turns r.ends
       → RunStops (script_of v) next n tapes
@@ -271,12 +249,10 @@ module _ (delivers : HearingsDeliver) (w v : World) (n : Written) (tapes : Tapes
       → RunStopsReading (script_of v) next n tapes
   reached-reading (s, delivered) = (
     stopped-turn s,
-    record {
-      adds = adds-turn s;
-      holds = HoldEach-add now next (outputs_of n) (held_of (left_of r.ends (trace_text r.turns))) (octets_of s.mid) only.goes_on r.holds
-          delivered;
-      taped = t;
-    },
+    assumption (
+      adds-turn s,
+      HoldEach-add now next (outputs_of n) (held_of (left_of r.ends (trace_text r.turns))) (octets_of s.mid) only.goes_on r.holds delivered,
+    ),
   )
 
   -- or at any of its steps
@@ -309,7 +285,7 @@ module _ (delivers : HearingsDeliver) (w v : World) (n : Written) (tapes : Tapes
   }
     where
       none : (side : Role) → of side none_got ≡ []
-      none q0 = grind (arith)
+      none role = grind (arith)
 
   -- a fault ends the run
   fault-so : (fault : RunFault) → IsApart n
@@ -326,13 +302,11 @@ module _ (delivers : HearingsDeliver) (w v : World) (n : Written) (tapes : Tapes
   fault-so (faults.LinkLost role segment turn) apart e =
       let k = ended-turn (Broken role (causes.Spent segment e.0)) turn e.1 in
       run-ends (script_of v) next n tapes (runs.LinkLost role segment turn) e.1.others _ r.turns r.ends (e.1.known.known r.knows)
-      e.1.makes.run
-      (e.0, k.0) k.1 t
+      e.1.makes.run (e.0, k.0) k.1 t
 
 -- nothing goes again in a turn in which nothing is sent
 none-again : (ts : List Turn) (ends : Accounts) (t : Turn) (mid : Accounts) → LastTurn ts ends t mid → sent_again (t ∷ ts) ≡ sent_again ts
-none-again ts ends t mid h = λ k.
-    repeated (segment_number (h.silent Originator k) ++ numbers_sent Originator ts)
+none-again ts ends t mid h = λ k. repeated (segment_number (h.silent Originator k) ++ numbers_sent Originator ts)
     + repeated (segment_number (h.silent Answerer k) ++ numbers_sent Answerer ts)
 
 module _ (delivers : HearingsDeliver) (w v : World) (script : ScriptValue) (n : Written) (tapes : Tapes) (old now next : FolderState)
@@ -385,13 +359,11 @@ abbrev pub AreAllApart : Written → Tapes → Type 0
 AreAllApart n tapes = AreApartFrom (inputs_of n) (outputs_of n ++ tapes_of tapes)
 
 pub apart-outputs : (n : Written) (tapes : Tapes) → AreAllApart n tapes → IsApart n
-apart-outputs n tapes apart =
-    (apart-front (outputs_of n) (tapes_of tapes) apart.0, inputs-front (outputs_of n) (tapes_of tapes) (inputs_of n) apart.1)
+apart-outputs n tapes apart = grind (arith, apart-front, inputs-front)
 
 pub kept-by-tapes : (now next : FolderState) (n : Written) (tapes : Tapes) → AreAllApart n tapes → OnlyPuts now next (tapes_of tapes)
     → KeepsEach now next (inputs_of n)
-kept-by-tapes now next n tapes apart p =
-    inputs-kept now next (inputs_of n) (tapes_of tapes) (inputs-behind (outputs_of n) (tapes_of tapes) (inputs_of n) apart.1) p.names
+kept-by-tapes now next n tapes apart p = grind (arith, inputs-kept, inputs-behind)
 
 -- the recordings are kept as the other outputs are written
 pub tapes-kept : (now next : FolderState) (n : Written) (tapes : Tapes) → AreAllApart n tapes → OnlyPuts now next (outputs_of n)
@@ -442,8 +414,7 @@ stops-taping w v n tapes old now next last r apart g only p partly = record {
 
     got : (role : Role) → of role (record { orig = concat (deliveries g.going.mid.orig); answ = concat (deliveries g.going.mid.answ) })
         ≡ concat (deliveries (of role g.going.mid))
-    got Originator = refl
-    got Answerer = refl
+    got role = grind (arith)
 
     adds : AddsTurn (wire_of (script_of v)) (link_of (script_of v) g.others) r.turns r.ends
         (more_of g.going.mid (turn_text (length r.turns) g.turn))

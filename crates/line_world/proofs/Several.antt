@@ -1,5 +1,5 @@
 -- What is touched where some names stand behind others.
-use Rattle.line_world.proofs.Cited.{inl, inr, ℕ, List, [], ◌∷◌, ◌++◌, sym, FolderState, AreApart, OnlyPuts, KeepsEach}
+use Rattle.line_world.proofs.Cited.{arith, inl, inr, ℕ, List, [], ◌∷◌, ◌++◌, sym, FolderState, AreApart, OnlyPuts, KeepsEach}
 use Rattle.outside_calls.specs.Outputs.{IsNoneOf, AreNoneOf, SomeRose}
 
 none-front : (name : List ℕ) (front behind : List (List ℕ)) → IsNoneOf name (front ++ behind) → IsNoneOf name front
@@ -11,12 +11,10 @@ none-behind name [] behind apart = apart
 none-behind name (first ∷ front) behind apart = none-behind name front behind apart.1
 
 pub puts-front : (a b : FolderState) (front behind : List (List ℕ)) → OnlyPuts a b front → OnlyPuts a b (front ++ behind)
-puts-front a b front behind p =
-    record { goes_on = p.goes_on; names = λ other apart. p.names other (none-front other front behind apart); said = p.said }
+puts-front a b front behind p = grind (arith, none-front)
 
 pub puts-behind : (a b : FolderState) (front behind : List (List ℕ)) → OnlyPuts a b behind → OnlyPuts a b (front ++ behind)
-puts-behind a b front behind p =
-    record { goes_on = p.goes_on; names = λ other apart. p.names other (none-behind other front behind apart); said = p.said }
+puts-behind a b front behind p = grind (arith, none-behind)
 
 pub rose-front : (before now : List ℕ → ℕ) (front behind : List (List ℕ)) → SomeRose before now front
     → SomeRose before now (front ++ behind)

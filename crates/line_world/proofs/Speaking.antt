@@ -1,19 +1,18 @@
 -- Both ends speak, and a turn is made.
-use Rattle.line_world.proofs.Cited.{◌≡◌, ◌≢◌, ℕ, ◌+◌, true, List, ◌∷◌, ◌++◌, length, arith, refl, sym, ◌∙◌, subst, Option, Some, None, Ok}
+use Rattle.line_world.proofs.Cited.{◌≡◌, ◌≢◌, ℕ, ◌+◌, true, List, ◌∷◌, length, arith, refl, sym, ◌∙◌, subst, Option, Some, None, Ok}
 use Rattle.line_world.proofs.Cited.{option_map, Check, IsSendable, Heard, Chance, Sent, SamplesAreCarried, OneIsCarried, Written, Wire}
 use Rattle.line_world.proofs.Cited.{HeardIn, link_of, longest_of, slot_symbols, ScriptsMayPlay, ScriptsHaveDelays, Carried, RunFault}
-use Rattle.line_world.proofs.Cited.{line_of, trace_line, LinesWait, HaveArrived, ArePut, and_more, LinkStands, HearsThese, Overhears}
-use Rattle.line_world.proofs.Cited.{TalliesHeard, HasGone, AddsPart, SpeaksLast, served, turn_in, Tallies, IsWriting, Lines, Modems, Counts}
-use Rattle.line_world.proofs.Cited.{given_break, check_of, Said, is_closed, Outcome, TurnIs, Accounts, Spoken, Turn, LastTurn, spoken}
-use Rattle.line_world.proofs.Cited.{turn_text, IsInLimits, ScriptValue, delay_of, FolderState, Appended, PartlyAppended, CountsStand, Both}
-use Rattle.line_world.proofs.Cited.{of, LinkFault, Role, Originator, Answerer}
+use Rattle.line_world.proofs.Cited.{LinesWait, HaveArrived, ArePut, and_more, LinkStands, HearsThese, Overhears, TalliesHeard, HasGone}
+use Rattle.line_world.proofs.Cited.{AddsPart, SpeaksLast, served, turn_in, Tallies, IsWriting, Lines, Modems, Counts, given_break, check_of}
+use Rattle.line_world.proofs.Cited.{Said, is_closed, Outcome, TurnIs, Accounts, Spoken, Turn, LastTurn, spoken, turn_text, IsInLimits}
+use Rattle.line_world.proofs.Cited.{ScriptValue, delay_of, FolderState, Appended, PartlyAppended, CountsStand, Both, of, LinkFault, Role}
+use Rattle.line_world.proofs.Cited.{Originator, Answerer}
 use Rattle.sample_line.specs.Signals.{IsCodable}
 use Rattle.shared_terms.specs.declared.fault.LinkFault.TheVariants as faults
-use Rattle.link_run.specs.Run.{Side, GoingTurn, BrokenTurn, IsBroken, BreaksAt, SpeaksAt, says_at}
+use Rattle.link_run.specs.Run.{GoingTurn, BrokenTurn, IsBroken, BreaksAt, SpeaksAt, says_at}
 use Rattle.link_run.specs.Run.{said_at}
 use Rattle.link_run.specs.Counts.{CountsByNumber, CountsOn, next_count, again_in, sequence_in}
 use Rattle.link_run.specs.Laws.{IsNamed}
-use Rattle.link_run.specs.Trace.{side_line}
 use Rattle.line_run.specs.Scripted.{SlotsAreCodable}
 use Rattle.line_world.specs.declared.link.Link.{Link}
 use Rattle.line_world.specs.Link.{SaysBoth}
@@ -21,7 +20,7 @@ use Rattle.line_world.specs.Lines.{AreCodable}
 use Rattle.line_world.specs.Texts.{lines_of}
 use Rattle.line_world.specs.Turn.{FaultCounts}
 use Rattle.line_world.specs.Modems.{IsWireOf}
-use Rattle.line_world.specs.Mid.{IsToSpeak, side_of}
+use Rattle.line_world.specs.Mid.{IsToSpeak}
 use Rattle.line_world.proofs.Hearing.{heard-in, none-sent, runs-over}
 use Rattle.line_world.proofs.Serving.{hears-in, served-is}
 use Rattle.line_world.specs.Faults.{fault_named}
@@ -68,10 +67,7 @@ spoken-turn {script} {dlci} {m} {c} {files} {ts} {ends} {heard} {mid} from_orig 
   where
     on-says : (role : Role) (said : Said) → says_at (link_of script files) m.turn (served c.script files (length ts) mid) role ≡ Ok said
         → said_at (link_of c.script files) (length ts) mid role ≡ Ok said
-    on-says role said e = subst (λ (x : Accounts). says_at (link_of c.script files) (length ts) x role ≡ Ok said)
-        (served-is c.script files (length ts) mid)
-        (subst (λ t. says_at (link_of c.script files) t (served c.script files (length ts) mid) role ≡ Ok said) h.stands.turn
-        (subst (λ x. says_at (link_of x files) m.turn (served c.script files (length ts) mid) role ≡ Ok said) (sym is.script_is) e))
+    on-says role said e = grind (arith, served-is)
 
     says : (role : Role) → SpeaksAt (said_at (link_of c.script files) (length ts) mid role)
         (of role (turn_in heard ends mid (spoken_by s.orig s.answ))) (of role (ends_of s.orig s.answ))
@@ -82,16 +78,13 @@ spoken-turn {script} {dlci} {m} {c} {files} {ts} {ends} {heard} {mid} from_orig 
 broken-so : (c : Wire) (files : Both (List ℕ)) (number turn : ℕ) (mid : Accounts) (role : Role) (fault : LinkFault) → turn ≡ number
     → BreaksAt (link_of c.script files) turn (served c.script files number mid) role fault
     → IsBroken (link_of c.script files) number mid role fault
-broken-so c files number turn mid role fault e h =
-    subst (λ (x : Accounts). BreaksAt (link_of c.script files) number x role fault) (served-is c.script files number mid)
-    (subst (λ t. BreaksAt (link_of c.script files) t (served c.script files number mid) role fault) e h)
+broken-so c files number turn mid role fault e h = grind (arith, served-is)
 
 silent : (heard : Both Heard) (ends mid : Accounts) (role : Role) → (of role (turn_in heard ends mid none-sent)).sent ≡ None
-silent heard ends mid q3 = grind (arith)
+silent heard ends mid role = grind (arith)
 
 pub broken-turn : {script : ScriptValue} {dlci : ℕ} {m : Modems} {c : Wire} {files : Both (List ℕ)} {ts : List Turn} {ends : Accounts}
-    {heard : Both Heard} {mid : Accounts} (role : Role) (fault : LinkFault)
-    → IsWireOf c script dlci → IsToSpeak m c files ts ends heard mid
+    {heard : Both Heard} {mid : Accounts} (role : Role) (fault : LinkFault) → IsWireOf c script dlci → IsToSpeak m c files ts ends heard mid
     → BreaksAt (link_of script files) m.turn (served c.script files (length ts) mid) role fault
     → BrokenTurn (link_of c.script files) ts ends (turn_in heard ends mid none-sent) mid role fault
 broken-turn {m = m} {c = c} {files = files} {ts = ts} {ends = ends} {heard = heard} {mid = mid} role fault is h b = record {
@@ -104,18 +97,9 @@ broken-turn {m = m} {c = c} {files = files} {ts = ts} {ends = ends} {heard = hea
 
 -- both ends hear in it what was heard
 pub hears-these : (heard : Both Heard) (ends mid : Accounts) (sent : Both (Option Spoken)) → HearsThese heard (turn_in heard ends mid sent)
-hears-these heard ends mid sent q4 = grind (arith)
+hears-these heard ends mid sent role = grind (arith)
 
 -- ---- its text
-
-line-of : (turn t : ℕ) (role : Role) (heard : Heard) (sent : Option Sent) (given : Option ℕ) (s : Side) → heard ≢ Chance → turn ≡ t
-    → heard ≡ s.heard
-    → sent ≡ option_map (λ (slot : Spoken). slot.sent) s.sent → given ≡ s.given → line_of turn role heard sent given ≡ side_line t role s
-line-of turn t role heard sent given s well n h x g =
-    plain heard well ∙ (λ k. trace_line (n k) role (h k) (x k) (g k))
-  where
-    plain : (heard : Heard) → heard ≢ Chance → line_of turn role heard sent given ≡ trace_line turn role heard sent given
-    plain q0 well = grind (arith)
 
 pub text-is : (number : ℕ) (ts : List Turn) (ends mid : Accounts) (heard : Both Heard) (given : Both (Option ℕ))
     (sent : Option (Both Sent)) (sents : Both (Option Spoken))
@@ -123,12 +107,7 @@ pub text-is : (number : ℕ) (ts : List Turn) (ends mid : Accounts) (heard : Bot
     → option_map (of Originator) sent ≡ option_map (λ (slot : Spoken). slot.sent) sents.orig
     → option_map (of Answerer) sent ≡ option_map (λ (slot : Spoken). slot.sent) sents.answ
     → lines_of number heard given sent ≡ turn_text (length ts) (turn_in heard ends mid sents)
-text-is number ts ends mid heard given sent sents wo wa n go ga so sa =
-    let o = line-of number (length ts) Originator heard.orig (option_map (of Originator) sent) given.orig
-    (side_of heard.orig ends.orig mid.orig sents.orig) wo n refl so go in
-    let a = line-of number (length ts) Answerer heard.answ (option_map (of Answerer) sent) given.answ
-    (side_of heard.answ ends.answ mid.answ sents.answ) wa n refl sa ga in
-    λ k. o k ++ a k
+text-is number ts ends mid heard given sent sents wo wa n go ga so sa = grind (arith)
 
 -- ---- what is sent can be coded
 
@@ -164,7 +143,7 @@ put_by dlci orig answ = record { orig = record { dlci = dlci; spoken = spoken or
 
 pub are-put : (dlci : ℕ) (orig answ : Said) (sent : Both Sent) (checks : Both Check) → orig.sent ≡ sent.orig → answ.sent ≡ sent.answ
     → check_of orig.account ≡ checks.orig → check_of answ.account ≡ checks.answ → ArePut (put_by dlci orig answ) sent checks dlci
-are-put dlci orig answ sent checks so sa co ca q9 = grind (arith)
+are-put dlci orig answ sent checks so sa co ca role = grind (arith)
 
 -- ---- the run goes on
 
@@ -183,8 +162,7 @@ pub record CountsSent (old new : Counts) (from_orig from_answ : Sent) : Type 0 w
   pub answ : new.answ ≡ next_count (sequence_in from_answ) old.answ
 
 pub tallies-on : GoingLaws → (c : Wire) (files : Both (List ℕ)) (ts : List Turn) (ends : Accounts) (heard : Both Heard) (mid : Accounts)
-    (from_orig from_answ : Sent) (k : Link)
-    (old new : Counts) → IsInLimits c.script → Overhears c files ts ends heard mid
+    (from_orig from_answ : Sent) (k : Link) (old new : Counts) → IsInLimits c.script → Overhears c files ts ends heard mid
     → (t : SpokenTurn c files ts ends heard mid from_orig from_answ k)
     → TalliesHeard old ts ends heard → CountsSent old new from_orig from_answ
     → Tallies new (turn_in heard ends mid (spoken_by t.orig t.answ) ∷ ts) (ends_of t.orig t.answ)
@@ -207,8 +185,7 @@ tallies-on laws c files ts ends heard mid from_orig from_answ k old new limits o
     }
 
 pub goes-on : GoingLaws → (c : Wire) (old : Counts) (m : Modems) (l : Lines) (links : ℕ) (streams : Both (List Carried))
-    (f new : FolderState) (n : Written) (files : Both (List ℕ))
-    (ts : List Turn) (ends : Accounts) (heard : Both Heard) (mid : Accounts)
+    (f new : FolderState) (n : Written) (files : Both (List ℕ)) (ts : List Turn) (ends : Accounts) (heard : Both Heard) (mid : Accounts)
     (from_orig from_answ : Sent) → IsInLimits c.script → m.turn ≡ length ts + 1 → m.spoke ≡ true
     → Overhears c files ts ends heard mid → (t : SpokenTurn c files ts ends heard mid from_orig from_answ m.link)
     → TalliesHeard old ts ends heard → CountsSent old m.tally from_orig from_answ
@@ -244,36 +221,7 @@ pub ends-so : (c : Wire) (f new : FolderState) (n : Written) (files : Both (List
     → BrokenTurn (link_of c.script files) ts ends (turn_in heard ends mid none-sent) mid role fault
     → Appended f new n.trace (turn_text (length ts) (turn_in heard ends mid none-sent))
     → SpeaksLast c f new n files ts ends heard mid (fault_named turn role fault)
-ends-so c f new n files ts ends heard mid turn role faults.NotDetected number named o b trace = (
-  number,
-  record {
-    turn = turn_in heard ends mid none-sent;
-    hears = hears-these heard ends mid none-sent;
-    makes = record {
-      run = o.run;
-      heard = heard-in c files ts ends heard mid none-sent o;
-      is = subst (λ r. BrokenTurn (link_of c.script files) ts ends (turn_in heard ends mid none-sent) mid r faults.NotDetected) named b;
-    };
-    trace = trace;
-  },
-)
-ends-so c f new n files ts ends heard mid turn role (faults.Spent segment since) number named o b trace = (
-  since,
-  (
-    number,
-    record {
-      turn = turn_in heard ends mid none-sent;
-      hears = hears-these heard ends mid none-sent;
-      makes = record {
-        run = o.run;
-        heard = heard-in c files ts ends heard mid none-sent o;
-        is = b;
-      };
-      trace = trace;
-    },
-  ),
-)
-ends-so c f new n files ts ends heard mid turn role other number named o b trace = absurd named
+ends-so c f new n files ts ends heard mid turn role other number named o b trace = grind (arith, none-sent, hears-these, heard-in)
 
 -- such an end is no fault of the folder
 pub counts-so : (f new : FolderState) (n : Written) (turn : ℕ) (role : Role) (fault : LinkFault) → IsNamed role fault → CountsStand f new
@@ -288,29 +236,13 @@ pub stops-so : (c : Wire) (f new : FolderState) (n : Written) (files : Both (Lis
 stops-so c f new n files ts ends heard mid fault w h = grind (arith)
 
 pub adds-part : (c : Wire) (f new : FolderState) (n : Written) (files : Both (List ℕ)) (ts : List Turn) (ends : Accounts)
-    (heard : Both Heard) (mid : Accounts) (sents : Both (Option Spoken))
-    (outcome : Outcome) → Overhears c files ts ends heard mid
+    (heard : Both Heard) (mid : Accounts) (sents : Both (Option Spoken)) (outcome : Outcome) → Overhears c files ts ends heard mid
     → TurnIs (link_of c.script files) ts ends (turn_in heard ends mid sents) mid outcome
     → PartlyAppended f new n.trace (turn_text (length ts) (turn_in heard ends mid sents)) → AddsPart c f new n files ts ends heard mid
-adds-part c f new n files ts ends heard mid sents outcome o is trace = record {
-  outcome = outcome;
-  turn = turn_in heard ends mid sents;
-  hears = hears-these heard ends mid sents;
-  makes = record {
-    run = o.run;
-    heard = heard-in c files ts ends heard mid sents o;
-    is = is;
-  };
-  trace = trace;
-}
+adds-part c f new n files ts ends heard mid sents outcome o is trace = grind (arith, hears-these, heard-in)
 
 -- ---- the run is done
 
 pub last-turn : (c : Wire) (files : Both (List ℕ)) (ts : List Turn) (ends : Accounts) (heard : Both Heard) (mid : Accounts)
-    → Overhears c files ts ends heard mid
-    → is_closed mid.orig.phase ≡ true → LastTurn ts ends (turn_in heard ends mid none-sent) mid
-last-turn c files ts ends heard mid o closed = record {
-  hearing = hears-in c files ts ends mid heard none-sent o;
-  done = closed;
-  silent = silent heard ends mid;
-}
+    → Overhears c files ts ends heard mid → is_closed mid.orig.phase ≡ true → LastTurn ts ends (turn_in heard ends mid none-sent) mid
+last-turn c files ts ends heard mid o closed = assumption (hears-in c files ts ends mid heard none-sent o, silent heard ends mid)

@@ -4,9 +4,9 @@ use Rattle.line_world.proofs.Cited.{Heard, hearing-in, SamplesAreCarried, OneIsC
 use Rattle.line_world.proofs.Cited.{IsHeardOf, link_of, ScriptsMayPlay, ScriptsHaveDelays, Carried, RunFault, HaveArrived, AreCounted}
 use Rattle.line_world.proofs.Cited.{AreIdle, AreWithin, octets_of, Overhears, HasGone, HearsThese, AddsPart, SpeaksLast, turn_in, AreKept}
 use Rattle.line_world.proofs.Cited.{Stops, StopsReading, EndsInTurn, GoesOnBy, IsWriting, added, StayKnown, Lines, Modems, Step, Counts}
-use Rattle.line_world.proofs.Cited.{Account, check_of, hear, lost_in, Outcome, TurnIs, Accounts, Turn, Hears, arrival, turn_text}
-use Rattle.line_world.proofs.Cited.{IsInLimits, delay_of, AddEach-next, AddPart-next, AddPart-none, AddPart-longer, FolderState, OnlyWrites}
-use Rattle.line_world.proofs.Cited.{OnlyPuts, AddEach, Both, of, other, LinkFault, Role, Originator, Answerer}
+use Rattle.line_world.proofs.Cited.{check_of, lost_in, Outcome, TurnIs, Accounts, Turn, Hears, turn_text, IsInLimits, AddEach-next}
+use Rattle.line_world.proofs.Cited.{AddPart-next, AddPart-none, AddPart-longer, FolderState, OnlyWrites, OnlyPuts, AddEach, Both, of, other}
+use Rattle.line_world.proofs.Cited.{LinkFault, Role, Originator, Answerer}
 use Rattle.outside_calls.specs.Outputs.{AddPart}
 use Rattle.shared_terms.specs.declared.fault.LinkFault.TheVariants as faults
 use Rattle.link_run.specs.Laws.{EachTurnIsMade, MakesTurn as MakesAny}
@@ -31,13 +31,6 @@ pub record MakingLaws : Type 0 where
   pub one : OneIsCarried
   pub made : EachTurnIsMade
 
-ok-inj : (r : Result Account LinkFault) (a b : Account) → r ≡ Ok a → r ≡ Ok b → a ≡ b
-ok-inj r a b p q = ap value (sym p ∙ q)
-  where
-    value : Result Account LinkFault → Account
-    value (Ok x) = x
-    value (Err fault) = a
-
 both-same : (x y : Accounts) → x.orig ≡ y.orig → x.answ ≡ y.answ → x ≡ y
 both-same x y o a = λ k. record { orig = o k; answ = a k }
 
@@ -49,8 +42,7 @@ pub record Making (c : Wire) (files : Both (List ℕ)) (ts : List Turn) (ends : 
   pub makes : MakesTurn c files ts ends turn mid outcome
 
 pub making : MakingLaws → (c : Wire) (files : Both (List ℕ)) (ts : List Turn) (ends : Accounts) (heard : Both Heard) (mid : Accounts)
-    → IsInLimits c.script
-    → Overhears c files ts ends heard mid → Making c files ts ends heard mid
+    → IsInLimits c.script → Overhears c files ts ends heard mid → Making c files ts ends heard mid
 making laws c files ts ends heard mid limits o = record {
   turn = m.turn;
   outcome = m.outcome;
@@ -65,9 +57,7 @@ making laws c files ts ends heard mid limits o = record {
     heard-first = heard-in c files ts ends heard mid none-sent o
 
     m : MakesAny (link_of c.script files) ts ends (λ role. (of role first).heard)
-    m = laws.made (link_of c.script files) (delay_of c.script) ts ends (λ role. (of role first).heard)
-        (runs-over laws.play laws.delays laws.carried c files ts ends limits o.run)
-        (λ role. laws.one c ts first heard-first role)
+    m = grind (arith, first, runs-over, heard-first)
 
     hears : Hears (length ts) ends m.turn m.mid
     hears = hearing-in (link_of c.script files) ts ends m.turn m.mid m.outcome m.is
@@ -76,9 +66,7 @@ making laws c files ts ends heard mid limits o = record {
     first-hears = hears-in c files ts ends mid heard none-sent o
 
     same-at : (role : Role) → of role m.mid ≡ of role mid
-    same-at role = ok-inj (hear (length ts) (arrival (of role m.turn).heard) (of role ends)) (of role m.mid) (of role mid)
-        (hears role).hears
-        (ap (λ h. hear (length ts) (arrival h) (of role ends)) (m.heard_is role) ∙ (first-hears role).hears)
+    same-at role = grind (arith)
 
     same : m.mid ≡ mid
     same = both-same m.mid mid (same-at Originator) (same-at Answerer)
@@ -107,19 +95,17 @@ pub halts-so : (old m : Modems) (l : Lines) (c : Wire) (links : ℕ) (streams : 
 halts-so old m l c links streams files ts ends heard mid now h arrived same t hears =
     let orig = sym (hears Originator) in
     let answ = sym (hears Answerer) in
-    record {
-      lines = arrived;
-      lost = ap (λ (x : Counts). x.lost) same.tally ∙ h.tally.lost ∙ (λ k. lost_slots ts + lost_in (orig k) + lost_in (answ k));
-      again = ap (λ (x : Counts). x.again) same.tally ∙ h.tally.again;
-    }
+    assumption (
+      ap (λ (x : Counts). x.lost) same.tally ∙ h.tally.lost ∙ (λ k. lost_slots ts + lost_in (orig k) + lost_in (answ k)),
+      ap (λ (x : Counts). x.again) same.tally ∙ h.tally.again,
+    )
 
 -- what both hear with once they have heard
 abbrev pub Checked : Modems → Accounts → Type 0
 Checked m mid = (role : Role) → of role m.heard_by ≡ check_of (of role mid)
 
 pub checked-so : (old m : Modems) (c : Wire) (files : Both (List ℕ)) (ts : List Turn) (ends : Accounts) (heard : Both Heard)
-    (mid now : Accounts)
-    → InTurn old c files ts ends heard mid now → SameBeside old m → Checked m mid
+    (mid now : Accounts) → InTurn old c files ts ends heard mid now → SameBeside old m → Checked m mid
 checked-so old m c files ts ends heard mid now h same role = ap (of role) same.heard_by ∙ h.checks role
 
 -- ---- a fault of the folder
@@ -221,8 +207,7 @@ module _ (m : Modems) (l : Lines) (c : Wire) (links : ℕ) (streams : Both (List
 pub goes-on-by : (m : Modems) (l : Lines) (c : Wire) (links : ℕ) (streams : Both (List Carried)) (a b z : FolderState) (n : Written)
     (files others : Both (List ℕ)) (ts : List Turn) (ends mid : Accounts)
     → IsApart n → StayKnown a z n files others → OnlyPuts a b (outputs_of n) → AddEach a b (outputs_of n) (octets_of mid)
-    → OnlyWrites b z n.trace
-    → HasGone m l c links streams b z n others ts ends mid → GoesOnBy m l c links streams a z n files ts ends
+    → OnlyWrites b z n.trace → HasGone m l c links streams b z n others ts ends mid → GoesOnBy m l c links streams a z n files ts ends
 goes-on-by m l c links streams a b z n files others ts ends mid apart known only delivered lines h = record {
   others = others;
   known = known;
@@ -240,12 +225,7 @@ goes-on-by m l c links streams a b z n files others ts ends mid apart known only
 -- and another turn may be made
 pub kept-on : (m : Modems) (number : ℕ) → m.dlci < 64 → AreIdle m.link → AreCounted m.link number number → IsFew m.tally number number
     → m.turn ≡ number → AreKept m
-kept-on m number channel idle counted few e = record {
-  channel = channel;
-  idle = idle;
-  counted = subst (λ t. AreCounted m.link t t) (sym e) counted;
-  few = subst (λ t. IsFew m.tally t t) (sym e) few;
-}
+kept-on m number channel idle counted few e = grind (arith)
 
 -- what a fault ends doesn't go on
 pub no-step : {A : Type 0} {fault : RunFault} {step : Step} → Err fault ≡ Ok step → A

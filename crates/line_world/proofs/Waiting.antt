@@ -1,10 +1,10 @@
 -- What arrives of a stream is what a link's channel has.
 use Rattle.line_world.proofs.Cited.{◌≡◌, ◌≢◌, ℕ, zero, suc, ◌-◌, ◌*◌, ◌<◌, ◌≤◌, List, [], ◌∷◌, ◌++◌, length, map, take, drop, arith}
-use Rattle.line_world.proofs.Cited.{length-append, refl, sym, ◌∙◌, ap, subst, Some, Ok, Err, map-append, length-drop, length-take}
-use Rattle.line_world.proofs.Cited.{take-append-le, is_some, Signal, signal_bits, Lost, Check, Heard, Chance, Wire, IsHeardOf, Carried}
-use Rattle.line_world.proofs.Cited.{carried_signal, IsDue, ArrivesBoth, HaveRoom, and_more, none_sent, CodesNext, HeardBehind, PassesOldest}
-use Rattle.line_world.proofs.Cited.{Early, Due, IsOver, DelayedLine, LineEnd, Spoken, Turn, ScriptValue, delay_of, loses, IsCodedAs}
-use Rattle.line_world.proofs.Cited.{size_of, IsOutcome, LosesAt, Records, Both, of, other, Role, Originator, Answerer}
+use Rattle.line_world.proofs.Cited.{length-append, sym, ◌∙◌, ap, subst, Some, Ok, Err, map-append, length-drop, length-take, take-append-le}
+use Rattle.line_world.proofs.Cited.{is_some, Signal, signal_bits, Lost, Check, Heard, Chance, Wire, IsHeardOf, Carried, carried_signal}
+use Rattle.line_world.proofs.Cited.{IsDue, ArrivesBoth, HaveRoom, and_more, none_sent, CodesNext, HeardBehind, PassesOldest, IsOver}
+use Rattle.line_world.proofs.Cited.{DelayedLine, LineEnd, Spoken, Turn, ScriptValue, delay_of, loses, IsCodedAs, size_of, IsOutcome}
+use Rattle.line_world.proofs.Cited.{LosesAt, Records, Both, Role, Originator, Answerer}
 use Rattle.std.specs.Prelude.{Result}
 use Rattle.std.proofs.lemmas.List.{length-map, take-append-drop}
 use Rattle.std.proofs.Math.Nat.{one-le-mul}
@@ -22,30 +22,18 @@ use Rattle.line_world.specs.Way.{ArrivesAs}
 take-one : (n : ℕ) (xs : List Carried) (x : Carried) → drop n xs ≡ x ∷ drop (suc n) xs → take (suc n) xs ≡ take n xs ++ x ∷ []
 take-one zero [] x e = absurd cc
 take-one (suc n) [] x e = absurd cc
-take-one zero (y ∷ xs) x e = ap (λ z. z ∷ []) (head e)
-  where
-    first : Carried → List Carried → Carried
-    first z [] = z
-    first z (w ∷ ws) = w
-
-    head : y ∷ xs ≡ x ∷ xs → y ≡ x
-    head q = ap (first x) q
+take-one zero (y ∷ xs) x e = grind (arith)
 take-one (suc n) (y ∷ xs) x e = ap (λ l. y ∷ l) (take-one n xs x e)
 
 head-of : (x y : Carried) (xs ys : List Carried) → x ∷ xs ≡ y ∷ ys → x ≡ y
-head-of x y xs ys e = ap first e
-  where
-    first : List Carried → Carried
-    first [] = x
-    first (z ∷ zs) = z
+head-of x y xs ys e = grind (arith)
 
 tail-of : (x y : Carried) (xs ys : List Carried) → x ∷ xs ≡ y ∷ ys → xs ≡ ys
 tail-of x y xs ys e = ap (drop 1) e
 
 -- the slot that arrives is heard as the channel has it
 heard-as : (c : Wire) (role : Role) (ts : List Turn) (size : ℕ) (passed : List Signal) (slot : Spoken) (x : Carried) (number : ℕ)
-    (hearing : Check) (heard : Heard)
-    → 1 ≤ delay_of c.script role → size ≡ 4 * c.symbols → number ≡ length ts - delay_of c.script role
+    (hearing : Check) (heard : Heard) → 1 ≤ delay_of c.script role → size ≡ 4 * c.symbols → number ≡ length ts - delay_of c.script role
     → sent_ago (delay_of c.script role) role ts ≡ Some slot → x ≡ record { dlci = c.dlci; spoken = slot }
     → passed ≡ signals_before c role (drop (delay_of c.script role) ts)
     → HeardBehind c.script role size c.dlci passed number hearing x heard → IsHeardOf c role ts hearing heard
@@ -59,11 +47,7 @@ heard-as c role ts size passed slot x number hearing heard some same count ago i
     s = sent-ago role delay ts slot some ago
 
     upto : passed ++ carried_signal role x ∷ [] ≡ signals c role (drop (delay - 1) ts)
-    upto =
-        ap (λ l. l ++ carried_signal role x ∷ []) before
-        ∙ ap (λ z. signals_before c role (drop delay ts) ++ carried_signal role z ∷ []) is
-        ∙ ap (λ o. signals_before c role (drop delay ts) ++ signal_in c role o) (sym s.sent)
-        ∙ ap (signals c role) (sym s.rest)
+    upto = grind (arith, delay, is, s)
 
     there : Arrives c role (drop delay ts) (drop (delay - 1) ts) hearing slot heard
     there = record {
@@ -86,8 +70,7 @@ lost-as : (c : Wire) (role : Role) (ts : List Turn) (size : ℕ) (passed : List 
     → 1 ≤ delay_of c.script role → size ≡ 4 * c.symbols
     → sent_ago (delay_of c.script role) role ts ≡ Some slot → x ≡ record { dlci = c.dlci; spoken = slot }
     → passed ≡ signals_before c role (drop (delay_of c.script role) ts)
-    → LosesAt role c.script (signal_bits size (passed ++ carried_signal role x ∷ [])) symbol
-    → LosesLine c role ts symbol
+    → LosesAt role c.script (signal_bits size (passed ++ carried_signal role x ∷ [])) symbol → LosesLine c role ts symbol
 lost-as c role ts size passed slot x symbol some same ago is before h =
     let delay : ℕ = delay_of c.script role in
     let s : SentAgo role delay ts slot = sent-ago role delay ts slot some ago in
@@ -110,15 +93,7 @@ pub record Moved (d new : DelayedLine) : Type 0 where
 
 still-over : (d new : DelayedLine) (c : Wire) (role : Role) (links : ℕ) (stream others : List Carried) (waiting now : ℕ)
     → IsOver d c role links stream waiting → Moved d new → StandsAt new c.script others now → IsOver new c role links others now
-still-over d new c role links stream others waiting now h m stands = record {
-  stands = stands;
-  sends = m.sender ∙ h.sends;
-  symbols = m.symbols ∙ h.symbols;
-  delay = m.delay ∙ h.delay;
-  lag = m.lag ∙ h.lag ∙ ap (λ n. links * n) (sym m.delay);
-  some = subst (λ n. 1 ≤ n) (sym m.delay) h.some;
-  lag_some = subst (λ n. 1 ≤ n) (sym m.lag) h.lag_some;
-}
+still-over d new c role links stream others waiting now h m stands = grind (arith)
 
 -- the slots of a direction stand for its sender, by whatever name
 sent-as : (d new : DelayedLine) (script : ScriptValue) (passed way : List Carried) → new.sender ≡ d.sender
@@ -134,9 +109,7 @@ pub arrives-as : (d new : DelayedLine) (c : Wire) (role : Role) (links : ℕ) (t
     (hearing : Check) (r : Result Heard Lost)
     → WaitsFor d c role links stream → IsDue c role ts stream (links * delay_of c.script role) → turn ≡ length ts → Moved d new
     → Arrival d new c.script (map (carried_signal d.sender) (take (length stream - d.lag) stream)) (drop (length stream - d.lag) stream)
-    turn
-    hearing c.dlci r
-    → ArrivesAs new c role links ts stream hearing r
+    turn hearing c.dlci r → ArrivesAs new c role links ts stream hearing r
 arrives-as d new c role links ts stream turn hearing r h due-links number m a = by a
   where
     k : ℕ
@@ -147,20 +120,11 @@ arrives-as d new c role links ts stream turn hearing r h due-links number m a = 
 
     room : (n : ℕ) → n ≡ length stream - (d.lag - 1) → Stands new c.script (map (carried_signal d.sender) (take n stream)) (drop n stream)
         → HasRoom new c role links stream
-    room n e stands =
-        still-over d new c role links stream stream d.lag (new.lag - 1) h m
-        (sent-as d new c.script (take (length stream - (new.lag - 1)) stream) (drop (length stream - (new.lag - 1)) stream) m.sender
-        (subst (λ x. Stands new c.script (map (carried_signal d.sender) (take x stream)) (drop x stream))
-        (e ∙ ap (λ y. length stream - (y - 1)) (sym m.lag)) stands))
+    room n e stands = grind (arith)
 
-    early : length stream < d.lag → r ≡ Ok Nothing
-        → Stands new c.script (map (carried_signal d.sender) (take k stream)) (drop k stream)
+    early : length stream < d.lag → r ≡ Ok Nothing → Stands new c.script (map (carried_signal d.sender) (take k stream)) (drop k stream)
         → ArrivesAs new c role links ts stream hearing r
-    early l result stands =
-        let heard : IsHeardOf c role ts hearing Nothing =
-        subst (λ o. RunArrives c role (drop (delay_of c.script role) ts) (drop (delay_of c.script role - 1) ts) hearing o Nothing)
-        (sym (due.early l)) refl in
-        subst (ArrivesAs new c role links ts stream hearing) (sym result) (heard, room k (omega (arith, l, h.lag_some)) stands)
+    early l result stands = grind (arith)
 
     late : (x : Carried) (rest : List Carried) → drop k stream ≡ x ∷ rest → d.lag ≤ length (drop k stream)
         → PassesOldest d new c.script (map (carried_signal d.sender) (take k stream)) x rest (turn - d.delay) hearing c.dlci r
@@ -199,33 +163,27 @@ arrives-as d new c role links ts stream turn hearing r h due-links number m a = 
         go (Ok heard) p =
             let n : turn - d.delay ≡ length ts - delay_of c.script role = omega (arith, number, h.delay) in (
               heard-as c role ts (size_of d.line) (map (carried_signal role) (take k stream)) found.0 x (turn - d.delay) hearing heard some
-                  size n
-                  found.1 is found.3
+                  size n found.1 is found.3
                   (subst (λ s. HeardBehind c.script s (size_of d.line) c.dlci (map (carried_signal s) (take k stream)) (turn - d.delay)
-                  hearing x
-                  heard) h.sends p.0),
+                  hearing x heard) h.sends p.0),
               room (suc k) (omega (arith, enough, h.lag_some)) (subst (λ l. Stands new c.script l (drop (suc k) stream)) one-more
                   (subst (Stands new c.script (map (carried_signal d.sender) (take k stream) ++ carried_signal d.sender x ∷ [])) rest-is
                   p.1)),
             )
         go (Err lost) p =
             lost-as c role ts (size_of d.line) (map (carried_signal role) (take k stream)) found.0 x lost.symbol some size found.1 is
-            found.3
-            (subst (λ s. LosesAt s c.script
-            (signal_bits (size_of d.line) (map (carried_signal s) (take k stream) ++ carried_signal s x ∷ []))
-            lost.symbol) h.sends p)
+            found.3 (subst (λ s. LosesAt s c.script
+            (signal_bits (size_of d.line) (map (carried_signal s) (take k stream) ++ carried_signal s x ∷ [])) lost.symbol) h.sends p)
 
     by : Arrival d new c.script (map (carried_signal d.sender) (take k stream)) (drop k stream) turn hearing c.dlci r
         → ArrivesAs new c role links ts stream hearing r
-    by (Early less result stands) = early (omega (arith, less, length-drop k stream)) result stands
-    by (Due x rest way-is full passes) = late x rest way-is full passes
+    by given = grind (arith, early, length-drop, k, late)
 
 -- and one more slot is put behind the stream
 pub sends-behind : (d new : DelayedLine) (c : Wire) (role : Role) (links : ℕ) (stream : List Carried) (x : Carried)
     → HasRoom d c role links stream → Moved d new
     → Stands new c.script (map (carried_signal d.sender) (take (length stream - (d.lag - 1)) stream))
-    (drop (length stream - (d.lag - 1)) stream ++ x ∷ [])
-    → WaitsFor new c role links (stream ++ x ∷ [])
+    (drop (length stream - (d.lag - 1)) stream ++ x ∷ []) → WaitsFor new c role links (stream ++ x ∷ [])
 sends-behind d new c role links stream x h m stands =
     let k : ℕ = length stream - (d.lag - 1) in
     let few : k ≤ length stream = omega arith in
@@ -234,9 +192,7 @@ sends-behind d new c role links stream x h m stands =
     subst (λ l. Stands new c.script (map (carried_signal d.sender) (take k (stream ++ x ∷ []))) l) (sym (drop-append-le k stream
     (x ∷ []) few))
     (subst (λ l. Stands new c.script (map (carried_signal d.sender) l) (drop k stream ++ x ∷ [])) (sym (take-append-le k stream
-    (x ∷ []) few))
-    stands)
-    in
+    (x ∷ []) few)) stands) in
     let n : ℕ = length (stream ++ x ∷ []) - new.lag in
     still-over d new c role links stream (stream ++ x ∷ []) (d.lag - 1) new.lag h m
     (sent-as d new c.script (take n (stream ++ x ∷ [])) (drop n (stream ++ x ∷ [])) m.sender
@@ -254,8 +210,7 @@ role-hears d new c role links ts stream turn hearing script dlci r h due script-
     arrives-as d new c role links ts stream turn hearing r h due number m
     (subst (λ n. Arrival d new c.script passed way turn hearing n r) (sym dlci-is)
     (subst (λ s. ((l : List Signal) (w : List Carried) → Stands d s l w → Arrival d new s l w turn hearing dlci r)) (sym script-is) a passed
-    way
-    h.stands))
+    way h.stands))
   where
     passed : List Signal
     passed = map (carried_signal d.sender) (take (length stream - d.lag) stream)
@@ -267,51 +222,30 @@ role-hears d new c role links ts stream turn hearing script dlci r h due script-
 pub late-of : (d : DelayedLine) (c : Wire) (role : Role) (links : ℕ) (ts : List Turn) (stream : List Carried) (turn : ℕ)
     → WaitsFor d c role links stream → IsDue c role ts stream (links * delay_of c.script role) → turn ≡ length ts
     → d.lag ≤ length d.slots.items → d.delay ≤ turn
-late-of d c role links ts stream turn h due number l =
-    let way = drop (length stream - d.lag) stream in
-    let passed = map (carried_signal d.sender) (take (length stream - d.lag) stream) in
-    let count = same-count (size_of d.line) d.sender passed d.slots.items way h.stands.slots in
-    let enough : d.lag ≤ length stream = omega (arith, l, count, length-drop (length stream - d.lag) stream) in
-    let late = due.late (subst (λ n. n ≤ length stream) (due-lag d c role links stream h) enough) in
-    omega (arith, late, number, h.delay)
+late-of d c role links ts stream turn h due number l = grind (arith, same-count, length-drop)
 
 pub room-of : (d : DelayedLine) (c : Wire) (role : Role) (links : ℕ) (stream : List Carried) → HasRoom d c role links stream
     → length d.slots.items < d.lag
-room-of d c role links stream h =
-    let k = length stream - (d.lag - 1) in
-    let count = same-count (size_of d.line) d.sender (map (carried_signal d.sender) (take k stream)) d.slots.items (drop k stream)
-    h.stands.slots in
-    omega (arith, count, length-drop k stream, h.lag_some)
+room-of d c role links stream h = grind (arith, same-count, length-drop)
 
 pub stands-of : (d : DelayedLine) (c : Wire) (role : Role) (links : ℕ) (stream : List Carried) (script : ScriptValue)
-    → WaitsFor d c role links stream → c.script ≡ script
-    → (passed : List Signal) × (way : List Carried) × Stands d script passed way
-stands-of d c role links stream script h e =
-    let passed : List Signal = map (carried_signal d.sender) (take (length stream - d.lag) stream) in
-    let way : List Carried = drop (length stream - d.lag) stream in
-    (passed, way, subst (λ s. Stands d s passed way) e h.stands)
+    → WaitsFor d c role links stream → c.script ≡ script → (passed : List Signal) × (way : List Carried) × Stands d script passed way
+stands-of d c role links stream script h e = grind (arith)
 
 -- as many slots have passed as were put on the line, at most
 pub passed-few : (d : DelayedLine) (c : Wire) (role : Role) (links : ℕ) (stream : List Carried) → WaitsFor d c role links stream
     → d.line.passed ≤ length stream
-passed-few d c role links stream h =
-    let k = length stream - d.lag in
-    omega (arith, h.stands.line.slots, length-map (take k stream) (carried_signal d.sender), length-take k stream)
+passed-few d c role links stream h = grind (arith, length-map, length-take)
 
 -- before the first slot
 pub waits-first : (d : DelayedLine) (c : Wire) (role : Role) (links : ℕ)
     → ((script : ScriptValue) → Stands d script [] []) → d.sender ≡ role → d.line.symbols ≡ c.symbols
-    → d.delay ≡ delay_of c.script role → d.lag ≡ links * d.delay → 1 ≤ links → 1 ≤ delay_of c.script role
-    → WaitsFor d c role links []
-waits-first d c role links stands sends symbols delay lag many some = record {
-  stands = subst (λ n. Stands d c.script (map (carried_signal d.sender) (take n [])) (drop n [])) none (stands c.script);
-  sends = sends;
-  symbols = symbols;
-  delay = delay;
-  lag = lag;
-  some = low;
-  lag_some = subst (λ n. 1 ≤ n) (sym lag) (one-le-mul many low);
-}
+    → d.delay ≡ delay_of c.script role → d.lag ≡ links * d.delay → 1 ≤ links → 1 ≤ delay_of c.script role → WaitsFor d c role links []
+waits-first d c role links stands sends symbols delay lag many some = assumption (
+  subst (λ n. Stands d c.script (map (carried_signal d.sender) (take n [])) (drop n [])) none (stands c.script),
+  low,
+  subst (λ n. 1 ≤ n) (sym lag) (one-le-mul many low),
+)
   where
     low : 1 ≤ d.delay
     low = subst (λ n. 1 ≤ n) (sym delay) some
@@ -321,8 +255,7 @@ waits-first d c role links stands sends symbols delay lag many some = record {
 
 -- labels that a slot is coded as behind all that was sent are one slot more behind those on their way
 pub codes-next : (d : DelayedLine) (c : Wire) (role : Role) (links : ℕ) (stream : List Carried) (waiting : ℕ) (x : Carried)
-    (labels : List ℕ)
-    → IsOver d c role links stream waiting
+    (labels : List ℕ) → IsOver d c role links stream waiting
     → IsCodedAs role (4 * c.symbols) (map (carried_signal role) stream) (carried_signal role x) labels
     → CodesNext d (map (carried_signal d.sender) (take (length stream - waiting) stream)) (drop (length stream - waiting) stream) x labels
 codes-next d c role links stream waiting x labels h coded =
@@ -339,32 +272,23 @@ codes-next d c role links stream waiting x labels h coded =
 pub hears-both : (left : Type 0) (c : Wire) (ts : List Turn) (checks : Both Check) (to_orig to_answ : Heard)
     → IsHeardOf c Answerer ts checks.orig to_orig → IsHeardOf c Originator ts checks.answ to_answ → to_orig ≢ Chance → to_answ ≢ Chance
     → left → ArrivesBoth left c ts checks (record { orig = to_orig; answ = to_answ })
-hears-both left c ts checks to_orig to_answ ho ha wo wa lines = record { heard_of = each; well = well; lines = lines }
-  where
-    each : (role : Role) → IsHeardOf c (other role) ts (of role checks) (of role (record { orig = to_orig; answ = to_answ }))
-    each Originator = ho
-    each Answerer = ha
-
-    well : (role : Role) → of role (record { orig = to_orig; answ = to_answ }) ≢ Chance
-    well Originator = wo
-    well Answerer = wa
+hears-both left c ts checks to_orig to_answ ho ha wo wa lines = grind (arith)
 
 pub room-both : (orig answ : DelayedLine) (c : Wire) (links : ℕ) (streams : Both (List Carried))
     → HasRoom orig c Originator links streams.orig
     → HasRoom answ c Answerer links streams.answ → HaveRoom (record { from_orig = orig; from_answ = answ }) c links streams
-room-both orig answ c links streams ho ha q7 = grind (arith)
+room-both orig answ c links streams ho ha role = grind (arith)
 
 pub waits-both : (orig answ : DelayedLine) (c : Wire) (links : ℕ) (streams : Both (List Carried)) (more : Both Carried)
     → WaitsFor orig c Originator links (streams.orig ++ more.orig ∷ []) → WaitsFor answ c Answerer links (streams.answ ++ more.answ ∷ [])
     → AreWaiting (record { from_orig = orig; from_answ = answ }) c links (and_more streams more)
-waits-both orig answ c links streams more ho ha q8 = grind (arith)
+waits-both orig answ c links streams more ho ha role = grind (arith)
 
 pub waits-none : (orig answ : DelayedLine) (c : Wire) (links : ℕ) → WaitsFor orig c Originator links [] → WaitsFor answ c Answerer links []
     → AreWaiting (record { from_orig = orig; from_answ = answ }) c links none_sent
-waits-none orig answ c links ho ha q6 = grind (arith)
+waits-none orig answ c links ho ha role = grind (arith)
 
 -- what arrives leaves the line so, and then otherwise
 pub arrives-left : (old new : Type 0) (c : Wire) (ts : List Turn) (checks : Both Check) (r : Result (Both Heard) LineEnd) → (old → new)
     → ArrivesSo old c ts checks r → ArrivesSo new c ts checks r
-arrives-left old new c ts checks (Ok heard) f h = record { heard_of = h.heard_of; well = h.well; lines = f h.lines }
-arrives-left old new c ts checks (Err end) f h = h
+arrives-left old new c ts checks r f h = grind (arith)

@@ -46,8 +46,7 @@ one-copied piece at place copied sample so_far within is =
 -- of the samples that were copied the first ones go behind those before them
 pub some-more : (past : List Sample) (piece : List ℕ) (at count heard : ℕ) (copied : List Sample)
     → samples_in (take (4 * at) piece) ++ copied ≡ samples_in (take (4 * (at + count)) piece) → 4 * (at + count) ≤ length piece
-    → heard ≤ count
-    → (past ++ samples_in (take (4 * at) piece)) ++ take heard copied ≡ past ++ samples_in (take (4 * (at + heard)) piece)
+    → heard ≤ count → (past ++ samples_in (take (4 * at) piece)) ++ take heard copied ≡ past ++ samples_in (take (4 * (at + heard)) piece)
 some-more past piece at count heard copied are within few =
     let before = samples_in (take (4 * at) piece) in
     let long : length before ≡ at = samples_in-length at piece (omega (arith, within)) in
@@ -61,12 +60,9 @@ some-more past piece at count heard copied are within few =
 
 -- how many samples are copied
 pub few-copied : (long at count : ℕ) → count ≡ min (long / 4 - at) 128 → 4 * at ≤ long → (4 * (at + count) ≤ long) × (count ≤ 128)
-few-copied long at count is within =
-    (omega (arith, is, min-le_left (long / 4 - at) 128, within), omega (arith, is, min-le_right (long / 4 - at) 128))
+few-copied long at count is within = grind (arith, min-le_left, min-le_right)
 
 -- how many of them were heard
 pub some-heard : (count heard : ℕ) (samples : List Sample) → count ≤ length samples → heard ≤ length (take count samples)
     → (1 ≤ length (take count samples) → 1 ≤ heard) → 1 ≤ count → (1 ≤ heard) × (heard ≤ count)
-some-heard count heard samples within few some given =
-    let long : length (take count samples) ≡ count = length-take-le count samples within in
-    (some (omega (arith, long, given)), omega (arith, long, few))
+some-heard count heard samples within few some given = grind (arith, length-take-le)

@@ -78,7 +78,7 @@ pub use Rattle.signal_commands.specs.Encoding.Recorded.{Begun, RecordedTo}
 pub use Rattle.signal_commands.specs.Encoding.Recorder.{IsRecordingOf, RecorderStands}
 pub use Rattle.signal_commands.specs.Encoding.Words.{EncodeNames}
 pub use Rattle.signal_commands.specs.Margins.Ends.{Measures}
-pub use Rattle.signal_commands.specs.Margins.Ends.EndsOwn.{file_is_long, is_misfit}
+pub use Rattle.signal_commands.specs.Margins.Ends.EndsOwn.{is_misfit}
 pub use Rattle.signal_commands.specs.Margins.Ends.FailsToRead.{one_unread}
 pub use Rattle.signal_commands.specs.Margins.Measuring.{MeasuredTo, Opened}
 pub use Rattle.signal_commands.specs.Margins.Words.{MarginNames, inputs_of}

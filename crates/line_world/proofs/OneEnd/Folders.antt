@@ -1,9 +1,7 @@
 -- What the steps of a turn leave of the folder, in a row.
-use Rattle.line_world.proofs.Cited.{arith, ◌≡◌, ℕ, ◌≤◌, List, [], ◌∷◌, length, take, IsTrue, sym, ◌∙◌, ap, subst, Result, Err, IsErrOf}
-use Rattle.line_world.proofs.Cited.{fault_of, IsReading, PeerNames, StaysKnown, FaultCounts, file_at, ReadsOn, SingleFault, Account}
-use Rattle.line_world.proofs.Cited.{OnlyPuts-one, SomeRose-earlier, told_later, octets-kept, FaultsStand-trans, CountsStand-trans}
-use Rattle.line_world.proofs.Cited.{FolderState, KeepsName, OnlyWrites, FaultsStand, CountsStand, HasCause, Rose, AreApartFrom, OnlyPuts}
-use Rattle.line_world.proofs.Cited.{FolderFault}
+use Rattle.line_world.proofs.Cited.{arith, ℕ, ◌≤◌, List, [], ◌∷◌, length, Result, Err, IsErrOf, fault_of, IsReading, PeerNames, StaysKnown}
+use Rattle.line_world.proofs.Cited.{FaultCounts, ReadsOn, SingleFault, Account, OnlyPuts-one, FolderState, OnlyWrites, FaultsStand}
+use Rattle.line_world.proofs.Cited.{CountsStand, HasCause, AreApartFrom, OnlyPuts, FolderFault}
 use Rattle.outside_calls.specs.declared.folder.FolderFault.TheVariants as folder
 use Rattle.line_world.specs.declared.one_end.step.SingleFault.TheVariants as faults
 use Rattle.line_world.specs.OneEnd.Single.{file_limit, inputs_of, outputs_of}
@@ -42,7 +40,7 @@ read-counts a b n q3 h = grind (arith)
 
 -- where a call that writes one name is not done
 pub write-fault : (fault : FolderFault) → IsWriting (fault_of faults.WriteFault faults.NoMemory fault)
-write-fault q0 = grind (arith)
+write-fault fault = grind (arith)
 
 pub write-fault-counts : (a b : FolderState) (name : List ℕ) (fault : FolderFault)
     → HasCause (a.write_faults name) (b.write_faults name) a.refusals b.refusals (answer fault)
@@ -52,7 +50,7 @@ write-fault-counts a b name q3 cause spared = grind (arith)
 
 -- or one that reads one
 pub read-fault : (fault : FolderFault) → IsReading (fault_of faults.ReadFault faults.NoMemory fault)
-read-fault q0 = grind (arith)
+read-fault fault = grind (arith)
 
 pub read-fault-counts : (a b : FolderState) (name : List ℕ) (fault : FolderFault)
     → HasCause (a.read_faults name) (b.read_faults name) a.refusals b.refusals (answer fault)
@@ -63,44 +61,16 @@ read-fault-counts a b name q3 cause spared = grind (arith)
 -- a fault behind steps that counted nothing
 pub counts-later : (a b c : FolderState) (inputs outputs : List (List ℕ)) (fault : SingleFault) → CountsStand a b
     → FaultCounts b c inputs outputs fault → FaultCounts a c inputs outputs fault
-counts-later a b c inputs outputs faults.ReadFault s h = SomeRose-earlier _ _ _ inputs s.faults.reads h
-counts-later a b c inputs outputs faults.WriteFault s h = SomeRose-earlier _ _ _ outputs s.faults.writes h
-counts-later a b c inputs outputs faults.NoMemory s h = (FaultsStand-trans s.faults h.0, subst (λ x. Rose x c.refusals) s.refusals h.1)
-counts-later a b c inputs outputs (faults.Link fault) s h = CountsStand-trans s h
+counts-later a b c inputs outputs fault s h = grind (arith)
 
 -- ---- which file is known
-
-file-kept : (a b : FolderState) (n : PeerNames) → IsApart n → OnlyPuts a b (outputs_of n) → KeepsName a b n.file
-file-kept a b n apart p = p.names n.file (λ e. apart.1.0.0 (sym e), (λ e. apart.1.1.0.0 (sym e), tt))
-
-file-told : (a b : FolderState) (n : PeerNames) → IsApart n → OnlyPuts a b (outputs_of n) → IsTrue (b.tells n.file)
-    → file_at b n.file file_limit ≡ file_at a n.file file_limit
-file-told a b n apart p tells =
-    ap (take file_limit) (octets-kept a b n.file (file-kept a b n apart p) (subst IsTrue (p.goes_on.tells n.file) tells))
 
 -- where nothing more was read it is the same
 pub stays-known : (a b : FolderState) (n : PeerNames) (file : List ℕ) → IsApart n → OnlyPuts a b (outputs_of n) → length file ≤ file_limit
     → StaysKnown a b n.file file file
-stays-known a b n file apart p within = record {
-  within = within;
-  known = λ k. record {
-    within = within;
-    told = λ tells. k.told (subst IsTrue (p.goes_on.tells n.file) tells)
-        ∙ sym (file-told a b n apart p tells);
-  };
-}
+stays-known a b n file apart p within = grind (arith)
 
 -- else what was read
 pub others-known : (a b c : FolderState) (n : PeerNames) (file others : List ℕ) (now : Account) → IsApart n → OnlyPuts a b (outputs_of n)
-    → OnlyPuts a c (outputs_of n) → ReadsOn b n.file file_limit file now others
-    → StaysKnown a c n.file file others
-others-known a b c n file others now apart p q r = record {
-  within = r.within;
-  known = λ k. record {
-    within = r.within;
-    told = λ tells.
-        let here : IsTrue (a.tells n.file) = subst IsTrue (q.goes_on.tells n.file) tells in
-        let there : IsTrue (b.tells n.file) = told_later p.goes_on n.file here in
-        r.told there (k.told here ∙ sym (file-told a b n apart p there)) ∙ k.told here ∙ sym (file-told a c n apart q tells);
-  };
-}
+    → OnlyPuts a c (outputs_of n) → ReadsOn b n.file file_limit file now others → StaysKnown a c n.file file others
+others-known a b c n file others now apart p q r = grind (arith)

@@ -6,7 +6,6 @@ use Rattle.line_world.proofs.Cited.{bits_of, Sixteen, SpellsFrame, Arrived, Fram
 use Rattle.line_world.proofs.Cited.{filled, slot_octets, Role}
 use Rattle.std.proofs.Common.{◌/◌}
 use Rattle.std.proofs.Common.{bit_and}
-use Rattle.std.proofs.Common.{replicate}
 use Rattle.std.specs.Option.{option_map_or}
 use Rattle.std.proofs.lemmas.Nat.{and_mask}
 use Rattle.std.proofs.lemmas.List.{nil_from_length}
@@ -22,16 +21,11 @@ use Rattle.lapm_frames.specs.declared.arrived.Arrived.TheVariants as arrivals
 
 -- no frame has no octets
 no-frame : (peer : Role) (frame : Frame) → SpellsFrame Sixteen peer 0 [] frame → ⊥
-no-frame peer frame s = none (s.passes.whole_is ∙ ap (λ o. o ++ s.passes.check_octets) s.spelling.1)
-  where
-    none : {x : ℕ} {xs : List ℕ} → [] ≡ x ∷ xs → ⊥
-    none e = absurd cc
+no-frame peer frame s = grind (arith)
 
 pub frame-ends : (peer : Role) (bits : List Bool) (octets : List ℕ) (frame : Frame) → IsLent bits octets
     → SpellsFrame Sixteen peer 0 octets frame → EndsWith peer bits (arrivals.Frame frame)
-frame-ends peer bits octets frame (inl e) s = (octets, e, s)
-frame-ends peer bits octets frame (inr none) s =
-    absurd (no-frame peer frame (subst (λ (o : List ℕ). SpellsFrame Sixteen peer 0 o frame) none.0 s))
+frame-ends peer bits octets frame given s = grind (arith)
 
 pub nothing-ends : (peer : Role) (bits : List Bool) (octets : List ℕ) → ((b : List Bool) (o : List ℕ) → IsLent b o → o ≡ lent_of b)
     → ((seen : Seen) → EndsPattern seen bits → ⊥)
@@ -74,16 +68,12 @@ first-now peer earlier bits bit a before now = record { quiet = bits; last = bit
 -- what was heard stays, where nothing ends with the next bit
 pub heard-still : (peer : Role) (earlier bits : List Bool) (bit : Bool) (heard : Arrived) → IsHeard peer earlier bits heard
     → IsQuiet peer (earlier ++ bits ++ bit ∷ []) → IsHeard peer earlier (bits ++ bit ∷ []) heard
-heard-still peer earlier bits bit arrivals.Nothing h e = quiet-more peer earlier bits bit h e
-heard-still peer earlier bits bit (arrivals.Pattern seen) h e = first-more peer earlier bits bit (arrivals.Pattern seen) h
-heard-still peer earlier bits bit (arrivals.Frame frame) h e = first-more peer earlier bits bit (arrivals.Frame frame) h
+heard-still peer earlier bits bit heard h e = grind (arith, quiet-more, first-more)
 
 -- and where it isn't nothing, whatever ends there
 pub heard-before : (peer : Role) (earlier bits : List Bool) (bit : Bool) (heard : Arrived) → (heard ≡ arrivals.Nothing → ⊥)
     → IsHeard peer earlier bits heard → IsHeard peer earlier (bits ++ bit ∷ []) heard
-heard-before peer earlier bits bit arrivals.Nothing some h = absurd (some refl)
-heard-before peer earlier bits bit (arrivals.Pattern seen) some h = first-more peer earlier bits bit (arrivals.Pattern seen) h
-heard-before peer earlier bits bit (arrivals.Frame frame) some h = first-more peer earlier bits bit (arrivals.Frame frame) h
+heard-before peer earlier bits bit heard some h = grind (arith, first-more)
 
 -- ---- what is heard of bits with which nothing ends
 
@@ -144,8 +134,7 @@ pub heard-quiet : SightLaws → (peer : Role) (earlier bits more : List Bool) (h
     → pieces_of ((earlier ++ bits) ++ more) ≡ pieces_of (earlier ++ bits)
     → sights_of ((earlier ++ bits) ++ more) ≡ sights_of (earlier ++ bits)
     → IsHeard peer earlier bits heard → IsHeard peer earlier (bits ++ more) heard
-heard-quiet laws peer earlier bits [] heard pieces sights h = subst (λ (b : List Bool). IsHeard peer earlier b heard) (sym
-    (append-nil bits)) h
+heard-quiet laws peer earlier bits [] heard pieces sights h = grind (arith, append-nil)
 heard-quiet laws peer earlier bits (bit ∷ more) heard pieces sights h =
     let same : (earlier ++ bits) ++ bit ∷ [] ≡ earlier ++ (bits ++ bit ∷ []) = append_assoc earlier bits (bit ∷ []) in
     let piece = no-piece (earlier ++ bits) bit more pieces in
@@ -174,13 +163,7 @@ octet-more bits octets i h =
     ∙ ap (λ xs. bits ++ xs) (sym (bits_of-snoc (take i octets) (get_or octets i 0)) ∙ sym (ap bits_of (take_more octets i 0 h)))
 
 pub filled-length : (slot : List ℕ) → length slot ≤ slot_octets → length (filled slot) ≡ slot_octets
-filled-length slot short =
-    omega (
-      arith,
-      length-append slot (replicate (slot_octets - length slot) 0xff),
-      length-replicate {A = ℕ}
-          (slot_octets - length slot) 0xff,
-    )
+filled-length slot short = grind (arith, length-append, length-replicate)
 
 pub append-again : (a b d : List Bool) → (a ++ b) ++ d ≡ a ++ (b ++ d)
 append-again a b d = append_assoc a b d

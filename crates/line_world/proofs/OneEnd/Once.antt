@@ -4,15 +4,14 @@ use Rattle.line_world.proofs.Cited.{Option, Some, None, Result, Ok, Err, refl, s
 use Rattle.line_world.proofs.Cited.{take-append_seam, false≢true, cases_lt, take-append-le, length-replicate, concat, lent_of, IsLent}
 use Rattle.line_world.proofs.Cited.{EndsPattern, Check, Sixteen, SpellsFrame, Arrived, Frame, Seen, EndsWith, IsQuiet, AreQuiet, IsFirst}
 use Rattle.line_world.proofs.Cited.{stream, slot_bits, IsPeers, Past, Going, Closed, Broken, party_of, Account, given_break, hear, Said}
-use Rattle.line_world.proofs.Cited.{LoneTurn, hangs_up, lone_served, deliveries, speaks_alone, has_finished, Spoken, spoken, other}
-use Rattle.line_world.proofs.Cited.{LinkFault, Role}
+use Rattle.line_world.proofs.Cited.{LoneTurn, hangs_up, lone_served, deliveries, speaks_alone, has_finished, spoken, other, LinkFault, Role}
 use Rattle.std.proofs.lemmas.List.{get_or-append_right}
 use Rattle.bit_stuffing.specs.Flags.{FlagEndsAt}
 use Rattle.bit_stuffing.specs.Pieces.{EndsWhole}
 use Rattle.detection.specs.Patterns.{first, second, ones}
 use Rattle.lapm_frames.specs.declared.arrived.Arrived.TheVariants as arrivals
 use Rattle.link_run.specs.Run.{Party}
-use Rattle.link_run.specs.Alone.{LoneRun, LoneBroken, OneLoneRun}
+use Rattle.link_run.specs.Alone.{LoneBroken, OneLoneRun}
 use Rattle.line_world.specs.OneEnd.Peer.{TurnIs, Outcome, HearsSlots}
 use Rattle.line_world.specs.OneEnd.Laws.{OneIsHeard, OnePeerRun, OnePeerTurn, HearingBreaks, PeersFaultsAreHeard, OtherFaultsAreWants}
 use Rattle.line_world.proofs.OneEnd.Breaking.{hears-peers, speaks-wants}
@@ -20,14 +19,10 @@ use Rattle.line_world.proofs.OneEnd.Breaking.{hears-peers, speaks-wants}
 -- ---- what ends with one bit
 
 flag-last : (bits : List Bool) → FlagEndsAt bits (length bits) → get_or bits (length bits - 1) false ≡ false
-flag-last bits f =
-    let place : length bits - 1 ≡ length bits - 8 + 7 = omega (arith, f.room) in
-    ap (λ i. get_or bits i false) place ∙ f.spelled 7 (omega arith)
+flag-last bits f = grind (arith)
 
 ones-last : (front : List Bool) (place : ℕ) → place ≡ length front + 7 → get_or (front ++ ones 8) place false ≡ true
-ones-last front place e =
-    let seven : place - length front ≡ 7 = omega (arith, e) in
-    get_or-append_right front (ones 8) (length front) place false refl (omega (arith, e)) ∙ ap (λ i. get_or (ones 8) i false) seven
+ones-last front place e = grind (arith, get_or-append_right)
 
 pattern-last : (seen : Seen) (bits : List Bool) → EndsPattern seen bits → get_or bits (length bits - 1) false ≡ true
 pattern-last seen bits p =
@@ -79,10 +74,7 @@ first-within peer earlier bits a f = omega (arith, ap length f.bits_are, length-
 
 quiet-before : (peer : Role) (earlier bits : List Bool) (a : Arrived) (f : IsFirst peer earlier bits a) (n : ℕ) → n < length f.quiet
     → IsQuiet peer (earlier ++ take (n + 1) bits)
-quiet-before peer earlier bits a f n less =
-    let upto : take (n + 1) bits ≡ take (n + 1) f.quiet =
-    ap (take (n + 1)) f.bits_are ∙ take-append-le (n + 1) f.quiet (f.last ∷ f.rest) (omega (arith, less)) in
-    subst (λ (b : List Bool). IsQuiet peer (earlier ++ b)) (sym upto) (f.before n less)
+quiet-before peer earlier bits a f n less = grind (arith, take-append-le)
 
 one-first : EarLaws → (peer : Role) (earlier bits : List Bool) (a b : Arrived) → IsFirst peer earlier bits a → IsFirst peer earlier bits b
     → a ≡ b
@@ -102,25 +94,12 @@ never-quiet : (peer : Role) (earlier bits : List Bool) (a : Arrived) → AreQuie
 never-quiet peer earlier bits a q f = q (length f.quiet) (first-within peer earlier bits a f) a (first-here peer earlier bits a f)
 
 pub one-heard : EarLaws → OneIsHeard
-one-heard laws peer earlier bits arrivals.Nothing arrivals.Nothing h k = refl
-one-heard laws peer earlier bits arrivals.Nothing (arrivals.Pattern t) h k = absurd (never-quiet peer earlier bits (arrivals.Pattern t) h k)
-one-heard laws peer earlier bits arrivals.Nothing (arrivals.Frame g) h k = absurd (never-quiet peer earlier bits (arrivals.Frame g) h k)
-one-heard laws peer earlier bits (arrivals.Pattern s) arrivals.Nothing h k = absurd (never-quiet peer earlier bits (arrivals.Pattern s) k h)
-one-heard laws peer earlier bits (arrivals.Frame f) arrivals.Nothing h k = absurd (never-quiet peer earlier bits (arrivals.Frame f) k h)
-one-heard laws peer earlier bits (arrivals.Pattern s) (arrivals.Pattern t) h k =
-    one-first laws peer earlier bits (arrivals.Pattern s) (arrivals.Pattern t) h k
-one-heard laws peer earlier bits (arrivals.Pattern s) (arrivals.Frame g) h k =
-    one-first laws peer earlier bits (arrivals.Pattern s) (arrivals.Frame g) h k
-one-heard laws peer earlier bits (arrivals.Frame f) (arrivals.Pattern t) h k =
-    one-first laws peer earlier bits (arrivals.Frame f) (arrivals.Pattern t) h k
-one-heard laws peer earlier bits (arrivals.Frame f) (arrivals.Frame g) h k =
-    one-first laws peer earlier bits (arrivals.Frame f) (arrivals.Frame g) h k
+one-heard laws peer earlier bits given given2 h k = grind (arith, never-quiet, one-first)
 
 -- ---- the turns so far
 
 same-arrived : OneIsHeard → (peer : Role) (slots : List (List ℕ)) (ts us : List LoneTurn) → HearsSlots peer slots ts
-    → HearsSlots peer slots us
-    → map (λ (t : LoneTurn). t.arrived) ts ≡ map (λ (t : LoneTurn). t.arrived) us
+    → HearsSlots peer slots us → map (λ (t : LoneTurn). t.arrived) ts ≡ map (λ (t : LoneTurn). t.arrived) us
 same-arrived one peer [] [] [] h k = refl
 same-arrived one peer [] [] (u ∷ us) h k = absurd k
 same-arrived one peer [] (t ∷ ts) us h k = absurd h
@@ -131,16 +110,7 @@ same-arrived one peer (slot ∷ slots) (t ∷ ts) (u ∷ us) h k =
     ∙ ap (λ l. u.arrived ∷ l) (same-arrived one peer slots ts us h.1 k.1)
 
 pub one-run : OneIsHeard → OneLoneRun → OnePeerRun
-one-run one lone role p q h k file slots =
-    let heard = same-arrived one (other role) q.slots p.turns q.turns
-    (subst (λ (s : List (List ℕ)). HearsSlots (other role) s p.turns) slots h.hears) k.hears in
-    let run : LoneRun (party_of role q.file) p.turns p.account =
-    subst (λ (f : List ℕ). LoneRun (party_of role f) p.turns p.account) file h.run in
-    let same = lone (party_of role q.file) p.turns q.turns p.account q.account run k.run heard in
-    ap (λ z. record { file = z; slots = p.slots; turns = p.turns; account = p.account }) file
-    ∙ ap (λ z. record { file = q.file; slots = z; turns = p.turns; account = p.account }) slots
-    ∙ ap (λ z. record { file = q.file; slots = q.slots; turns = z; account = p.account }) same.0
-    ∙ ap (λ z. record { file = q.file; slots = q.slots; turns = q.turns; account = z }) same.1
+one-run one lone role p q h k file slots = grind (arith, same-arrived)
 
 -- ---- the next turn, as a function of what arrives
 
@@ -173,52 +143,20 @@ heard party n arrived (Err fault) = record { turn = silent arrived None; octets 
 abbrev made-of : Party → ℕ → Account → Arrived → Made
 made-of party n a arrived = heard party n arrived (hear n arrived a)
 
-same-turn : (t : LoneTurn) (sent : Option Spoken) (given : Option ℕ) → t.sent ≡ sent → t.given ≡ given
-    → t ≡ record { arrived = t.arrived; sent = sent; given = given }
-same-turn t sent given e f =
-    ap (λ z. record { arrived = t.arrived; sent = z; given = t.given }) e
-    ∙ ap (λ z. record { arrived = t.arrived; sent = sent; given = z }) f
-
 abbrev made : LoneTurn → List ℕ → Outcome → Made
 made turn octets outcome = record { turn = turn; octets = octets; outcome = outcome }
 
-same-made : (t u : LoneTurn) (octets others : List ℕ) (outcome : Outcome) → t ≡ u → octets ≡ others
-    → made t octets outcome ≡ made u others outcome
-same-made t u octets others outcome e f = ap (λ z. made z octets outcome) e ∙ ap (λ z. made u z outcome) f
-
 made-so : (party : Party) (ts : List LoneTurn) (a : Account) (t : LoneTurn) (octets : List ℕ) (outcome : Outcome)
-    → TurnIs party ts a t octets outcome
-    → made t octets outcome ≡ made-of party (length ts) a t.arrived
-made-so party ts a t octets Going (after, g, e) =
-    same-made t _ octets _ Going (same-turn t (Some (spoken g.said)) (given_break g.mid) g.sent g.given) e
-    ∙ sym (ap (spoke t.arrived g.mid) g.says) ∙ sym (ap (served party (length ts) t.arrived g.mid) g.going)
-    ∙ sym (ap (heard party (length ts) t.arrived) g.hears)
-made-so party ts a t octets Closed (mid, l, e) =
-    same-made t _ octets _ Closed (same-turn t None (given_break mid) l.sent l.given) e
-    ∙ sym (ap (served party (length ts) t.arrived mid) l.closed) ∙ sym (ap (heard party (length ts) t.arrived) l.hears)
-made-so party ts a t octets (Broken fault) (inl (f, e)) =
-    same-made t _ octets _ (Broken fault) (same-turn t None None f.sent f.given) e ∙ sym (ap (heard party (length ts) t.arrived) f.hears)
-made-so party ts a t octets (Broken fault) (inr (mid, b, e)) =
-    same-made t _ octets _ (Broken fault) (same-turn t None (given_break mid) b.sent b.given) e
-    ∙ sym (ap (spoke t.arrived mid) b.says) ∙ sym (ap (served party (length ts) t.arrived mid) b.going)
-    ∙ sym (ap (heard party (length ts) t.arrived) b.hears)
+    → TurnIs party ts a t octets outcome → made t octets outcome ≡ made-of party (length ts) a t.arrived
+made-so party ts a t octets outcome given = grind (arith)
 
 pub one-turn : OneIsHeard → OnePeerTurn
-one-turn one role p slot t u octets others outcome other-outcome h k =
-    let arrived : t.arrived ≡ u.arrived = one (other role) (stream p.slots) (slot_bits slot) t.arrived u.arrived h.hears k.hears in
-    let party : Party = party_of role p.file in
-    let same = made-so party p.turns p.account t octets outcome h.is ∙ ap (made-of party (length p.turns) p.account) arrived
-    ∙ sym (made-so party p.turns p.account u others other-outcome k.is) in
-    (ap (λ (m : Made). m.turn) same, ap (λ (m : Made). m.octets) same, ap (λ (m : Made). m.outcome) same)
+one-turn one role p slot t u octets others outcome other-outcome h k = grind (arith, made-so)
 
 -- ---- when an end gives its link up
 
 pub hearing-breaks : HearingBreaks
-hearing-breaks role p slot t octets outcome fault h e = (
-  ap (λ (m : Made). m.outcome) (made-so (party_of role p.file) p.turns p.account t octets outcome h.is)
-      ∙ ap (λ r. (heard (party_of role p.file) (length p.turns) t.arrived r).outcome) e,
-  hears-peers (length p.turns) t.arrived p.account fault e,
-)
+hearing-breaks role p slot t octets outcome fault h e = grind (arith, hears-peers)
 
 wants-by : (role : Role) (p : Past) (t : LoneTurn) (mid : Account) (fault : LinkFault)
     → LoneBroken (party_of role p.file) p.turns p.account t mid fault → IsPeers fault → ⊥
@@ -233,7 +171,4 @@ peers-heard role p slot t octets fault h peers = elim h.is [
 ]
 
 pub others-wants : OtherFaultsAreWants
-others-wants role p slot t octets fault h none = elim h.is [
-  | inl f ↦ absurd (none (hears-peers (length p.turns) t.arrived p.account fault f.0.hears))
-  | inr b ↦ (b.0, b.1)
-]
+others-wants role p slot t octets fault h none = grind (arith, hears-peers)

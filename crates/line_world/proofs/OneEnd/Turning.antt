@@ -1,12 +1,11 @@
 -- The steps of a turn.
-use Rattle.line_world.proofs.Cited.{◌≡◌, inl, inr, ◌∙◌, ℕ, zero, suc, ◌+◌, ◌≤◌, Bool, true, false, cond, not, ◌&&◌, ◌||◌, List, [], ◌∷◌}
-use Rattle.line_world.proofs.Cited.{length, refl, sym, ap, subst, arith, Option, Some, None, Result, Ok, Err, false≢true, concat}
-use Rattle.line_world.proofs.Cited.{option_map, slice_get, HasHeard, Arrived, Sent, trace_line, IsHeard, stream, slot_bits, IsReading}
-use Rattle.line_world.proofs.Cited.{handed, served_with, Past, Going, Closed, Broken, party_of, over, PeerNames, StaysKnown, EndsBy, Stands}
-use Rattle.line_world.proofs.Cited.{HearsAs, SpeaksAs, Supplies, SingleFault, Station, Account, is_connected, is_done, break_waits}
-use Rattle.line_world.proofs.Cited.{given_break, after_given, hear, Said, speak, Setup, LoneTurn, hangs_up, lone_served, BreakLine}
-use Rattle.line_world.proofs.Cited.{deliveries, asked_at, is_closed, is_ready, has_finished, speaks_alone, spoken, KeepsEach-refl}
-use Rattle.line_world.proofs.Cited.{AddEach-next, AddPart-next, AddPart-none, GoesOn-refl, FolderState, GoesOn, OnlyWrites, Adds, Appended}
+use Rattle.line_world.proofs.Cited.{◌≡◌, inl, inr, ◌∙◌, ℕ, ◌+◌, ◌≤◌, Bool, true, false, not, ◌&&◌, ◌||◌, List, [], ◌∷◌, length, refl, sym}
+use Rattle.line_world.proofs.Cited.{ap, subst, arith, Option, Some, None, Result, Ok, Err, false≢true, concat, option_map, HasHeard}
+use Rattle.line_world.proofs.Cited.{Arrived, Sent, trace_line, IsHeard, stream, slot_bits, IsReading, handed, served_with, Past, Going}
+use Rattle.line_world.proofs.Cited.{Closed, Broken, party_of, over, PeerNames, StaysKnown, EndsBy, Stands, HearsAs, SpeaksAs, Supplies}
+use Rattle.line_world.proofs.Cited.{SingleFault, Station, Account, is_done, break_waits, given_break, hear, Said, speak, Setup, LoneTurn}
+use Rattle.line_world.proofs.Cited.{hangs_up, lone_served, deliveries, is_closed, is_ready, speaks_alone, spoken, AddEach-next}
+use Rattle.line_world.proofs.Cited.{AddPart-next, AddPart-none, GoesOn-refl, FolderState, GoesOn, OnlyWrites, Adds, Appended}
 use Rattle.line_world.proofs.Cited.{PartlyAppended, OnlyPuts, AddEach, is_originator, other, LinkFault, Role, Originator, Answerer}
 use Rattle.line_world.proofs.Cited.{IsAllowed}
 use Rattle.std.specs.Prelude.{is_ok}
@@ -26,23 +25,10 @@ use Rattle.line_world.specs.declared.one_end.step.SingleStep.TheVariants as step
 -- ---- the end
 
 pub allowed : IsAllowed default_offer
-allowed = record {
-  tx_len_low = omega arith;
-  tx_len_high = omega arith;
-  rx_len_low = omega arith;
-  rx_len_high = omega arith;
-  tx_window_low = omega arith;
-  tx_window_high = omega arith;
-  rx_window_low = omega arith;
-  rx_window_high = omega arith;
-}
+allowed = grind (arith)
 
 phase-handed : (mid : Account) → (handed mid).phase ≡ mid.phase
-phase-handed mid = go (is_connected mid.phase)
-  where
-    go : (b : Bool) → (after_given
-        (cond b (record mid { incoming = record mid.incoming { given = length mid.incoming.taken } }) mid)).phase ≡ mid.phase
-    go q0 = grind (arith)
+phase-handed mid = grind (arith)
 
 role-kept : LoneRunsKeepTheirSetup → (s : Single) (p : Past) (slot : List ℕ) (arrived : Arrived) (mid now : Account)
     → InTurn s p slot arrived mid now → is_originator mid.setup.role ≡ is_originator s.role
@@ -50,15 +36,13 @@ role-kept law s p slot arrived mid now h =
     ap (λ (x : Setup). is_originator x.role) (law (party_of s.role p.file) p.turns p.account arrived mid h.run.run h.hears)
 
 pub hangs-originator : LoneRunsKeepTheirSetup → (s : Single) (p : Past) (slot : List ℕ) (arrived : Arrived) (mid : Account) (closed : Bool)
-    → InTurn s p slot arrived mid (handed mid)
-    → s.role ≡ Originator → closed ≡ is_closed (handed mid).phase → closed ≡ hangs_up mid
+    → InTurn s p slot arrived mid (handed mid) → s.role ≡ Originator → closed ≡ is_closed (handed mid).phase → closed ≡ hangs_up mid
 hangs-originator law s p slot arrived mid closed h role e =
     let is : is_originator mid.setup.role ≡ true = role-kept law s p slot arrived mid (handed mid) h ∙ ap is_originator role in
     e ∙ ap is_closed (phase-handed mid) ∙ sym (ap (λ (b : Bool). b && is_closed mid.phase) is)
 
 pub hangs-answerer : LoneRunsKeepTheirSetup → (s : Single) (p : Past) (slot : List ℕ) (arrived : Arrived) (mid : Account)
-    → InTurn s p slot arrived mid (handed mid)
-    → s.role ≡ Answerer → false ≡ hangs_up mid
+    → InTurn s p slot arrived mid (handed mid) → s.role ≡ Answerer → false ≡ hangs_up mid
 hangs-answerer law s p slot arrived mid h role =
     let is : is_originator mid.setup.role ≡ false = role-kept law s p slot arrived mid (handed mid) h ∙ ap is_originator role in
     sym (ap (λ (b : Bool). b && is_closed mid.phase) is)
@@ -69,8 +53,7 @@ hangs-answerer law s p slot arrived mid h role =
 pub reads-on : LoneRunsByWhatIsReadOn
     → (s t : Single) (f : FolderState) (name : List ℕ) (p : Past) (slot : List ℕ) (arrived : Arrived) (mid : Account) (now : Station)
     → InTurn s p slot arrived mid (handed mid) → (e : Supplies f name file_limit p.file (handed mid) now) → t.role ≡ s.role → t.ear ≡ s.ear
-    → t.turn ≡ s.turn
-    → Stands t.station e.others (served_with e.others mid) → Serves t f name p slot arrived mid
+    → t.turn ≡ s.turn → Stands t.station e.others (served_with e.others mid) → Serves t f name p slot arrived mid
 reads-on law s t f name p slot arrived mid now h e role ear turn stands = record {
   others = e.others;
   reads = e.reads_on;
@@ -92,20 +75,6 @@ reads-on law s t f name p slot arrived mid now h e role ear turn stands = record
 
 -- ---- the end as it is to speak
 
-abbrev no-breaks : List BreakLine
-no-breaks = []
-
-no-break : (n : ℕ) → slice_get no-breaks n ≡ None
-no-break zero = refl
-no-break (suc n) = refl
-
-asks-none : (turn taken : ℕ) (a : Account) → asked_at turn (slice_get no-breaks taken) a ≡ a
-asks-none turn taken a = ap (λ o. asked_at turn o a) (no-break taken)
-
-lone-account : (role : Role) (file : List ℕ) (turn : ℕ) (mid : Account)
-    → (lone_served (party_of role file) turn mid).account ≡ served_with file mid
-lone-account role file turn mid = asks-none turn (length (served_with file mid).own_breaks.lengths) (served_with file mid)
-
 -- whether it needs the link no more
 abbrev pub finishes : ℕ → Account → Bool
 finishes turn a = is_done a && not (break_waits a || is_ready turn None)
@@ -113,10 +82,7 @@ finishes turn a = is_done a && not (break_waits a || is_ready turn None)
 says-so : (role : Role) (file : List ℕ) (turn : ℕ) (mid : Account)
     → speaks_alone (party_of role file).user turn (lone_served (party_of role file) turn mid) ≡ speak turn
     (finishes turn (served_with file mid)) (served_with file mid)
-says-so role file turn mid =
-    ap (λ (a : Account). speak turn (has_finished (party_of role file).user turn a) a) (lone-account role file turn mid)
-    ∙ ap (λ o. speak turn (is_done (served_with file mid) && not (break_waits (served_with file mid) || is_ready turn o))
-    (served_with file mid)) (no-break (length (served_with file mid).own_breaks.lengths))
+says-so role file turn mid = grind (arith)
 
 -- ---- what becomes of the turn
 
@@ -138,40 +104,19 @@ abbrev pub silent-turn : Arrived → Option ℕ → LoneTurn
 silent-turn arrived given = record { arrived = arrived; sent = None; given = given }
 
 pub broken : (s : Single) (p : Past) (slot : List ℕ) (arrived : Arrived) (mid : Account) (given : Option ℕ) (fault : LinkFault)
-    → InTurn s p slot arrived mid (served_with p.file mid)
-    → hangs_up mid ≡ false → given ≡ given_break mid
+    → InTurn s p slot arrived mid (served_with p.file mid) → hangs_up mid ≡ false → given ≡ given_break mid
     → speak s.turn (finishes s.turn (served_with p.file mid)) (served_with p.file mid) ≡ Err fault
     → PeerTurn s.role p slot (silent-turn arrived given) (concat (deliveries mid)) (Broken fault)
-broken s p slot arrived mid given fault h up g e = record {
-  run = h.run;
-  hears = h.heard;
-  is = inr (
-    mid,
-    record {
-      hears = h.hears;
-      going = up;
-      says = says-so s.role p.file (length p.turns) mid
-          ∙ subst (λ n. speak n (finishes n (served_with p.file mid)) (served_with p.file mid) ≡ Err fault) h.turn e;
-      sent = refl;
-      given = g;
-    },
-    refl,
-  );
-}
+broken s p slot arrived mid given fault h up g e = grind (arith)
 
 pub closing : (s : Single) (p : Past) (slot : List ℕ) (arrived : Arrived) (mid now : Account) (given : Option ℕ)
     → InTurn s p slot arrived mid now → hangs_up mid ≡ true → given ≡ given_break mid
     → PeerTurn s.role p slot (silent-turn arrived given) (concat (deliveries mid)) Closed
-closing s p slot arrived mid now given h up g = record {
-  run = h.run;
-  hears = h.heard;
-  is = (mid, record { hears = h.hears; closed = up; sent = refl; given = g }, refl);
-}
+closing s p slot arrived mid now given h up g = grind (arith)
 
 pub breaking-off : (s : Single) (p : Past) (slot : List ℕ) (arrived : Arrived) (fault : LinkFault) → BreaksOff s p slot arrived fault
     → PeerTurn s.role p slot (silent-turn arrived None) [] (Broken fault)
-breaking-off s p slot arrived fault b =
-    record { run = b.run; hears = b.heard; is = inl (record { hears = b.hears; sent = refl; given = refl }, refl) }
+breaking-off s p slot arrived fault b = grind (arith)
 
 -- whatever it comes to, there is such a turn
 pub record Comes (party-role : Role) (p : Past) (slot : List ℕ) (arrived : Arrived) (octets : List ℕ) : Type 0 where
@@ -222,33 +167,21 @@ comes law s p slot arrived mid now h = by (law (party_of s.role p.file) p.turns 
 pub line-is : (s : Single) (p : Past) (t : LoneTurn) (sent : Option Sent) → s.turn ≡ length p.turns
     → sent ≡ option_map (λ slot. slot.sent) t.sent
     → trace_line s.turn s.role (heard_as t.arrived) sent t.given ≡ turn_line s.role (length p.turns) t
-line-is s p t sent e f =
-    ap (λ n. trace_line n s.role (heard_as t.arrived) sent t.given) e
-    ∙ ap (λ o. trace_line (length p.turns) s.role (heard_as t.arrived) o t.given) f
+line-is s p t sent e f = grind (arith)
 
 pub ends-part : (s : Single) (old new : FolderState) (trace : List ℕ) (p : Past) (slot octets : List ℕ) (fault : SingleFault)
-    → IsWriting fault → AddsPart s old new trace p slot octets
-    → EndsLine s old new trace p slot octets fault
+    → IsWriting fault → AddsPart s old new trace p slot octets → EndsLine s old new trace p slot octets fault
 ends-part s old new trace p slot octets other w a = grind (arith)
 
 pub adds-line : (s : Single) (old new : FolderState) (trace : List ℕ) (p : Past) (slot octets : List ℕ) (outcome : Outcome) (t : LoneTurn)
-    (sent : Option Sent) → s.turn ≡ length p.turns
-    → sent ≡ option_map (λ slot. slot.sent) t.sent → PeerTurn s.role p slot t octets outcome
+    (sent : Option Sent) → s.turn ≡ length p.turns → sent ≡ option_map (λ slot. slot.sent) t.sent → PeerTurn s.role p slot t octets outcome
     → Appended old new trace (trace_line s.turn s.role (heard_as t.arrived) sent t.given) → AddsLine s old new trace p slot octets outcome
-adds-line s old new trace p slot octets outcome t sent e f is a =
-    record { turn = t; is = is; line = subst (λ (text : List ℕ). Appended old new trace text) (line-is s p t sent e f) a }
+adds-line s old new trace p slot octets outcome t sent e f is a = grind (arith)
 
 pub adds-part : (s : Single) (old new : FolderState) (trace : List ℕ) (p : Past) (slot octets : List ℕ) (outcome : Outcome) (t : LoneTurn)
-    (sent : Option Sent) → s.turn ≡ length p.turns
-    → sent ≡ option_map (λ slot. slot.sent) t.sent → PeerTurn s.role p slot t octets outcome
+    (sent : Option Sent) → s.turn ≡ length p.turns → sent ≡ option_map (λ slot. slot.sent) t.sent → PeerTurn s.role p slot t octets outcome
     → PartlyAppended old new trace (trace_line s.turn s.role (heard_as t.arrived) sent t.given) → AddsPart s old new trace p slot octets
-adds-part s old new trace p slot octets outcome t sent e f is a =
-    record {
-      outcome = outcome;
-      turn = t;
-      is = is;
-      line = subst (λ (text : List ℕ). PartlyAppended old new trace text) (line-is s p t sent e f) a;
-    }
+adds-part s old new trace p slot octets outcome t sent e f is a = grind (arith)
 
 -- the single end once it has spoken, and once the turn is made
 abbrev pub spoke : Station → Single → Single
@@ -299,8 +232,7 @@ module _ (s : Single) (now : Station) (old new : FolderState) (trace : List ℕ)
   gone-part fault i text =
       ends-part (spoke now s) old new trace p slot (concat (deliveries mid)) fault i
       (adds-part (spoke now s) old new trace p slot (concat (deliveries mid)) Going (going-turn arrived w.said given) (Some sent) h.turn
-      (ap Some w.sent_is)
-      (record { run = h.run; hears = h.heard; is = (w.said.account, going, refl) }) text)
+      (ap Some w.sent_is) (record { run = h.run; hears = h.heard; is = (w.said.account, going, refl) }) text)
 
 -- ---- hearing
 
@@ -350,10 +282,7 @@ module _ (s : Single) (a b z : FolderState) (n : PeerNames) (p : Past) (slot oct
   stopped-so fault i l = writing-ends s.role a z n p slot fault i (stopped l)
 
   pub ended : (fault : SingleFault) → EndsLine s b z n.trace (over others p) slot octets fault → EndsBy s.role a z n p slot fault
-  ended (faults.Link fault) l = made (Broken fault) l
-  ended faults.WriteFault l = stopped l
-  ended faults.NoMemory l = stopped l
-  ended faults.ReadFault l = absurd l
+  ended fault l = grind (arith, made, stopped)
 
   -- the run goes on
   pub gone-on : HasGone s b z n.trace (over others p) slot octets → GoesOnBy s a z n p slot
@@ -371,8 +300,7 @@ module _ (s : Single) (a b z : FolderState) (n : PeerNames) (p : Past) (slot oct
 
 -- nothing is handed over where the end breaks as it hears
 pub broke-off : (s : Single) (a z : FolderState) (n : PeerNames) (p : Past) (slot : List ℕ) (fault : SingleFault) → IsApart n
-    → length p.file ≤ file_limit → OnlyWrites a z n.trace
-    → EndsLine s a z n.trace p slot [] fault → EndsBy s.role a z n p slot fault
+    → length p.file ≤ file_limit → OnlyWrites a z n.trace → EndsLine s a z n.trace p slot [] fault → EndsBy s.role a z n p slot fault
 broke-off s a z n p slot fault apart within w l =
     ended s a a z n p slot [] p.file apart (GoesOn-refl a) (inl (refl, λ told. refl), (λ told. refl, tt)) w
     (stays-known a z n p.file apart (trace-only a z n w) within) fault l
@@ -398,8 +326,7 @@ not-handed law s a b n p slot arrived mid apart within h w part =
 -- the octets are handed over
 pub hands-over : (a b : FolderState) (n : PeerNames) (octets : List ℕ) → IsApart n → OnlyWrites a b n.got → Adds a b n.got octets
     → AddEach a b (outputs_of n) (octets ∷ [])
-hands-over a b n octets apart w adds =
-    AddEach-next a a b [] n.got (n.trace ∷ []) [] octets tt apart.0 (GoesOn-refl a) (KeepsEach-refl a (outputs_of n)) w adds
+hands-over a b n octets apart w adds = grind (arith)
 
 -- or the file isn't read
 pub not-read : EachLoneTurnIsMade
@@ -422,8 +349,7 @@ not-read law s a d n p slot arrived mid now apart within h only adds =
     )
 
 pub reading-ends : (role : Role) (a d : FolderState) (n : PeerNames) (p : Past) (slot : List ℕ) (fault : SingleFault) → IsReading fault
-    → StopsInReading role a d n p slot
-    → EndsBy role a d n p slot fault
+    → StopsInReading role a d n p slot → EndsBy role a d n p slot fault
 reading-ends role a d n p slot other w s = grind (arith)
 
 -- what a fault ends doesn't go on

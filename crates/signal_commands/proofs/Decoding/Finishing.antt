@@ -1,5 +1,5 @@
 -- What a playback gives in the end.
-use Rattle.signal_commands.proofs.Names.{ℕ, Bool, List, ◌++◌, Rate, LabelsJoined, ReadToEnd, trellis_at, DemodulatesAt, Bits, Sample}
+use Rattle.signal_commands.proofs.Names.{arith, ℕ, Bool, List, ◌++◌, Rate, LabelsJoined, ReadToEnd, trellis_at, DemodulatesAt, Bits, Sample}
 use Rattle.exact_decoder.specs.Surviving.Survivors.{IsFirstLeast}
 use Rattle.signal_commands.specs.Decoding.Playing.{Finishes}
 use Rattle.signal_commands.proofs.Decoding.Playings.{whole-joined}
@@ -10,14 +10,4 @@ pub finishes : {D : Type 0} (rate : Rate) (tap : ℕ) (reads : D → List ℕ �
     → ((last : D) (all : List ℕ) (bits : List Bool) → reads last all bits → DemodulatesAt rate tap all bits)
     → IsFirstLeast (trellis_at rate) samples (labels ++ tail) → LabelsJoined reads d waiting labels before
     → (LabelsJoined reads d waiting labels before → ReadToEnd reads (labels ++ tail) octets) → Finishes rate tap samples octets
-finishes rate tap reads d waiting samples labels tail before octets carries least joined to_end =
-    let (last, others, j) = to_end joined in
-    record {
-      labels = labels ++ tail;
-      least = least;
-      carried = record {
-        bits = j.bits;
-        read = carries last (labels ++ tail) j.bits j.read;
-        whole = whole-joined others j.bits octets j.joined;
-      };
-    }
+finishes rate tap reads d waiting samples labels tail before octets carries least joined to_end = grind (arith, whole-joined)

@@ -1,12 +1,11 @@
 -- From every answer to what the command promises.
-use Rattle.signal_commands.proofs.Names.{◌≡◌, ◌⊎◌, ◌∙◌, inl, inr, ℕ, ◌+◌, ◌%◌, List, [], ◌++◌, length, take, drop, Some, None, Result, Ok}
-use Rattle.signal_commands.proofs.Names.{Err, refl, sym, ap, subst, arith, append-nil, option_map, never-longer, never-bad, content-same}
-use Rattle.signal_commands.proofs.Names.{IsDone, refusal-own, last-only, done-of, shared-of, done-unless-memory, Answers, ReadsRecording}
-use Rattle.signal_commands.proofs.Names.{IsRefusal, end_status, RECORDING_LIMIT, Status, Stop, Own, Read, Write, Say, released-is_least}
-use Rattle.signal_commands.proofs.Names.{IsReleased, LostIs, line_depth, HoldsFront-all, KeepsName-trans, FolderState, octets_at, GoesOn}
-use Rattle.signal_commands.proofs.Names.{KeepsName, KeepsAll, HoldsFront, OnlyOutputs, IsBadHeader, samples_in, Rate, tap_of, Mode}
-use Rattle.signal_commands.proofs.Names.{IsPrefixOf, Role, DecodesFront, SampleCut, RecordingLost, EndsOwn, Carries, trellis_at}
-use Rattle.signal_commands.proofs.Names.{DecodeNames, Sample}
+use Rattle.signal_commands.proofs.Names.{◌≡◌, ◌⊎◌, ◌∙◌, inl, inr, ℕ, ◌+◌, List, [], length, take, drop, Some, None, Result, Ok, Err, refl}
+use Rattle.signal_commands.proofs.Names.{sym, ap, subst, arith, append-nil, never-longer, never-bad, content-same, IsDone, refusal-own}
+use Rattle.signal_commands.proofs.Names.{last-only, done-of, shared-of, done-unless-memory, Answers, ReadsRecording, IsRefusal, end_status}
+use Rattle.signal_commands.proofs.Names.{RECORDING_LIMIT, Status, Stop, Own, Read, Write, Say, released-is_least, IsReleased, LostIs}
+use Rattle.signal_commands.proofs.Names.{line_depth, HoldsFront-all, FolderState, octets_at, GoesOn, KeepsName, KeepsAll, HoldsFront}
+use Rattle.signal_commands.proofs.Names.{OnlyOutputs, samples_in, Rate, tap_of, Mode, IsPrefixOf, Role, DecodesFront, SampleCut}
+use Rattle.signal_commands.proofs.Names.{RecordingLost, EndsOwn, Carries, trellis_at, DecodeNames, Sample}
 use Rattle.std.proofs.Common.{take-append-drop}
 use Rattle.std.specs.Bool.{IsTrue}
 use Rattle.outside_calls.proofs.Steps.{told_later}
@@ -18,7 +17,7 @@ use Rattle.command_base.specs.Lines.{octets_line}
 use Rattle.command_base.proofs.Answering.{IsPlain}
 use Rattle.command_base.proofs.Jobs.{last-plain}
 use Rattle.recordings.specs.declared.rate.Rate.TheVariants as rates
-use Rattle.signal_commands.specs.Decoding.Ends.{DecodesAll, HeaderRefused, MayWrite, LeavesPart}
+use Rattle.signal_commands.specs.Decoding.Ends.{HeaderRefused, MayWrite, LeavesPart}
 use Rattle.signal_commands.specs.Decoding.Ends.{Ends, decode_job}
 use Rattle.signal_commands.specs.Decoding.Completes.{IsRecording, Completes}
 use Rattle.signal_commands.specs.Decoding.Headline.{BeginNearest, HoldsBeginning, HoldsWhole, Headline}
@@ -40,27 +39,10 @@ least-nearest rate samples labels h = ([], subst (IsLeast (trellis_at rate) samp
 
 -- what such labels carry, and the output holds the beginning of
 left-nearest : (old before : FolderState) (n : DecodeNames) (mode : Mode) (content : List ℕ) (samples : List Sample)
-    (labels octets : List ℕ)
-    → GoesOn old before → ReadsRecording old n.rec n.rate mode content
+    (labels octets : List ℕ) → GoesOn old before → ReadsRecording old n.rec n.rate mode content
     → IsPrefixOf samples (samples_in content) → BeginNearest n.rate samples labels → Carries n.rate (tap_of mode) labels octets
     → HoldsFront before n.file octets → Left old before n
-left-nearest old before n mode content samples labels octets g reads front nearest carries file =
-    inr (λ rec told. let f = file (told_later g n.file told) in (
-      f.0,
-      f.2,
-      record {
-        mode = mode;
-        content = content;
-        recording_is = reads.read rec;
-        samples = samples;
-        front = front;
-        labels = labels;
-        nearest = nearest;
-        carried = octets;
-        carries = carries;
-        begins = f.1;
-      },
-    ))
+left-nearest old before n mode content samples labels octets g reads front nearest carries file = grind (arith, told_later)
 
 all-of : (content : List ℕ) → IsPrefixOf (samples_in content) (samples_in content)
 all-of content = ([], append-nil (samples_in content))
@@ -130,42 +112,19 @@ left-by old before n (Err NoMemory) g e = inl (e.keeps n.file)
 -- only a recording that is too long is refused
 own-refused : (old before : FolderState) (n : DecodeNames) (answer : Status) → IsRefusal answer → OwnIs old before n answer
     → KeepsAll old before
-own-refused old before n answer r (is_long e keeps longer) = keeps
-own-refused old before n answer r (is_bad at e bad) = absurd (subst IsRefusal e r)
-own-refused old before n answer r (is_lost role symbol e rate lost) = absurd (subst IsRefusal e r)
+own-refused old before n answer r given = grind (arith)
 
 pub refused-by : (old before : FolderState) (n : DecodeNames) (end : Result ℕ Stop) → Ends old before n end → IsRefusal (end_status end)
     → KeepsAll old before
-refused-by old before n end ends =
-    refusal-own end (KeepsAll old before)
-    (λ answer e r. own-refused old before n answer r (own-is old before n answer (subst (Ends old before n) e ends)))
+refused-by old before n end ends = grind (arith, refusal-own, own-refused, own-is)
 
 left-later : (old before new : FolderState) (n : DecodeNames) → GoesOn old before → KeepsName before new n.file → Left old before n
     → Left old new n
-left-later old before new n g k (inl h) = inl (KeepsName-trans old before new n.file g h k)
-left-later old before new n g k (inr h) = inr (λ rec told. let f = h rec told in (f.0, k (told_later g n.file told) ∙ f.1, f.2))
+left-later old before new n g k given = grind (arith, told_later)
 
 whole-of : (old before new : FolderState) (n : DecodeNames) → GoesOn old before → OnlyOutputs before new []
     → IsDone (decode_job n) old before new → HoldsWhole old new n
-whole-of old before new n on last d =
-    let w : DecodesAll old before n d.done = d.ends.0 in (
-      d.done,
-      d.said ∙ ap (option_map (λ x. x ++ octets_line d.done)) d.ends.1,
-      λ rec t. let later = told_later on n.file t in (
-        w.octets,
-        last.names n.file tt later ∙ w.file later,
-        record {
-          mode = w.mode;
-          content = w.content;
-          recording_is = w.reads.read rec;
-          whole = w.followed.whole;
-          labels = w.finishes.labels;
-          nearest = w.finishes.least.least;
-          carries = w.finishes.carried;
-        },
-        w.count_is,
-      ),
-    )
+whole-of old before new n on last d = grind (arith, told_later)
 
 -- where the answer is that a line was lost, it was one of the trellis code
 lost-rate : (old before : FolderState) (n : DecodeNames) (end : Result ℕ Stop) (role : Role) (symbol : ℕ) → Ends old before n end
@@ -197,11 +156,8 @@ never-both rate content symbol followed lost = followed (symbol + 1) (omega (ari
 own-never : (old before : FolderState) (n : DecodeNames) (answer : Status) → IsTrue (old.tells n.rec)
     → IsRecording n.rate (octets_at old n.rec) → OwnIs old before n answer → ⊥
 own-never old before n answer told r (is_long e keeps longer) = never-longer (length (octets_at old n.rec)) r.within (longer told)
-own-never old before n answer told r (is_bad at e (inl bad)) =
-    never-bad n.rate r.mode at (subst (λ (xs : List ℕ). IsBadHeader n.rate (take 8 xs) at) r.octets_are (bad.header.bad told))
-own-never old before n answer told r (is_bad at e (inr cut)) =
-    let same = content-same n.rate r.mode cut.mode r.content cut.content (sym r.octets_are ∙ cut.reads.read told) in
-    cut.cut (subst (λ (xs : List ℕ). length xs % 4 ≡ 0) same r.whole)
+own-never old before n answer told r (is_bad at e (inl bad)) = grind (arith, never-bad)
+own-never old before n answer told r (is_bad at e (inr cut)) = grind (arith, content-same)
 own-never old before n answer told r (is_lost role symbol e rate lost) =
     let same = content-same n.rate r.mode lost.mode r.content lost.content (sym r.octets_are ∙ lost.reads.read told) in
     never-both n.rate r.content symbol (r.not_lost rate)

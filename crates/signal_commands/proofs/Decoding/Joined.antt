@@ -45,8 +45,7 @@ pub rest-small : (count number : ℕ) → number < 2 ^ (8 + count) → number / 
 rest-small count number h = let power : 2 ^ (8 + count) ≡ 256 * 2 ^ count = pow-add 2 8 count in omega (arith, h, power)
 
 pub octet-behind : (octets : List ℕ) (octet : ℕ) → bits_of octets ++ octet_bits octet ≡ bits_of (octets ++ octet ∷ [])
-octet-behind octets octet =
-    ap (λ bits. bits_of octets ++ bits) (sym (append-nil (octet_bits octet))) ∙ sym (flat_map-append octet_bits octets (octet ∷ []))
+octet-behind octets octet = grind (arith, append-nil, flat_map-append)
 
 -- the lowest octet of a number, and the bits above it
 lowest-octet : (count n : ℕ) → n < 2 ^ (8 + count) → low_bits (8 + count) n ≡ octet_bits (n % 256) ++ low_bits count (n / 256)
@@ -58,9 +57,7 @@ lowest-octet count n small =
 bits-behind : (waiting bits : Bits) (before : List Bool) (octets : List ℕ) (n : ℕ)
     → bits_in waiting ++ bits_in bits ≡ low_bits (waiting.count + bits.count) n
     → OctetsJoined waiting before octets → before ++ bits_in bits ≡ bits_of octets ++ low_bits (waiting.count + bits.count) n
-bits-behind waiting bits before octets n e j =
-    ap (λ xs. xs ++ bits_in bits) j.bits_are ∙ append_assoc (bits_of octets) (bits_in waiting) (bits_in bits)
-    ∙ ap (λ xs. bits_of octets ++ xs) e
+bits-behind waiting bits before octets n e j = grind (arith, append_assoc)
 
 -- an octet is whole with them
 pub joined-octet : (waiting bits : Bits) (before : List Bool) (octets : List ℕ) (n : ℕ)

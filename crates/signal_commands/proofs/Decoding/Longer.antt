@@ -78,8 +78,7 @@ carries-more rate tap labels rest octets low c =
     (m.more, record { bits = c.bits ++ b.0; read = subst (λ xs. Descrambles tap xs (c.bits ++ b.0)) (sym l.1) b.1; whole = m.whole })
 
 pub longer : (rate : Rate) (tap : ℕ) (samples more : List Sample) (labels octets : List ℕ) → 1 ≤ tap
-    → IsReleased (trellis_at rate) samples labels → Carries rate tap labels octets
-    → LongerGives rate tap (samples ++ more) octets
+    → IsReleased (trellis_at rate) samples labels → Carries rate tap labels octets → LongerGives rate tap (samples ++ more) octets
 longer rate tap samples more labels octets low r c =
     let code = code_at rate in
     let all = some-released (trellis_at rate) code.states code.labels code.steps (samples ++ more) code.laws in

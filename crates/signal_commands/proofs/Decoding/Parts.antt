@@ -30,8 +30,7 @@ heard-split (Some symbol) samples = (drop (symbol + 1) samples, sym (take-append
 -- where each released label is taken, those that were taken are released
 all-taken : (rate : Rate) (samples : List Sample) (labels pending : List ℕ) → IsReleased (trellis_at rate) samples (labels ++ pending)
     → pending ≡ [] → IsReleased (trellis_at rate) samples labels
-all-taken rate samples labels pending r taken =
-    subst (λ (xs : List ℕ). IsReleased (trellis_at rate) samples xs) (ap (λ (xs : List ℕ). labels ++ xs) taken ∙ append-nil labels) r
+all-taken rate samples labels pending r taken = grind (arith, append-nil)
 
 pub hears-releases : (rate : Rate) (mode : Mode) (p : Playback) (samples : List Sample) (octets : List ℕ) → Hears rate mode p samples octets
     → (decoding_of p.reader).pending ≡ [] → Releases rate mode samples octets
@@ -65,8 +64,7 @@ piece-releases rate mode p samples piece octets (Err lost) h taken =
 
 -- the output holds the beginning of what the whole recording gives
 pub part : (start now : FolderState) (n : DecodeNames) (mode : Mode) (content octets : List ℕ) → GoesOnBy start n.rec n.rate mode content
-    → Releases n.rate mode (samples_in content) octets → HoldsFront now n.file octets
-    → DecodesPart start now n
+    → Releases n.rate mode (samples_in content) octets → HoldsFront now n.file octets → DecodesPart start now n
 part start now n mode content octets w r file =
     let s = samples_in-front content w.rest in
     let all : samples_in (content ++ w.rest) ≡ r.front ++ (r.more ++ s.0) =
@@ -83,8 +81,7 @@ part start now n mode content octets w r file =
 
 -- the recording is lost where the samples so far are
 pub lost-part : (start now : FolderState) (n : DecodeNames) (mode : Mode) (p : Playback) (content octets : List ℕ) (symbol : ℕ)
-    (role : Role)
-    → GoesOnBy start n.rec n.rate mode content
+    (role : Role) → GoesOnBy start n.rec n.rate mode content
     → LosesWithin n.rate mode p (samples_in content) octets symbol → role ≡ hearer_of mode → Holds now n.file octets
     → (n.rate ≡ rates.Trellis) × RecordingLost start now n role symbol
 lost-part start now n mode p content octets symbol role all w role_is file =
@@ -120,8 +117,7 @@ lost-part start now n mode p content octets symbol role all w role_is file =
 
 -- a recording whose last sample is cut
 pub cut-part : (start now : FolderState) (n : DecodeNames) (mode : Mode) (p : Playback) (content octets : List ℕ) (at : ℕ)
-    → ReadsRecording start n.rec n.rate mode content
-    → length content % 4 ≢ 0 → at + length content % 4 ≡ HEADER + length content
+    → ReadsRecording start n.rec n.rate mode content → length content % 4 ≢ 0 → at + length content % 4 ≡ HEADER + length content
     → Hears n.rate mode p (samples_in content) octets → (decoding_of p.reader).lost ≡ None → (decoding_of p.reader).pending ≡ []
     → Holds now n.file octets → SampleCut start now n at
 cut-part start now n mode p content octets at reads cut at_is h not_lost taken file =

@@ -1,18 +1,12 @@
 -- A playback goes on.
-use Rattle.signal_commands.proofs.Names.{◌≡◌, ℕ, Bool, List, ◌++◌, length, arith, Decoding, heard, IsReleased, LostIs, line_depth, Rate}
-use Rattle.signal_commands.proofs.Names.{tap_of, Mode, AreWholeOctets, Carries, bits_in, OctetsJoined, decoding_of, Hears, trellis_at, Bits}
-use Rattle.signal_commands.proofs.Names.{Playback, Sample}
+use Rattle.signal_commands.proofs.Names.{ℕ, Bool, List, ◌++◌, arith, Decoding, heard, IsReleased, LostIs, line_depth, Rate, tap_of, Mode}
+use Rattle.signal_commands.proofs.Names.{AreWholeOctets, Carries, OctetsJoined, decoding_of, Hears, trellis_at, Bits, Playback, Sample}
 use Rattle.frame_check.proofs.BitLists.{length-low_bits}
 use Rattle.signal_commands.proofs.Decoding.Rates.{takes-labels}
 
 -- what waits is less than an octet
 pub whole-joined : (waiting : Bits) (bits : List Bool) (octets : List ℕ) → OctetsJoined waiting bits octets → AreWholeOctets bits octets
-whole-joined waiting bits octets j = record {
-  rest = bits_in waiting;
-  bits_are = j.bits_are;
-  few = (let long : length (bits_in waiting) ≡ waiting.count = length-low_bits waiting.count waiting.number in omega (arith, long, j.few));
-  small = j.small;
-}
+whole-joined waiting bits octets j = grind (arith, length-low_bits)
 
 -- the labels that a playback has taken carry its octets
 pub record TakesOctets (rate : Rate) (mode : Mode) (d : Decoding) (samples : List Sample) (octets : List ℕ) : Type 0 where

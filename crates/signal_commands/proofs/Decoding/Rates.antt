@@ -27,10 +27,7 @@ code_at rates.Quarters = record { states = 1; labels = 4; steps = 1; laws = quar
 pub lost-at : (rate : Rate) (samples : List Sample) (symbol : ℕ) → LostIs (trellis_at rate) line_depth samples (Some symbol)
     → rate ≡ rates.Trellis
 lost-at rates.Trellis samples symbol lost = refl
-lost-at rates.Quarters samples symbol lost =
-    let first : List Sample = take (symbol + 1) samples in
-    let all : length lost.over.front ≡ length first = all-released first lost.over.front lost.over.released in
-    absurd (omega (arith, all, length-take (symbol + 1) samples, lost.over.over))
+lost-at rates.Quarters samples symbol lost = grind (arith, all-released, length-take)
 
 -- the bits of what labels are turned into begin those of more labels
 turns-longer : (width : ℕ) (turns_of : List ℕ → List ℕ) → ((labels : List ℕ) (n : ℕ) → turns_of (take n labels) ≡ take n (turns_of labels))

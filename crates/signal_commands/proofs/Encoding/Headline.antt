@@ -1,11 +1,9 @@
 -- From every answer to what the command promises.
-use Rattle.signal_commands.proofs.Names.{◌⊎◌, ◌∙◌, inl, inr, ℕ, List, [], ◌++◌, length, ◌≤◌, ◌<◌, Result, Ok, Err, ap, subst, arith}
-use Rattle.signal_commands.proofs.Names.{option_map, IsDone, refusal-own, last-only, done-of, shared-of, done-unless-memory, Answers}
-use Rattle.signal_commands.proofs.Names.{IsRefusal, end_status, Status, Stop, Own, Read, Write, Holds-kept, HoldsFront-all, KeepsName-trans}
-use Rattle.signal_commands.proofs.Names.{FolderState, octets_at, GoesOn, KeepsName, KeepsAll, OnlyOutputs, FILE_LIMIT, WritesAll}
-use Rattle.signal_commands.proofs.Names.{LeavesPart, IsRecordingOf, EncodeNames}
+use Rattle.signal_commands.proofs.Names.{◌⊎◌, inl, inr, ℕ, List, [], length, ◌≤◌, ◌<◌, Result, Ok, Err, subst, arith, IsDone, refusal-own}
+use Rattle.signal_commands.proofs.Names.{last-only, done-of, shared-of, done-unless-memory, Answers, IsRefusal, end_status, Status, Stop}
+use Rattle.signal_commands.proofs.Names.{Own, Read, Write, HoldsFront-all, FolderState, octets_at, GoesOn, KeepsName, KeepsAll, OnlyOutputs}
+use Rattle.signal_commands.proofs.Names.{FILE_LIMIT, LeavesPart, EncodeNames}
 use Rattle.command_base.specs.Lines.{samples_line}
-use Rattle.outside_calls.proofs.Holding.{HoldsFront-kept}
 use Rattle.signal_commands.specs.Encoding.Ends.{Ends, encode_job}
 use Rattle.signal_commands.specs.Encoding.Completes.{Completes}
 use Rattle.signal_commands.specs.Encoding.Headline.{HoldsBeginning, HoldsWhole, Headline}
@@ -13,14 +11,7 @@ use Rattle.signal_commands.proofs.Encoding.Making.{front-part}
 
 left-part : (old before : FolderState) (n : EncodeNames) → LeavesPart old before n → KeepsName old before n.rec
     ⊎ HoldsBeginning old before n
-left-part old before n (inl kept) = inl kept
-left-part old before n (inr w) =
-    inr (λ file rec. (
-      w.recording,
-      w.samples,
-      subst (λ (xs : List ℕ). IsRecordingOf n.rate n.mode xs w.recording w.samples) (w.records.read file) w.records.recorded,
-      w.rec,
-    ))
+left-part old before n given = grind (arith)
 
 left-by : (old before : FolderState) (n : EncodeNames) (end : Result ℕ Stop) → Ends old before n end → KeepsName old before n.rec
     ⊎ HoldsBeginning old before n
@@ -44,22 +35,11 @@ refused-by old before n end ends = refusal-own end (KeepsAll old before) (λ ans
 
 left-later : (old before new : FolderState) (n : EncodeNames) → GoesOn old before → GoesOn before new → KeepsName before new n.rec
     → KeepsName old before n.rec ⊎ HoldsBeginning old before n → KeepsName old new n.rec ⊎ HoldsBeginning old new n
-left-later old before new n g later k (inl h) = inl (KeepsName-trans old before new n.rec g h k)
-left-later old before new n g later k (inr h) =
-    inr (λ file rec. let p = h file rec in (p.0, p.1, p.2, HoldsFront-kept before new n.rec p.0 later p.3 k))
+left-later old before new n g later k given = grind (arith)
 
 whole-of : (old before new : FolderState) (n : EncodeNames) → OnlyOutputs before new [] → IsDone (encode_job n) old before new
     → HoldsWhole old new n
-whole-of old before new n last d =
-    let w : WritesAll old before n d.done = d.ends.0 in (
-      d.done,
-      d.said ∙ ap (option_map (λ x. x ++ samples_line d.done)) d.ends.1,
-      λ file rec. (
-        w.recording,
-        subst (λ (xs : List ℕ). IsRecordingOf n.rate n.mode xs w.recording d.done) (w.records.read file) w.records.recorded,
-        Holds-kept before new n.rec w.recording last.goes_on w.rec (last.names n.rec tt),
-      ),
-    )
+whole-of old before new n last d = grind (arith)
 
 -- what the command promises holds of every answer
 pub headline-of : (words : List (List ℕ)) (old new : FolderState) (n : EncodeNames) (s : Status) → Answers (encode_job n) words old new s

@@ -107,11 +107,10 @@ octet-longer Quarters tap bits samples n low h =
     (bit (r / 2)) low three.modulated in
     record {
       more = one.sample ∷ two.sample ∷ three.sample ∷ four.sample ∷ [];
-      modulated = subst (λ (p : List Bool × List Sample). QuarterModulates tap p.0 p.1)
-          (λ i. (
-            twos-behind bits (bit n) (bit (n / 2)) (bit p) (bit (p / 2)) (bit q) (bit (q / 2)) (bit r) (bit (r / 2)) i,
-            four-behind samples one.sample two.sample three.sample four.sample i,
-          )) four.modulated;
+      modulated = subst (λ (p : List Bool × List Sample). QuarterModulates tap p.0 p.1) (λ i. (
+        twos-behind bits (bit n) (bit (n / 2)) (bit p) (bit (p / 2)) (bit q) (bit (q / 2)) (bit r) (bit (r / 2)) i,
+        four-behind samples one.sample two.sample three.sample four.sample i,
+      )) four.modulated;
     }
 
 -- the recording of more octets begins with this one

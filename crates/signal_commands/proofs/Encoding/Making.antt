@@ -1,12 +1,11 @@
 -- From single steps to how the making of a recording ends.
 use Rattle.signal_commands.proofs.Names.{◌≡◌, ◌≢◌, ◌∙◌, inl, inr, ℕ, ◌+◌, ◌*◌, Bool, true, IsTrue, List, [], ◌∷◌, ◌++◌, length, refl, sym}
-use Rattle.signal_commands.proofs.Names.{ap, subst, arith, rules, append-nil, append_assoc, none-of-inputs, ReadTo-none, ReadTo-kept}
-use Rattle.signal_commands.proofs.Names.{are_apart, IsWithin, IsNotWithin, ReadTo, StopCounts, Stop, bits_of, Holds-kept, Holds-more}
-use Rattle.signal_commands.proofs.Names.{HoldsFront-all, HoldsFront-more, HoldsFront-longer, OnlyOutput-reads, OnlyOutput-writes}
-use Rattle.signal_commands.proofs.Names.{OnlyOutput-trans, KeepsName-trans, FolderState, octets_at, OnlyReads, OnlyWrites, Appended}
-use Rattle.signal_commands.proofs.Names.{PartlyAppended, Holds, HoldsFront, OnlyOutput, header_at, Rate, Trellis, Quarters, Mode}
-use Rattle.signal_commands.proofs.Names.{IsPrefixOf, FILE_LIMIT, WritesAll, LeavesPart, Begun, RecordedTo, IsRecordingOf, RecorderStands}
-use Rattle.signal_commands.proofs.Names.{EncodeNames, Recorder}
+use Rattle.signal_commands.proofs.Names.{subst, arith, rules, append-nil, append_assoc, none-of-inputs, ReadTo-kept, are_apart, IsWithin}
+use Rattle.signal_commands.proofs.Names.{IsNotWithin, ReadTo, StopCounts, Stop, Holds-kept, Holds-more, HoldsFront-all, HoldsFront-more}
+use Rattle.signal_commands.proofs.Names.{HoldsFront-longer, OnlyOutput-reads, OnlyOutput-writes, OnlyOutput-trans, KeepsName-trans}
+use Rattle.signal_commands.proofs.Names.{FolderState, octets_at, OnlyReads, OnlyWrites, Appended, PartlyAppended, Holds, HoldsFront}
+use Rattle.signal_commands.proofs.Names.{OnlyOutput, header_at, Rate, Trellis, Quarters, Mode, IsPrefixOf, FILE_LIMIT, WritesAll}
+use Rattle.signal_commands.proofs.Names.{LeavesPart, Begun, RecordedTo, IsRecordingOf, RecorderStands, EncodeNames, Recorder}
 use Rattle.std.proofs.Common.{false}
 use Rattle.line_coding.proofs.Standing.{modulated}
 use Rattle.rate_4800.proofs.Standing.{modulated as quarters-modulated}
@@ -24,20 +23,7 @@ file-apart n e same = (none-of-inputs (inputs_of n) (outputs_of n) e).0.0 (sym s
 -- what a recorder made stands behind the header
 recorded-as : (rate : Rate) (mode : Mode) (kept : Recorder) (octets recorded : List ℕ) → RecorderStands rate mode kept octets recorded
     → IsRecordingOf rate mode octets (header_at rate mode ++ recorded) (samples_each rate * length octets)
-recorded-as Trellis mode (recorders.Trellis m) octets recorded s = record {
-  samples = s.samples;
-  modulated = modulated mode m (bits_of octets) s.samples s.made;
-  count_is = sym s.count;
-  recording_is = ap (λ xs. header_at Trellis mode ++ xs) s.recorded_is;
-}
-recorded-as Quarters mode (recorders.Quarters m) octets recorded s = record {
-  samples = s.samples;
-  modulated = quarters-modulated mode m (bits_of octets) s.samples s.made;
-  count_is = sym s.count;
-  recording_is = ap (λ xs. header_at Quarters mode ++ xs) s.recorded_is;
-}
-recorded-as Trellis mode (recorders.Quarters m) octets recorded s = absurd s
-recorded-as Quarters mode (recorders.Trellis m) octets recorded s = absurd s
+recorded-as rate mode kept octets recorded s = grind (arith, modulated, quarters-modulated)
 
 -- no octets are recorded as the header alone
 nothing-recorded : (rate : Rate) (mode : Mode) → IsRecordingOf rate mode [] (header_at rate mode ++ []) 0
@@ -155,8 +141,7 @@ recorded-more start old mid new n kept next at count piece made r apart read sta
 
 -- a piece more was not wholly written
 pub piece-part : (start old mid new : FolderState) (n : EncodeNames) (kept next : Recorder) (at count : ℕ) (piece made : List ℕ)
-    (r : RecordedTo start old n kept at) →
-    ReadTo start mid n.file FILE_LIMIT (at + count) (r.octets ++ piece)
+    (r : RecordedTo start old n kept at) → ReadTo start mid n.file FILE_LIMIT (at + count) (r.octets ++ piece)
     → RecorderStands n.rate n.mode next (r.octets ++ piece) (r.recorded ++ made) →
     OnlyReads old mid → OnlyWrites mid new n.rec → PartlyAppended mid new n.rec made → LeavesPart start new n
 piece-part start old mid new n kept next at count piece made r read stands reads writes puts =
@@ -172,17 +157,7 @@ piece-part start old mid new n kept next at count piece made r read stands reads
 pub recorded-whole : (start old mid : FolderState) (n : EncodeNames) (kept : Recorder) (at : ℕ) (r : RecordedTo start old n kept at)
     → OnlyReads old mid → (IsTrue (start.tells n.file) → r.octets ++ [] ≡ octets_at start n.file) →
     WritesAll start mid n (samples_each n.rate * at)
-recorded-whole start old mid n kept at r reads end = record {
-  recording = header_at n.rate n.mode ++ r.recorded;
-  records = record {
-    octets = r.octets;
-    within = r.read.within;
-    read = λ told. sym (append-nil r.octets) ∙ end told;
-    recorded = subst (λ (x : ℕ). IsRecordingOf n.rate n.mode r.octets (header_at n.rate n.mode ++ r.recorded) (samples_each n.rate * x))
-        (sym r.read.count) (recorded-as n.rate n.mode kept r.octets r.recorded r.stands);
-  };
-  rec = held-after old mid n.rec (header_at n.rate n.mode ++ r.recorded) reads r.rec;
-}
+recorded-whole start old mid n kept at r reads end = grind (arith, append-nil, recorded-as, held-after)
 
 -- the header was not written
 pub header-part : (start old new : FolderState) (n : EncodeNames) → Begun start old n → OnlyWrites old new n.rec
@@ -204,35 +179,15 @@ refused-counts old new n stop why = grind (arith)
 -- ---- the output alone is touched
 
 pub writes-only : (old mid new : FolderState) (n : EncodeNames) → OnlyReads old mid → OnlyWrites mid new n.rec → OnlyOutput old new n.rec
-writes-only old mid new n reads writes =
-    OnlyOutput-trans n.rec (OnlyOutput-reads n.rec reads) (OnlyOutput-writes n.rec writes)
+writes-only old mid new n reads writes = grind (arith)
 
 -- the header stands in the output, and nothing is recorded yet
 pub recorded-none : (start old now : FolderState) (n : EncodeNames) (kept : Recorder) → Begun start old n
     → are_apart (inputs_of n) (outputs_of n) ≡ true → RecorderStands n.rate n.mode kept [] [] → OnlyWrites old now n.rec
     → Appended old now n.rec (header_at n.rate n.mode) → RecordedTo start now n kept 0
-recorded-none start old now n kept b apart stands writes puts = record {
-  octets = [];
-  recorded = [];
-  stands = stands;
-  read = ReadTo-none start now n.file FILE_LIMIT b.within only.goes_on (only.names n.file (file-apart n apart));
-  only = only;
-  rec = subst (Holds now n.rec) (sym (append-nil (header_at n.rate n.mode)))
-      (Holds-more old now n.rec [] (header_at n.rate n.mode) writes.goes_on b.empty puts);
-}
-  where
-    only : OnlyOutput start now n.rec
-    only = OnlyOutput-trans n.rec b.only (OnlyOutput-writes n.rec writes)
+recorded-none start old now n kept b apart stands writes puts = grind (arith, file-apart, append-nil)
 
 -- reading alone leaves it as it is
 pub recorded-read : (start old mid : FolderState) (n : EncodeNames) (kept : Recorder) (at place : ℕ) → place ≡ at
     → RecordedTo start old n kept at → OnlyReads old mid → RecordedTo start mid n kept place
-recorded-read start old mid n kept at place same r reads =
-    subst (RecordedTo start mid n kept) (sym same) (record {
-      octets = r.octets;
-      recorded = r.recorded;
-      stands = r.stands;
-      read = ReadTo-kept start old mid n.file FILE_LIMIT at r.octets r.read reads.goes_on (reads.names n.file);
-      only = OnlyOutput-trans n.rec r.only (OnlyOutput-reads n.rec reads);
-      rec = held-after old mid n.rec (header_at n.rate n.mode ++ r.recorded) reads r.rec;
-    })
+recorded-read start old mid n kept at place same r reads = grind (arith)

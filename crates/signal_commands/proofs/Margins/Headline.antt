@@ -1,14 +1,12 @@
 -- From every answer to what the command promises.
-use Rattle.signal_commands.proofs.Names.{◌≡◌, ◌∙◌, ℕ, ◌+◌, ◌*◌, ◌≤◌, ◌<◌, IsTrue, List, [], ◌++◌, length, take, Result, ap, subst, arith}
-use Rattle.signal_commands.proofs.Names.{option_map, never-longer, never-bad, IsDone, done-of, shared-of, done-unless-memory, Answers}
-use Rattle.signal_commands.proofs.Names.{margin_line, IsRefusal, end_status, Status, Stop, Measured, FolderState, octets_at, KeepsAll}
-use Rattle.signal_commands.proofs.Names.{OnlyOutputs, IsBadHeader, header_of, samples_in, Mode, FILE_LIMIT, Measures, file_is_long}
-use Rattle.signal_commands.proofs.Names.{is_misfit, MarginNames}
+use Rattle.signal_commands.proofs.Names.{◌≡◌, ◌∙◌, ℕ, ◌+◌, ◌*◌, ◌≤◌, ◌<◌, IsTrue, List, [], ◌++◌, length, Result, ap, arith, option_map}
+use Rattle.signal_commands.proofs.Names.{never-longer, never-bad, IsDone, done-of, shared-of, done-unless-memory, Answers, margin_line}
+use Rattle.signal_commands.proofs.Names.{IsRefusal, end_status, Status, Stop, Measured, FolderState, octets_at, KeepsAll, OnlyOutputs}
+use Rattle.signal_commands.proofs.Names.{header_of, samples_in, Mode, FILE_LIMIT, Measures, MarginNames}
 use Rattle.std.proofs.Common.{nat_lt}
 use Rattle.noise_bound.proofs.Margins.{sure-is-decoded}
 use Rattle.recordings.specs.declared.rate.Rate.TheVariants as rates
 use Rattle.signal_commands.specs.Margins.Ends.{EndsOwn, margin_job}
-use Rattle.signal_commands.specs.Margins.Ends.EndsOwn.{rec_is_long, is_other}
 use Rattle.signal_commands.specs.Margins.Completes.{AreMeasurable, Completes}
 use Rattle.signal_commands.specs.Margins.Headline.{MeasuresAll, Headline}
 
@@ -50,19 +48,11 @@ behind-header : (mode : Mode) (content : List ℕ) → length (header_of mode ++
 behind-header mode content = grind (arith)
 
 recorded-length : (recording octets : List ℕ) (r : AreMeasurable recording octets) → length recording ≡ 8 + 8 * length octets
-recorded-length recording octets r =
-    ap (λ (xs : List ℕ). length xs) r.recording_is ∙ behind-header r.mode r.content ∙ ap (λ (count : ℕ). 8 + count) r.fits
+recorded-length recording octets r = grind (arith, behind-header)
 
 own-never : (old : FolderState) (n : MarginNames) (answer : Status) → IsTrue (old.tells n.rec) → IsTrue (old.tells n.file)
     → AreMeasurable (octets_at old n.rec) (octets_at old n.file) → EndsOwn old n answer → ⊥
-own-never old n answer rec file r (rec_is_long e longer) =
-    let long = recorded-length (octets_at old n.rec) (octets_at old n.file) r in
-    never-longer (length (octets_at old n.rec)) (omega (arith, long, r.within)) (longer rec)
-own-never old n answer rec file r (file_is_long e within longer) = file-never-longer (length (octets_at old n.file)) r.within (longer file)
-own-never old n answer rec file r (is_other at e within bad) =
-    never-bad rates.Trellis r.mode at (subst (λ (xs : List ℕ). IsBadHeader rates.Trellis (take 8 xs) at) r.recording_is (bad.bad rec))
-own-never old n answer rec file r (is_misfit at e other) =
-    other.other rec file (recorded-length (octets_at old n.rec) (octets_at old n.file) r)
+own-never old n answer rec file r given = grind (arith, recorded-length, never-longer, file-never-longer, never-bad)
 
 -- and when it is done
 pub completes-of : (words : List (List ℕ)) (old new : FolderState) (n : MarginNames) (s : Status) → Answers (margin_job n) words old new s

@@ -1,10 +1,9 @@
 -- From single steps to how the measuring of a recording ends.
-use Rattle.signal_commands.proofs.Names.{◌≡◌, ◌≢◌, ◌∙◌, inl, inr, ℕ, ◌+◌, ◌*◌, ◌≤◌, ◌<◌, min, IsTrue, List, [], ◌∷◌, ◌++◌, length, take}
-use Rattle.signal_commands.proofs.Names.{refl, sym, ap, subst, arith, append-nil, append_assoc, length-take, take_all, reads-all}
-use Rattle.signal_commands.proofs.Names.{ReadTo-none, ReadTo-kept, ReadTo, ReadBehind, RECORDING_LIMIT, Measured, MarginStands}
-use Rattle.signal_commands.proofs.Names.{OnlyReads-trans, FolderState, octets_at, OnlyReads, samples_in-more, samples_in-append, header_of}
-use Rattle.signal_commands.proofs.Names.{sample_at, samples_in, HEADER, Mode, FILE_LIMIT, Measures, Opened, MeasuredTo, MarginNames, Sample}
-use Rattle.std.proofs.lemmas.Bool.{cases_lt}
+use Rattle.signal_commands.proofs.Names.{◌≡◌, ◌≢◌, ◌∙◌, ℕ, ◌+◌, ◌*◌, ◌≤◌, ◌<◌, min, IsTrue, List, [], ◌∷◌, ◌++◌, length, take, sym, ap}
+use Rattle.signal_commands.proofs.Names.{subst, arith, append-nil, append_assoc, length-take, take_all, reads-all, ReadTo-kept, ReadTo}
+use Rattle.signal_commands.proofs.Names.{ReadBehind, RECORDING_LIMIT, Measured, MarginStands, OnlyReads-trans, FolderState, octets_at}
+use Rattle.signal_commands.proofs.Names.{OnlyReads, samples_in-more, samples_in-append, header_of, sample_at, samples_in, HEADER, Mode}
+use Rattle.signal_commands.proofs.Names.{FILE_LIMIT, Measures, Opened, MeasuredTo, MarginNames, Sample}
 use Rattle.noise_bound.proofs.Margins.{measured}
 use Rattle.recordings.specs.declared.rate.Rate.TheVariants as rates
 use Rattle.command_base.specs.Recordings.{IsAtEnd}
@@ -39,31 +38,14 @@ eight mode = grind (arith)
 -- nothing is measured yet
 pub measured-none : (start now : FolderState) (n : MarginNames) (mode : Mode) (m : Measured) → Opened start now n mode
     → MarginStands mode m [] [] → MeasuredTo start now n mode m 0
-measured-none start now n mode m o stands = record {
-  opened = o;
-  octets = [];
-  content = [];
-  stands = stands;
-  file = ReadTo-none start now n.file FILE_LIMIT o.begins.file_within o.reads.goes_on (o.reads.names n.file);
-  rec = record {
-    at_is = refl;
-    read = record {
-      within = o.begins.rec_within;
-      count = eight mode;
-      front = λ told. append-nil (header_of mode) ∙ o.begins.header told;
-      goes_on = o.reads.goes_on;
-      kept = o.reads.names n.rec;
-    };
-  };
-}
+measured-none start now n mode m o stands = grind (arith, eight, append-nil)
 
 -- one piece more is
 pub measured-more : (start old mid new : FolderState) (n : MarginNames) (mode : Mode) (m next : Measured) (at count read : ℕ)
     (piece recorded : List ℕ) → (h : MeasuredTo start old n mode m at) → OnlyReads old mid → OnlyReads mid new
     → ReadTo start mid n.file FILE_LIMIT (at + count) (h.octets ++ piece)
     → ReadTo start new n.rec RECORDING_LIMIT (HEADER + 8 * at + read) ((header_of mode ++ h.content) ++ recorded)
-    → length recorded ≡ read → read ≡ 8 * count
-    → MarginStands mode next (h.octets ++ piece) (samples_in h.content ++ samples_in recorded)
+    → length recorded ≡ read → read ≡ 8 * count → MarginStands mode next (h.octets ++ piece) (samples_in h.content ++ samples_in recorded)
     → MeasuredTo start new n mode next (at + count)
 measured-more start old mid new n mode m next at count read piece recorded h first second file rec long fits stands =
     let same : HEADER + 8 * at + read ≡ HEADER + 8 * (at + count) = omega (arith, fits) in
@@ -82,8 +64,7 @@ measured-more start old mid new n mode m next at count read piece recorded h fir
 pub ended : (start now : FolderState) (name : List ℕ) (limit at count room : ℕ) (octets piece : List ℕ)
     → ReadTo start now name limit (at + count) (octets ++ piece)
     → (count < room → IsTrue (start.tells name) → octets ++ piece ≡ octets_at start name) → count < room → count ≡ 0 → IsAtEnd start name at
-ended start now name limit at count room octets piece r end few none told =
-    omega (arith, none, r.count, ap (λ (xs : List ℕ). length xs) (end few told))
+ended start now name limit at count room octets piece r end few none told = grind (arith)
 
 -- both inputs are at their ends
 pub measures-all : (start now : FolderState) (n : MarginNames) (mode : Mode) (m : Measured) (at : ℕ) → MeasuredTo start now n mode m at
@@ -104,24 +85,15 @@ measures-all start now n mode m at h file_end rec_end = record {
 -- an input has the octets that were read of it
 has-read : (start now : FolderState) (name : List ℕ) (limit at : ℕ) (octets : List ℕ) → ReadTo start now name limit at octets
     → IsTrue (start.tells name) → at ≤ length (octets_at start name)
-has-read start now name limit at octets r told =
-    omega (arith, r.count, ap (λ (xs : List ℕ). length xs) (r.front told), length-take at (octets_at start name))
+has-read start now name limit at octets r told = grind (arith, length-take)
 
 lengths : (at count read rec file : ℕ) → at + count ≤ file → (count < 512 → file ≡ at + count) → 8 + 8 * at + read ≤ rec
     → (read < 4096 → rec ≡ 8 + 8 * at + read) → count ≤ 512 → read ≤ 4096 → read ≢ 8 * count
     → (rec ≢ 8 + 8 * file) × (8 + 8 * at + min read (8 * count) ≡ min rec (8 + 8 * file))
-lengths at count read rec file file_has file_end rec_has rec_end few most other = elim (cases_lt read (8 * count)) [
-  | inl less ↦ let e : rec ≡ 8 + 8 * at + read = rec_end (omega (arith, less, few)) in
-      ((λ same. omega (arith, same, e, less, file_has)), omega (arith, e, less, file_has))
-  | inr more ↦
-      let longer : 8 * count < read = omega (arith, more, other) in
-      let e : file ≡ at + count = file_end (omega (arith, longer, most)) in
-      ((λ same. omega (arith, same, e, longer, rec_has)), omega (arith, e, longer, rec_has))
-]
+lengths at count read rec file file_has file_end rec_has rec_end few most other = grind (arith)
 
 pub misfit : (start mid new : FolderState) (n : MarginNames) (mode : Mode) (at count read place : ℕ) (octets front piece recorded : List ℕ)
-    → AreOpen start n mode
-    → ReadTo start mid n.file FILE_LIMIT (at + count) (octets ++ piece)
+    → AreOpen start n mode → ReadTo start mid n.file FILE_LIMIT (at + count) (octets ++ piece)
     → (count < 512 → IsTrue (start.tells n.file) → octets ++ piece ≡ octets_at start n.file)
     → ReadTo start new n.rec RECORDING_LIMIT (8 + 8 * at + read) (front ++ recorded)
     → (read < 4096 → IsTrue (start.tells n.rec) → front ++ recorded ≡ octets_at start n.rec)
@@ -142,5 +114,4 @@ misfit start mid new n mode at count read place octets front piece recorded begi
         (has-read start mid n.file FILE_LIMIT (at + count) (octets ++ piece) file file_told)
         (λ short. sym (file.count ∙ ap (λ (xs : List ℕ). length xs) (file_end short file_told)))
         (has-read start new n.rec RECORDING_LIMIT (8 + 8 * at + read) (front ++ recorded) rec rec_told)
-        (λ short. sym (rec.count ∙ ap (λ (xs : List ℕ). length xs) (rec_end short rec_told)))
-        few most other
+        (λ short. sym (rec.count ∙ ap (λ (xs : List ℕ). length xs) (rec_end short rec_told))) few most other

@@ -1,9 +1,8 @@
 -- From every answer to what the command promises.
-use Rattle.signal_commands.proofs.Names.{◌≡◌, ◌∙◌, ℕ, ◌+◌, ◌%◌, IsTrue, List, [], ◌++◌, length, take, Some, Result, sym, subst, arith}
-use Rattle.signal_commands.proofs.Names.{never-longer, never-bad, content-same, IsDone, done-of, shared-of, done-unless-memory, Answers}
-use Rattle.signal_commands.proofs.Names.{IsRefusal, end_status, Status, Stop, released-is_least, any-has-laws, LostIs, any_trellis}
-use Rattle.signal_commands.proofs.Names.{line_depth, FolderState, octets_at, KeepsAll, OnlyOutputs, IsBadHeader, samples_in, is_long}
-use Rattle.signal_commands.proofs.Names.{is_other, is_cut, is_lost}
+use Rattle.signal_commands.proofs.Names.{◌∙◌, ℕ, ◌+◌, IsTrue, List, [], ◌++◌, length, Some, Result, sym, subst, arith, never-longer}
+use Rattle.signal_commands.proofs.Names.{never-bad, content-same, IsDone, done-of, shared-of, done-unless-memory, Answers, IsRefusal}
+use Rattle.signal_commands.proofs.Names.{end_status, Status, Stop, released-is_least, any-has-laws, LostIs, any_trellis, line_depth}
+use Rattle.signal_commands.proofs.Names.{FolderState, octets_at, KeepsAll, OnlyOutputs, samples_in, is_long, is_other, is_cut, is_lost}
 use Rattle.outside_calls.specs.Folder.{Said}
 use Rattle.command_base.specs.Lines.{pieces_line}
 use Rattle.command_base.proofs.Saying.{Said-Said}
@@ -50,11 +49,8 @@ never-lost content symbol f lost = f.not_lost (symbol + 1) (omega (arith, lost.w
 own-never : (old before : FolderState) (rec : List ℕ) (answer : Status) → IsTrue (old.tells rec) → IsRecording (octets_at old rec)
     → EndsOwn old before rec answer → ⊥
 own-never old before rec answer told r (is_long e nothing longer) = never-longer (length (octets_at old rec)) r.within (longer told)
-own-never old before rec answer told r (is_other at e nothing bad) =
-    never-bad rates.Trellis r.mode at (subst (λ (xs : List ℕ). IsBadHeader rates.Trellis (take 8 xs) at) r.octets_are (bad.bad told))
-own-never old before rec answer told r (is_cut at e cut) =
-    let same = content-same rates.Trellis r.mode cut.mode r.content cut.content (sym r.octets_are ∙ cut.reads.read told) in
-    cut.cut (subst (λ (xs : List ℕ). length xs % 4 ≡ 0) same r.followed.whole)
+own-never old before rec answer told r (is_other at e nothing bad) = grind (arith, never-bad)
+own-never old before rec answer told r (is_cut at e cut) = grind (arith, content-same)
 own-never old before rec answer told r (is_lost role symbol e lost) =
     let same = content-same rates.Trellis r.mode lost.mode r.content lost.content (sym r.octets_are ∙ lost.reads.read told) in
     never-lost r.content symbol r.followed

@@ -49,7 +49,6 @@ later_stand_behind mode samples more pieces later g k =
     let s = stays-prefix any_trellis samples more g.labels k.labels g.released k.released in
     let b = bits-longer tap g.labels s.0 g.bits (tap-low mode) g.picked_up in
     let same : k.bits ≡ g.bits ++ b.0 =
-    picked_up_once tap k.labels k.bits (g.bits ++ b.0) k.picked_up
-    (subst (λ (xs : List ℕ). IsPickedUp tap xs (g.bits ++ b.0)) s.1 b.1) in
+    picked_up_once tap k.labels k.bits (g.bits ++ b.0) k.picked_up (subst (λ (xs : List ℕ). IsPickedUp tap xs (g.bits ++ b.0)) s.1 b.1) in
     let added = pieces-stay g.bits b.0 in
     (added.0, ap (λ (xs : List Found). xs ++ added.0) g.pieces_are ∙ sym added.1.all ∙ ap pieces_of (sym same) ∙ sym k.pieces_are)

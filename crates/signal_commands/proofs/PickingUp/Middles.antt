@@ -79,8 +79,7 @@ noise-front (suc n) (point ∷ sent) (sample ∷ heard) = omega (arith, noise-fr
 
 drop-take-less : (cut n : ℕ) (xs : List Sample) → drop cut (take n xs) ≡ take (n - cut) (drop cut xs)
 drop-take-less zero n xs = let same : n - 0 ≡ n = omega arith in ap (λ k. take k xs) (sym same)
-drop-take-less (suc cut) zero xs =
-    let none : 0 - suc cut ≡ 0 = omega arith in ap (λ k. take k (drop (suc cut) xs)) (sym none)
+drop-take-less (suc cut) zero xs = grind (arith)
 drop-take-less (suc cut) (suc n) [] = sym (take-nil (suc n - suc cut))
 drop-take-less (suc cut) (suc n) (x ∷ xs) =
     let less : suc n - suc cut ≡ n - cut = omega arith in
@@ -109,9 +108,7 @@ module _ (mode : Mode) (sent : List Bool) (samples heard : List Sample) (cut tur
   exact = ap (drop cut) m.points ∙ drop-map point_of cut m.labels
 
   long : length tail ≡ length (drop cut heard)
-  long =
-      let a : length (drop cut samples) ≡ length tail = ap (λ (xs : List Sample). length xs) exact ∙ length-points tail in
-      omega (arith, a, h.as_many, length-drop cut samples, length-drop cut heard)
+  long = grind (arith, exact, length-points, length-drop)
 
   costs : cost far_from tail (drop cut heard) ≡ noise_of (drop cut samples) (drop cut heard)
   costs = sym (noise-cost tail (drop cut heard)) ∙ ap (λ xs. noise_of xs (drop cut heard)) (sym exact)
@@ -161,9 +158,7 @@ module _ (mode : Mode) (sent : List Bool) (samples heard : List Sample) (cut tur
     front-carries = first-stay (tap_of mode) (cut + count) m.labels sent (tap-small mode).0 carried
 
     picked : IsPickedUp (tap_of mode) (drop cut (take (cut + count) m.labels)) g.bits
-    picked = subst (λ labels. IsPickedUp (tap_of mode) labels g.bits) (sym (drop-take cut count m.labels))
-        (unturned (tap_of mode) turns (take count tail) g.bits
-        (subst (λ labels. IsPickedUp (tap_of mode) labels g.bits) labels-are g.picked_up))
+    picked = grind (arith, drop-take, unturned, labels-are)
 
     -- up to where so many labels are released
     pub gives : (few : ℕ) → length (middle_of cut turns heard) ≤ count + few → AreHeardOf (4 * few) sent cut g.bits

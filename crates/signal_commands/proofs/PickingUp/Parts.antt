@@ -1,6 +1,6 @@
 -- From what was played to how the picking up of a recording ends.
-use Rattle.signal_commands.proofs.Names.{◌≡◌, ◌≢◌, inl, inr, ℕ, ◌+◌, ◌%◌, List, [], ◌++◌, length, sym, subst, Option, None, GoesOnBy}
-use Rattle.signal_commands.proofs.Names.{ReadsRecording, IsNotOpened, Stop, Own, Read, Write, Say, heard, LostIs, any_trellis, line_depth}
+use Rattle.signal_commands.proofs.Names.{arith, ◌≡◌, ◌≢◌, inl, inr, ℕ, ◌+◌, ◌%◌, List, [], ◌++◌, length, sym, subst, Option, None, GoesOnBy}
+use Rattle.signal_commands.proofs.Names.{ReadsRecording, IsNotOpened, Stop, Own, Read, Say, heard, LostIs, any_trellis, line_depth}
 use Rattle.signal_commands.proofs.Names.{FolderState, OnlyReads, samples_in-front, samples_in, HEADER, Mode, PicksUpAll, is_long, is_other}
 use Rattle.signal_commands.proofs.Names.{is_lost, AreFollowed, SaysPieces, Playing, Plays, StopsPlay, Sample}
 use Rattle.recordings.specs.declared.rate.Rate.TheVariants as rates
@@ -12,14 +12,12 @@ use Rattle.signal_commands.proofs.PickingUp.Playings.{stops-longer}
 -- a line that isn't lost, with all said that its samples give
 pub not-lost : (start now : FolderState) (mode : Mode) (p : Playing) (samples : List Sample) → Plays start now mode p samples
     → p.reader.reading.decoder.lost ≡ None → LostIs any_trellis line_depth samples None
-not-lost start now mode p samples h lost =
-    subst (λ (l : Option ℕ). LostIs any_trellis line_depth samples l) lost (plays-lost start now mode p samples h)
+not-lost start now mode p samples h lost = grind (arith, plays-lost)
 
 pub says-all : (start now : FolderState) (mode : Mode) (p : Playing) (samples : List Sample) → Plays start now mode p samples
     → p.reader.reading.decoder.lost ≡ None → p.reader.reading.decoder.pending ≡ []
     → SaysPieces start now mode samples
-says-all start now mode p samples h lost taken =
-    subst (λ (l : Option ℕ). SaysPieces start now mode (heard l samples)) lost (says-pieces start now mode p samples h taken)
+says-all start now mode p samples h lost taken = grind (arith, heard, says-pieces)
 
 -- a read fails behind these samples
 pub front-part : (start now : FolderState) (rec : List ℕ) (mode : Mode) (p : Playing) (content : List ℕ)
@@ -66,8 +64,7 @@ stops-by start now rec mode content (Say fault) w h =
           (followed-longer (samples_in content) s.0 h.first h.followed);
       says = h.says;
     }
-stops-by start now rec mode content (Write fault) w never = never
-stops-by start now rec mode content other w never = absurd never
+stops-by start now rec mode content other w never = grind (arith)
 
 -- the last sample is cut
 pub cut-by : (start now : FolderState) (rec : List ℕ) (mode : Mode) (p : Playing) (content : List ℕ) (at : ℕ)
@@ -107,5 +104,4 @@ pub not-opened : (old new : FolderState) (rec : List ℕ) (stop : Stop) → Only
 not-opened old new rec (Own answer) reads (inl long, stand) = is_long long.0 (said-after old old new [] reads (said-nothing old)) long.1
 not-opened old new rec (Own answer) reads (inr bad, stand) = is_other bad.0 bad.1 (said-after old old new [] reads (said-nothing old)) bad.2
 not-opened old new rec (Read fault) reads fails = inl (said-after old old new [] reads (said-nothing old))
-not-opened old new rec (Write fault) reads never = never
-not-opened old new rec other reads never = absurd never
+not-opened old new rec other reads never = grind (arith)

@@ -32,23 +32,16 @@ plays-taken start now new mode reader next listener later samples more reads hea
 pub plays-pushed : (start now : FolderState) (mode : Mode) (reader next : Middle) (listener : Listening) (samples more : List Sample)
     → ((bits : List Bool) → MiddleRead mode line_depth reader samples bits → MiddleRead mode line_depth next more bits)
     → Plays start now mode (playing_of reader listener) samples → Plays start now mode (playing_of next listener) more
-plays-pushed start now mode reader next listener samples more reads h =
-    record { bits = h.bits; read = reads h.bits h.read; heard = h.heard; sender_is = h.sender_is }
+plays-pushed start now mode reader next listener samples more reads h = grind (arith, heard)
 
 -- a read of the folder leaves what was said
 pub plays-after : (start old mid : FolderState) (mode : Mode) (p : Playing) (samples : List Sample) → OnlyReads old mid
     → Plays start old mode p samples → Plays start mid mode p samples
-plays-after start old mid mode p samples reads h =
-    record { bits = h.bits; read = h.read; heard = heard-after start old mid p.listener h.bits reads h.heard; sender_is = h.sender_is }
+plays-after start old mid mode p samples reads h = grind (arith, heard, heard-after)
 
 -- who is ready for some samples is ready for more
 pub ready-later : (p : Playing) (a b : ℕ) → a ≤ b → IsReady p a → IsReady p b
-ready-later p a b l r = record {
-  not_lost = r.not_lost;
-  all_taken = r.all_taken;
-  count = omega (arith, r.count, l);
-  pieces = omega (arith, r.pieces, l);
-}
+ready-later p a b l r = grind (arith)
 
 -- up to where a line is lost, it isn't lost before the last sample
 pub followed-by : (lost : Option ℕ) (samples : List Sample) → LostIs any_trellis line_depth samples lost
@@ -155,11 +148,10 @@ says-some start now mode reader samples bits sender read sender_is p =
 pub loses-line : (start now : FolderState) (mode : Mode) (p : Playing) (samples : List Sample) (role : Role) (symbol : ℕ)
     → Plays start now mode p samples → p.reader.reading.decoder.pending ≡ []
     → p.reader.reading.decoder.lost ≡ Some symbol → role ≡ hearer_of mode → LosesLine start now mode samples role symbol
-loses-line start now mode p samples role symbol h taken lost role_is = record {
-  role_is = role_is;
-  lost = subst (λ (l : Option ℕ). LostIs any_trellis line_depth samples l) lost (plays-lost start now mode p samples h);
-  says = subst (λ (l : Option ℕ). SaysPieces start now mode (heard l samples)) lost (says-pieces start now mode p samples h taken);
-}
+loses-line start now mode p samples role symbol h taken lost role_is = assumption (
+  subst (λ (l : Option ℕ). LostIs any_trellis line_depth samples l) lost (plays-lost start now mode p samples h),
+  subst (λ (l : Option ℕ). SaysPieces start now mode (heard l samples)) lost (says-pieces start now mode p samples h taken),
+)
 
 -- why some samples are not all played, more of them aren't
 pub stops-longer : (start now : FolderState) (mode : Mode) (samples more : List Sample) (stop : Stop)

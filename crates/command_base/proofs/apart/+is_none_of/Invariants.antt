@@ -1,4 +1,4 @@
-use Rattle.std.proofs.Common.{length}
+use Rattle.command_base.proofs.Names.{length}
 use Rattle.command_base.proofs.apart.+is_none_of.Given as goal
 
 abbrev pub decreases-is_none_of : goal.decreases-is_none_of

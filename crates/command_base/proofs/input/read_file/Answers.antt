@@ -1,8 +1,8 @@
-use Rattle.std.proofs.Common.{◌≡◌, ◌≢◌, ◌≤◌, ◌<◌, ◌+◌, ◌-◌, ◌∙◌, ℕ, List, Vec, Global, take, vec_len, sym, ap, subst, arith}
+use Rattle.command_base.proofs.Names.{◌≡◌, ◌≢◌, ◌≤◌, ◌<◌, ◌+◌, ◌-◌, ◌∙◌, ℕ, List, take, vec_len, sym, ap, subst, arith, take_all}
+use Rattle.command_base.proofs.Names.{OnlyReads-trans, CountsStand-refl, CountsStand-trans, FolderState, octets_at}
+use Rattle.std.proofs.Common.{Vec, Global}
 use Rattle.std.proofs.lemmas.Result.{err_from_is_err_and}
-use Rattle.std.proofs.lemmas.List.{take_all}
-use Rattle.outside_calls.specs.Folder.{FolderState, octets_at}
-use Rattle.outside_calls.proofs.Steps.{OnlyReads-refl, OnlyReads-trans, CountsStand-refl, CountsStand-trans}
+use Rattle.outside_calls.proofs.Steps.{OnlyReads-refl}
 use Rattle.command_base.proofs.Jobs.{hold-earlier}
 use Rattle.command_base.proofs.Reading.{IsHeld, held-more, held-to-limit, held-to-end}
 use Rattle.command_base.proofs.input.read_file.Goals.{else-loop-folder-test, then-loop-folder-test+in_ok-read_more+then-branch-eq0}

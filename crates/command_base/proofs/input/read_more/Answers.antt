@@ -19,8 +19,7 @@ returns-in-Ok-extend_from_slice g c =
         subst (λ n. c.extend_from_slice.new.self.items ≡ c.args.file.now.items ++ take c.in-Ok.count (drop n octets)) c.len.ensures
             (subst (λ xs. c.extend_from_slice.new.self.items ≡ c.args.file.now.items ++ xs) (c.in-Ok.ensures.front told)
             c.in-Ok-extend_from_slice.ensures.items),
-        λ none.
-            subst (λ n. drop n octets ≡ []) c.len.ensures
+        λ none. subst (λ n. drop n octets ≡ []) c.len.ensures
             (none-left octets READ c.args.limit c.len.result c.in-Ok.count (omega arith) (omega (arith, c.requires, c.len.ensures))
             (c.in-Ok.ensures.count told) none),
       );

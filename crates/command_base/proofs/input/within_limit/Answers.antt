@@ -1,4 +1,4 @@
-use Rattle.std.proofs.Common.{◌≡◌, ℕ, ◌≤◌, List, length, drop, min, refl, arith, length-drop}
+use Rattle.command_base.proofs.Names.{◌≡◌, ℕ, ◌≤◌, List, length, drop, min, refl, arith, length-drop}
 use Rattle.command_base.proofs.Reading.{reads-fail}
 use Rattle.command_base.proofs.input.within_limit.Goals as goal
 

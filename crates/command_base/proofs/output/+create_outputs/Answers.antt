@@ -16,14 +16,7 @@ pub returns-in-None : goal.returns-in-None
 returns-in-None g t c =
     let now : FolderState = g.F.Folder.state c.args.folder.now in
     let e : texts c.args.names.now ≡ [] = ap texts (nil_from_length c.args.names.now c.in-None.ensures.cases) in
-    record {
-      ok = subst (Creates now) (sym e) tt;
-      err = tt;
-      only = OnlyOutputs-refl now (texts c.args.names.now);
-      said = refl {a = now.said};
-      fails = tt;
-      stand = CountsStand-refl now;
-    }
+    assumption (subst (Creates now) (sym e) tt, OnlyOutputs-refl now (texts c.args.names.now), refl {a = now.said}, CountsStand-refl now)
 
 pub returns-in-Ok : goal.returns-in-Ok
 returns-in-Ok g t c =
@@ -35,17 +28,13 @@ returns-in-Ok g t c =
     let first = c.create_output.ensures.only in
     let others = c.create_outputs.ensures.only in
     record {
-      ok = on-ok-map {P = Creates new names} c.create_outputs.result
-          (λ creates. subst (Creates new) (sym e)
+      ok = on-ok-map {P = Creates new names} c.create_outputs.result (λ creates. subst (Creates new) (sym e)
           (Holds-kept mid new name [] others.goes_on c.in-Ok.ensures.ok (others.names name apart.0), creates)) c.create_outputs.ensures.ok;
-      err = on-err-map {P = CreatesPart mid new names} c.create_outputs.result
-          (λ part. subst (CreatesPart old new) (sym e)
-          (CreatesPart-first old mid new name names apart.0 first c.in-Ok.ensures.ok others part))
-          c.create_outputs.ensures.err;
+      err = on-err-map {P = CreatesPart mid new names} c.create_outputs.result (λ part. subst (CreatesPart old new) (sym e)
+          (CreatesPart-first old mid new name names apart.0 first c.in-Ok.ensures.ok others part)) c.create_outputs.ensures.err;
       only = subst (OnlyOutputs old new) (sym e) (OnlyOutputs-first old mid new name names first others);
       said = c.create_outputs.ensures.said ∙ first.said;
-      fails = if-err-map {P = WriteFails mid new names} c.create_outputs.result
-          (λ (fault : FolderFault) fails.
+      fails = if-err-map {P = WriteFails mid new names} c.create_outputs.result (λ (fault : FolderFault) fails.
           subst (λ (all : List (List ℕ)). WriteFails old new all fault) (sym e)
           (WriteFails-later old mid new name names fault c.in-Ok.ensures.stand fails)) c.create_outputs.ensures.fails;
       stand = on-ok-map {P = CountsStand mid new} c.create_outputs.result (CountsStand-trans c.in-Ok.ensures.stand)

@@ -22,10 +22,8 @@ tap_turns-requires g c = record {
 
 pub returns-in-Err : goal.returns-in-Err
 returns-in-Err g c = record {
-  ends = λ begin b.
-      inl (ends-creating LIMITS begin (g.F.Folder.state c.args.folder.now) (g.F.Folder.state c.create_all.new.folder)
-      (named c.args.words.now)
-      c.args.tap.now.script b c.in-Err.ensures.err);
+  ends = λ begin b. inl (ends-creating LIMITS begin (g.F.Folder.state c.args.folder.now) (g.F.Folder.state c.create_all.new.folder)
+      (named c.args.words.now) c.args.tap.now.script b c.in-Err.ensures.err);
   only = c.in-Err.ensures.only;
   said = c.in-Err.ensures.said;
   counts = c.in-Err.ensures.fails;
@@ -42,8 +40,7 @@ returns-in-Ok-tap_turns g c = record {
       ends-turns LIMITS begin _ _ n c.args.tap.now.script (Ok c.in-Ok-tap_turns.turns) b c.requires.ready.limits
       (c.in-Ok-tap_turns.ensures.ends begin (headers-later begin _ _ n apart c.in-Ok.ensures.only b.headers))
       (end-earlier {D = ℕ} begin _ _ (recordings_of n) (outputs_of n) (Ok c.in-Ok-tap_turns.turns)
-      (CountsStand-trans b.stand c.in-Ok.ensures.stand)
-      c.in-Ok-tap_turns.ensures.counts);
+      (CountsStand-trans b.stand c.in-Ok.ensures.stand) c.in-Ok-tap_turns.ensures.counts);
   only =
       OnlyOutputs-trans (outputs_of (named c.args.words.now)) c.in-Ok.ensures.only
       (OnlyOutputs-puts (outputs_of (named c.args.words.now)) c.in-Ok-tap_turns.ensures.only);
@@ -62,8 +59,7 @@ returns-in-Err-tap_turns g c = record {
       ends-turns LIMITS begin _ _ n c.args.tap.now.script (Err c.in-Err-tap_turns.stop) b c.requires.ready.limits
       (c.in-Err-tap_turns.ensures.ends begin (headers-later begin _ _ n apart c.in-Ok.ensures.only b.headers))
       (end-earlier {D = ℕ} begin _ _ (recordings_of n) (outputs_of n) (Err c.in-Err-tap_turns.stop)
-      (CountsStand-trans b.stand c.in-Ok.ensures.stand)
-      c.in-Err-tap_turns.ensures.counts);
+      (CountsStand-trans b.stand c.in-Ok.ensures.stand) c.in-Err-tap_turns.ensures.counts);
   only =
       OnlyOutputs-trans (outputs_of (named c.args.words.now)) c.in-Ok.ensures.only
       (OnlyOutputs-puts (outputs_of (named c.args.words.now)) c.in-Err-tap_turns.ensures.only);

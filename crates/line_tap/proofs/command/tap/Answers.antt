@@ -1,5 +1,5 @@
 use Rattle.std.specs.Prelude.{map, string_bytes}
-use Rattle.line_tap.specs.Names.{named}
+use Rattle.line_tap.proofs.Cited.{named}
 use Rattle.line_tap.proofs.command.tap.Goals as goal
 
 pub returns-clause-headline : goal.returns-clause-headline

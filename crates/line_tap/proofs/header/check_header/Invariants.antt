@@ -1,4 +1,4 @@
-use Rattle.std.proofs.Common.{◌≡◌, ◌<◌, ◌≤◌, ℕ, true, length}
+use Rattle.line_tap.proofs.Cited.{◌≡◌, ◌<◌, ◌≤◌, ℕ, true, length}
 use Rattle.std.specs.Prelude.{slice_index}
 use Rattle.line_tap.specs.Headers.{fits}
 use Rattle.line_tap.proofs.header.check_header.Given as goal

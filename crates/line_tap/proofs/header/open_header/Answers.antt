@@ -27,8 +27,7 @@ returns-in-Err-check_header g c = record {
       let piece : List ℕ = take c.in-Ok.count c.read_piece.new.piece in
       subst (λ (xs : List ℕ). IsNotHeader c.args.mode xs c.in-Err-check_header.at)
       (header-octets start (g.F.Folder.state c.read_piece.new.folder) c.args.name.now c.in-Ok.count piece c.in-Ok.ensures.bound
-      (c.in-Ok.ensures.more start [] h) (c.in-Ok.ensures.end start [] h) told)
-      c.in-Err-check_header.ensures.err;
+      (c.in-Ok.ensures.more start [] h) (c.in-Ok.ensures.end start [] h) told) c.in-Err-check_header.ensures.err;
   reads = c.in-Ok.ensures.reads;
   stand = tt;
   counts = λ outputs. (tt, c.in-Ok.ensures.stand);

@@ -1,4 +1,4 @@
-use Rattle.std.proofs.Common.{arith}
+use Rattle.line_tap.proofs.Cited.{arith}
 use Rattle.line_tap.proofs.PointLabels.{sums-none, sums-more}
 use Rattle.line_tap.proofs.labels.number_of.Goals as goal
 

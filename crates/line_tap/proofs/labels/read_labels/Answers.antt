@@ -9,8 +9,7 @@ returns-in-None-clause-none c =
     let n : ℕ = c.loop-place.place in
     no-sequence c.points_differ.ensures n c.args.from c.loop-place.state octets c.loop-place.labels
     (omega (arith, c.requires.size, c.loop-place-test.true, c.from-place-end.ensures)) c.loop-place.invariant.reads.are
-    c.loop-place.invariant.reads.leads
-    (λ label to low same next. c.in-None.ensures.none label to low (same ∙ sym c.sample_at.ensures) next)
+    c.loop-place.invariant.reads.leads (λ label to low same next. c.in-None.ensures.none label to low (same ∙ sym c.sample_at.ensures) next)
 
 pub loop-place-preserved : goal.loop-place-preserved
 loop-place-preserved c =

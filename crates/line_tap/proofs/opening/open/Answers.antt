@@ -10,8 +10,7 @@ returns-in-Err g c = record {
   opened = tt;
   refused =
       inputs-refused LIMITS (g.F.Folder.state c.args.folder.now) (g.F.Folder.state c.open_inputs.new.folder) (named c.args.words.now)
-      c.in-Err.stop
-      c.in-Err.ensures.refused;
+      c.in-Err.stop c.in-Err.ensures.refused;
   reads = c.in-Err.ensures.reads;
   counts = c.in-Err.ensures.counts;
 }
@@ -23,14 +22,12 @@ returns-in-Err-open_header g c =
       opened = tt;
       refused =
           let first = c.in-Ok.ensures.reads in
-          orig-refused LIMITS _ _ n c.in-Ok.script c.in-Err-open_header.stop c.in-Ok.ensures.opened
-          (c.in-Err-open_header.ensures.err _
+          orig-refused LIMITS _ _ n c.in-Ok.script c.in-Err-open_header.stop c.in-Ok.ensures.opened (c.in-Err-open_header.ensures.err _
           (ReadTo-none _ _ n.rec_o TAP_LIMIT c.in-Ok.ensures.opened.files.0 first.goes_on (first.names n.rec_o)))
           (stop-earlier _ _ _ (n.rec_o ∷ []) [] c.in-Err-open_header.stop (c.in-Ok.ensures.counts [])
           (c.in-Err-open_header.ensures.counts []));
       reads = OnlyReads-trans c.in-Ok.ensures.reads c.in-Err-open_header.ensures.reads;
-      counts = λ outputs.
-          stop-earlier _ _ _ (inputs_of n) outputs c.in-Err-open_header.stop (c.in-Ok.ensures.counts outputs)
+      counts = λ outputs. stop-earlier _ _ _ (inputs_of n) outputs c.in-Err-open_header.stop (c.in-Ok.ensures.counts outputs)
           (stop-widened _ _ (n.rec_o ∷ []) (inputs_of n) outputs c.in-Err-open_header.stop
           (λ some. elim some [ inl rose ↦ inl rose | inr never ↦ absurd never ]) (c.in-Err-open_header.ensures.counts outputs));
     }
@@ -58,8 +55,7 @@ returns-in-Ok-open_header-2 g c = record {
       };
   refused = tt;
   reads = OnlyReads-trans (OnlyReads-trans c.in-Ok.ensures.reads c.in-Ok-open_header.ensures.reads) c.in-Ok-open_header-2.ensures.reads;
-  counts = λ outputs.
-      CountsStand-trans (CountsStand-trans (c.in-Ok.ensures.counts outputs) c.in-Ok-open_header.ensures.stand)
+  counts = λ outputs. CountsStand-trans (CountsStand-trans (c.in-Ok.ensures.counts outputs) c.in-Ok-open_header.ensures.stand)
       c.in-Ok-open_header-2.ensures.stand;
 }
 
@@ -77,15 +73,13 @@ returns-in-Err-open_header-2 g c =
           (ReadTo-none old (g.F.Folder.state c.open_inputs.new.folder) n.rec_o TAP_LIMIT c.in-Ok.ensures.opened.files.0 first.goes_on
           (first.names n.rec_o)) in
           answ-refused LIMITS old _ n c.in-Ok.script c.in-Err-open_header-2.stop c.in-Ok.ensures.opened
-          (header-read old n2 n.rec_o Call orig)
-          (c.in-Err-open_header-2.ensures.err old
+          (header-read old n2 n.rec_o Call orig) (c.in-Err-open_header-2.ensures.err old
           (ReadTo-none old n2 n.rec_a TAP_LIMIT c.in-Ok.ensures.opened.files.1.0 second.goes_on (second.names n.rec_a)))
           (stop-earlier old n2 _ (n.rec_a ∷ []) [] c.in-Err-open_header-2.stop
           (CountsStand-trans (c.in-Ok.ensures.counts []) c.in-Ok-open_header.ensures.stand) (c.in-Err-open_header-2.ensures.counts []));
       reads =
           OnlyReads-trans (OnlyReads-trans c.in-Ok.ensures.reads c.in-Ok-open_header.ensures.reads) c.in-Err-open_header-2.ensures.reads;
-      counts = λ outputs.
-          stop-earlier old n2 _ (inputs_of n) outputs c.in-Err-open_header-2.stop
+      counts = λ outputs. stop-earlier old n2 _ (inputs_of n) outputs c.in-Err-open_header-2.stop
           (CountsStand-trans (c.in-Ok.ensures.counts outputs) c.in-Ok-open_header.ensures.stand)
           (stop-widened n2 _ (n.rec_a ∷ []) (inputs_of n) outputs c.in-Err-open_header-2.stop
           (λ some. elim some [ inl rose ↦ inr (inl rose) | inr never ↦ absurd never ]) (c.in-Err-open_header-2.ensures.counts outputs));

@@ -32,22 +32,15 @@ pub returns-in-Ok-read_into : goal.returns-in-Ok-read_into
 returns-in-Ok-read_into g c = record {
   orig = λ start octets h.
       ReadTo-kept start (g.F.Folder.state c.read_into.new.folder) (g.F.Folder.state c.read_into-2.new.folder) c.args.names.now.rec_o.now
-      TAP_LIMIT _ _
-      (c.in-Ok.ensures.more start octets h) c.in-Ok-read_into.ensures.reads.goes_on
+      TAP_LIMIT _ _ (c.in-Ok.ensures.more start octets h) c.in-Ok-read_into.ensures.reads.goes_on
       (c.in-Ok-read_into.ensures.reads.names c.args.names.now.rec_o.now);
-  answ = λ start octets h.
-      c.in-Ok-read_into.ensures.more start octets
+  answ = λ start octets h. c.in-Ok-read_into.ensures.more start octets
       (ReadTo-kept start (g.F.Folder.state c.args.folder.now) (g.F.Folder.state c.read_into.new.folder) c.args.names.now.rec_a.now
-      TAP_LIMIT _
-      _ h c.in-Ok.ensures.reads.goes_on
-      (c.in-Ok.ensures.reads.names c.args.names.now.rec_a.now));
+      TAP_LIMIT _ _ h c.in-Ok.ensures.reads.goes_on (c.in-Ok.ensures.reads.names c.args.names.now.rec_a.now));
   orig_end = c.in-Ok.ensures.end;
-  answ_end = λ start octets h.
-      c.in-Ok-read_into.ensures.end start octets
+  answ_end = λ start octets h. c.in-Ok-read_into.ensures.end start octets
       (ReadTo-kept start (g.F.Folder.state c.args.folder.now) (g.F.Folder.state c.read_into.new.folder) c.args.names.now.rec_a.now
-      TAP_LIMIT _
-      _ h c.in-Ok.ensures.reads.goes_on
-      (c.in-Ok.ensures.reads.names c.args.names.now.rec_a.now));
+      TAP_LIMIT _ _ h c.in-Ok.ensures.reads.goes_on (c.in-Ok.ensures.reads.names c.args.names.now.rec_a.now));
   orig_bound = c.in-Ok.ensures.bound;
   answ_bound = c.in-Ok-read_into.ensures.bound;
   orig_within = c.in-Ok.ensures.within;

@@ -9,8 +9,7 @@ returns c = record {
   all = λ frame k. c.ok.ensures.value ∙ ap result_ok (c.read_checked.ensures.all frame k);
   is =
       subst (λ found. IfSome found (λ frame. c.args.octets.now ≡ checked c.args.framing.check c.args.framing.sender c.args.framing.dlci
-      frame))
-      (sym c.ok.ensures.value)
+      frame)) (sym c.ok.ensures.value)
       (ok-spelled c.args.framing.check c.args.framing.sender c.args.framing.dlci c.args.octets.now c.read_checked.result
       c.read_checked.ensures.ok);
   sendable =

@@ -1,4 +1,4 @@
-use Rattle.std.proofs.Common.{arith}
+use Rattle.line_world.proofs.Cited.{arith}
 use Rattle.line_world.proofs.Lending.{few-turns}
 use Rattle.line_world.proofs.laws.turns_are_few.Goals as goal
 

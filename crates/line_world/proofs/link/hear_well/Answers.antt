@@ -1,4 +1,4 @@
-use Rattle.link_run.specs.Run.{arrival}
+use Rattle.line_world.proofs.Cited.{arrival}
 use Rattle.line_world.proofs.Linking.{heard-well}
 use Rattle.line_world.proofs.link.hear_well.Goals as goal
 

@@ -21,13 +21,7 @@ returns-clause-octets g c = go c.read_at.result c.read_at.ensures.octets
     low = rw at-is c.requires.within
 
     bounds : (room ≤ c.args.size) × (room ≤ c.args.limit - at)
-    bounds = elim c.if-left-from.branch [
-      | then-left-from w ↦ (omega (arith, w.room-is, w.if-left-from.true, c.from-2.ensures), omega (arith, w.room-is))
-      | else-left-from w ↦ (
-        omega (arith, w.room-is, w.from-room.ensures),
-        omega (arith, w.room-is, w.from-room.ensures, w.if-left-from.false, c.from-2.ensures),
-      )
-    ]
+    bounds = grind (arith, then-left-from, else-left-from)
 
     small : room ≤ c.args.size
     small = bounds.0
@@ -49,8 +43,7 @@ returns-clause-octets g c = go c.read_at.result c.read_at.ensures.octets
     go (Ok count) h = λ told.
         let r = h told in
         read-segment (octets_at (g.F.Folder.state c.args.folder.now) c.args.name.now) (take room c.args.segment.now) c.read_at.new.buf
-        (drop room c.args.segment.now)
-        c.args.size c.args.number at c.args.limit room count at-is low small few way wide r.0 r.1
+        (drop room c.args.segment.now) c.args.size c.args.number at c.args.limit room count at-is low small few way wide r.0 r.1
     go (Err fault) h = tt
 
 pub overflow_mul-at : goal.overflow_mul-at

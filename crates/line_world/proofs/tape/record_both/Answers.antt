@@ -4,13 +4,12 @@ use Rattle.line_world.proofs.Folders.{counts-front}
 use Rattle.line_world.proofs.tape.record_both.Goals as goal
 
 pub returns-in-Err-clause-records : goal.returns-in-Err-clause-records
-returns-in-Err-clause-records g c = λ files ts t ends w k.
-    inl (
-      c.in-Err.ensures.records (script_of c.args.world.now) Originator ts t (c.sent.ensures.sent files ts t ends w) k.0,
-      keeps-holds c.args.tapes.now.answ _ (wire_of (script_of c.args.world.now)) Answerer ts
-          (keeps-later c.args.tapes.now.answ _ _ (wire_of (script_of c.args.world.now)) Answerer ts c.in-Err.ensures.only.goes_on
-          (c.in-Err.ensures.only.names c.args.tapes.now.answ.name.now (λ e. c.requires.apart.0.0 (sym e))) k.1),
-    )
+returns-in-Err-clause-records g c = λ files ts t ends w k. inl (
+  c.in-Err.ensures.records (script_of c.args.world.now) Originator ts t (c.sent.ensures.sent files ts t ends w) k.0,
+  keeps-holds c.args.tapes.now.answ _ (wire_of (script_of c.args.world.now)) Answerer ts
+      (keeps-later c.args.tapes.now.answ _ _ (wire_of (script_of c.args.world.now)) Answerer ts c.in-Err.ensures.only.goes_on
+      (c.in-Err.ensures.only.names c.args.tapes.now.answ.name.now (λ e. c.requires.apart.0.0 (sym e))) k.1),
+)
 
 pub returns-clause-records : goal.returns-clause-records
 returns-clause-records g c = λ files ts t ends w k.
@@ -30,8 +29,7 @@ returns-in-Err-clause-only g c = OnlyPuts-one _ _ [] c.args.tapes.now.orig.name.
 pub returns-in-Err-clause-counts : goal.returns-in-Err-clause-counts
 returns-in-Err-clause-counts g c =
     counts-front (g.F.Folder.state c.args.folder.now) (g.F.Folder.state c.record.new.folder) []
-    (c.args.tapes.now.orig.name.now ∷ [])
-    (c.args.tapes.now.answ.name.now ∷ []) c.in-Err.fault c.in-Err.ensures.counts
+    (c.args.tapes.now.orig.name.now ∷ []) (c.args.tapes.now.answ.name.now ∷ []) c.in-Err.fault c.in-Err.ensures.counts
 
 pub returns-clause-came : goal.returns-clause-came
 returns-clause-came g c = g.met.F.Folder.came_on _ _ _ c.record.ensures.came c.record-2.ensures.came

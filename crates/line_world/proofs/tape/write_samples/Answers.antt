@@ -16,11 +16,9 @@ loop-place-preserved c = record {
       let pushed = records-more mode c.loop-place.modulator c.push-sample.new.self
       (bits ++ line_bits (take c.loop-place.place c.args.slot.now))
       more octets c.loop-place.out c.octets_of.result c.push-sample.result before
-      (c.push-sample.ensures mode _ before.samples before.stands)
-      c.octets_of.ensures in
+      (c.push-sample.ensures mode _ before.samples before.stands) c.octets_of.ensures in
       subst (λ (o : List ℕ). RecordsBits mode c.push-sample.new.self (bits ++ line_bits (take (c.loop-place.place + 1) c.args.slot.now))
-      (octets ++ o))
-      (sym c.extend.ensures)
+      (octets ++ o)) (sym c.extend.ensures)
       (subst (λ (b : List Bool). RecordsBits mode c.push-sample.new.self b (octets ++ (c.loop-place.out ++ c.octets_of.result))) at-bits
       pushed);
 }
@@ -29,8 +27,7 @@ pub loop-place-init : goal.loop-place-init
 loop-place-init c = record {
   room = ap length c.requires;
   stands = λ mode bits octets r. subst (λ (b : List Bool). RecordsBits mode c.args.modulator.now b (octets ++ c.args.out.now))
-      (sym (append-nil bits))
-      (subst (λ (o : List ℕ). RecordsBits mode c.args.modulator.now bits o)
+      (sym (append-nil bits)) (subst (λ (o : List ℕ). RecordsBits mode c.args.modulator.now bits o)
       (sym (append-nil octets) ∙ ap (λ o. octets ++ o) (sym c.requires)) r);
 }
 

@@ -1,4 +1,4 @@
-use Rattle.line_run.specs.Names.{written}
+use Rattle.line_world.proofs.Cited.{written}
 use Rattle.line_world.proofs.Serving.{writing-fault, trace-counts}
 use Rattle.line_world.proofs.turn_text.write_turn.Goals as goal
 

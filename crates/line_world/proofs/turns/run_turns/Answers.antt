@@ -97,14 +97,12 @@ returns-in-Err-record_turn g c =
           c.in-Ok-Going.ensures.script going c.in-Ok-Going.ensures.only puts c.in-Err-record_turn.ensures.write partly;
       tally = search rules;
       only =
-          OnlyPuts-trans _ next last (outputs_of n ++ tapes_of tapes)
-          (OnlyPuts-trans _ now next (outputs_of n ++ tapes_of tapes) r.only
+          OnlyPuts-trans _ next last (outputs_of n ++ tapes_of tapes) (OnlyPuts-trans _ now next (outputs_of n ++ tapes_of tapes) r.only
           (puts-front now next (outputs_of n) (tapes_of tapes) c.in-Ok-Going.ensures.only))
           (puts-behind next last (outputs_of n) (tapes_of tapes) puts);
       counts =
           counts-behind _ next last (inputs_of n) (outputs_of n) (tapes_of tapes) c.in-Err-record_turn.fault
-          c.in-Err-record_turn.ensures.write
-          (CountsStand-trans r.stand c.in-Ok-Going.ensures.counts)
+          c.in-Err-record_turn.ensures.write (CountsStand-trans r.stand c.in-Ok-Going.ensures.counts)
           (subst (λ (names : Tapes). FaultCountsOver next last [] (tapes_of names) c.in-Err-record_turn.fault) c.loop-tapes.invariant.named
           c.in-Err-record_turn.ensures.counts);
       came =

@@ -1,6 +1,6 @@
-use Rattle.std.proofs.Common.{◌∙◌, ◌<◌, ◌*◌, ◌++◌, length, take, ap, arith, length-set}
+use Rattle.signal_commands.proofs.Names.{◌∙◌, ◌<◌, ◌*◌, ◌++◌, length, take, ap, arith, samples_in}
+use Rattle.std.proofs.Common.{length-set}
 use Rattle.std.proofs.lemmas.List.{take_more_set}
-use Rattle.recordings.specs.Samples.{samples_in}
 use Rattle.signal_commands.proofs.Batches.{one-copied, few-copied}
 use Rattle.signal_commands.proofs.batch.copy_samples.Goals as goal
 

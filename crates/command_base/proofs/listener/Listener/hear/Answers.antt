@@ -1,4 +1,4 @@
-use Rattle.frame_check.specs.Bits.{bits_of}
+use Rattle.command_base.proofs.Names.{bits_of}
 use Rattle.command_base.proofs.Hearing.{hears-partly}
 use Rattle.command_base.proofs.listener.Listener.hear.Goals as goal
 

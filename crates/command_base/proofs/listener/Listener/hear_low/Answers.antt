@@ -1,4 +1,4 @@
-use Rattle.frame_check.specs.Bits.{low_bits}
+use Rattle.command_base.proofs.Names.{low_bits}
 use Rattle.command_base.proofs.Hearing.{hears-partly}
 use Rattle.command_base.proofs.listener.Listener.hear_low.Goals as goal
 

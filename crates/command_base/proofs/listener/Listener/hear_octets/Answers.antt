@@ -20,10 +20,7 @@ less-left : (all at : ℕ) → at < all → all - (at + 1) < all - at
 less-left all at within = omega arith
 
 pub loop-octet-init : goal.loop-octet-init
-loop-octet-init g c = record {
-  hears = hears-none (g.F.Folder.state c.args.folder.now) c.args.self.now;
-  pieces = no-pieces c.args.self.now.pieces;
-}
+loop-octet-init g c = assumption (hears-none (g.F.Folder.state c.args.folder.now) c.args.self.now, no-pieces c.args.self.now.pieces)
 
 pub hear_octet-requires : goal.hear_octet-requires
 hear_octet-requires g c =

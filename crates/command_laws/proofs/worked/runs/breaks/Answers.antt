@@ -1,4 +1,4 @@
-use Rattle.std.proofs.Common.{refl}
+use Rattle.command_laws.proofs.Names.{refl}
 use Rattle.command_laws.proofs.Texts.{break_asked, break_given}
 use Rattle.command_laws.proofs.worked.runs.breaks.Goals as goal
 

@@ -1,4 +1,4 @@
-use Rattle.std.proofs.Common.{refl}
+use Rattle.command_laws.proofs.Names.{refl}
 use Rattle.command_laws.proofs.Texts.{busy_line}
 use Rattle.command_laws.proofs.worked.runs.busy_ends.Goals as goal
 

@@ -1,4 +1,4 @@
-use Rattle.std.proofs.Common.{refl}
+use Rattle.command_laws.proofs.Names.{refl}
 use Rattle.command_laws.proofs.worked.runs.longer_check.Goals as goal
 
 pub returns : goal.returns

@@ -1,4 +1,4 @@
-use Rattle.std.proofs.Common.{refl}
+use Rattle.command_laws.proofs.Names.{refl}
 use Rattle.command_laws.proofs.worked.runs.lost_far_away.Goals as goal
 
 pub returns : goal.returns

@@ -1,4 +1,4 @@
-use Rattle.std.proofs.Common.{refl}
+use Rattle.command_laws.proofs.Names.{refl}
 use Rattle.command_laws.proofs.Texts.{plain_trace}
 use Rattle.command_laws.proofs.worked.runs.two_one_octet_files.Goals as goal
 

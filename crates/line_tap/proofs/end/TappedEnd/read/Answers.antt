@@ -1,5 +1,5 @@
-use Rattle.line_tap.proofs.Cited.{◌≡◌, ◌∙◌, ap, ◌<◌, ◌*◌, ◌++◌, length, take, arith, sym, subst, ℕ, List, Option, Some, None, take_all}
-use Rattle.line_tap.proofs.Cited.{IfNone, Sent, AreFit, signals, ReadsNext, slot_as, IsNext, ReadsSlot, HoldsNext, samples_in}
+use Rattle.line_tap.proofs.Cited.{◌≡◌, ◌∙◌, ap, ◌<◌, ◌*◌, ◌++◌, length, take, arith, sym, subst, ℕ, List, Option, take_all, IfNone, Sent}
+use Rattle.line_tap.proofs.Cited.{AreFit, signals, ReadsNext, slot_as, IsNext, ReadsSlot, HoldsNext, samples_in}
 use Rattle.std.proofs.lemmas.Option.{IfSome_then}
 use Rattle.line_tap.proofs.SlotNext.{none-held, short-held, reads-next}
 use Rattle.line_tap.proofs.end.TappedEnd.read.Goals as goal
@@ -13,16 +13,14 @@ returns-clause-some c = λ channel check role ts body h.
     → ReadsSlot c.args.self.now.reader c.read.new.self (signals channel role ts) (samples_in body) (samples_in c.deref.result.now)
     c.read.new.labels sent
     → ReadsNext c.read.new.self channel check role ts (body ++ take c.args.count piece) (slot_as sent c.read.new.labels) =
-    λ sent read.
-    subst (λ p. ReadsNext c.read.new.self channel check role ts (body ++ p) (slot_as sent c.read.new.labels)) all
+    λ sent read. subst (λ p. ReadsNext c.read.new.self channel check role ts (body ++ p) (slot_as sent c.read.new.labels)) all
     (reads-next c.args.self.now.reader c.read.new.self channel check role ts body piece (slot_as sent c.read.new.labels) h size
     (subst (λ p. ReadsSlot c.args.self.now.reader c.read.new.self (signals channel role ts) (samples_in body) (samples_in p)
     c.read.new.labels sent) c.deref.ensures.value read)) in
     IfSome_then c.read.result (c.read.ensures.some (signals channel role ts) (samples_in body) h.stands) next
 
 none-then : {X : Type 0} (r : Option X) {P Q : Type 0} → IfNone r P → (P → Q) → IfNone r Q
-none-then None h f = f h
-none-then (Some x) h f = tt
+none-then r h f = grind (arith)
 
 pub returns-clause-none : goal.returns-clause-none
 returns-clause-none c = λ channel check role ts body h fit.
@@ -32,12 +30,10 @@ returns-clause-none c = λ channel check role ts body h fit.
     let next : ((s : Sent) → IsNext c.args.self.now.reader (signals channel role ts) (samples_in body) (samples_in c.deref.result.now) s
     → ⊥)
     → (s : Sent) → HoldsNext channel check role ts (body ++ take c.args.count piece) s → ⊥ =
-    λ none.
-    subst (λ p. (s : Sent) → HoldsNext channel check role ts (body ++ p) s → ⊥) all
+    λ none. subst (λ p. (s : Sent) → HoldsNext channel check role ts (body ++ p) s → ⊥) all
     (none-held c.args.self.now.reader channel check role ts body piece h size
     (subst (λ p. (s : Sent) → IsNext c.args.self.now.reader (signals channel role ts) (samples_in body) (samples_in p) s → ⊥)
-    c.deref.ensures.value
-    none)) in
+    c.deref.ensures.value none)) in
     none-then c.read.result (c.read.ensures.none (signals channel role ts) (samples_in body) h.stands
     (subst (λ n. AreFit (4 * n) 0 (signals channel role ts)) (sym h.reads.symbols) fit)) next
 

@@ -32,8 +32,7 @@ loop-segment-preserved g c =
           let k = old.hands i h in
           handing-next start now next name c.deliver.new.out c.loop-segment.self.receiver c.deliver.new.self i old.only.goes_on k
           (next-is c.loop-segment.self.receiver i k.given c.deliver.new.out (c.if-not-deliver.ensures.answer _ k.stands)
-          (λ s. c.if-not-deliver.ensures.segment _ s k.stands))
-          (c.if-not-deliver.ensures.stands _ k.stands) put;
+          (λ s. c.if-not-deliver.ensures.segment _ s k.stands)) (c.if-not-deliver.ensures.stands _ k.stands) put;
       beside = ap (λ (l : EndListener). record l { receiver = c.deliver.new.self }) old.beside;
       window = ap (λ (r : Taking). r.window) c.if-not-deliver.ensures.value ∙ old.window;
       taken = ap (λ (r : Taking). r.taken) c.if-not-deliver.ensures.value ∙ old.taken;
@@ -53,8 +52,7 @@ returns-then-not-deliver g c = record {
       let all = handing-ends (g.F.Folder.state c.args.folder.now) (g.F.Folder.state c.loop-segment.folder) c.args.name.now
       c.loop-segment.self.receiver i k (c.if-not-deliver.ensures.answer _ k.stands) in
       listens-on c.args.self.now c.loop-segment.self c.deliver.new.self terms role agreed connected i lengths
-      c.loop-segment.invariant.beside
-      (subst (λ (r : Taking). StandsIn r (delivered i)) (sym c.if-not-deliver.ensures.unchanged) all.0) h;
+      c.loop-segment.invariant.beside (subst (λ (r : Taking). StandsIn r (delivered i)) (sym c.if-not-deliver.ensures.unchanged) all.0) h;
   ok = λ i h.
       let k = c.loop-segment.invariant.hands i h in
       (handing-ends (g.F.Folder.state c.args.folder.now) (g.F.Folder.state c.loop-segment.folder) c.args.name.now

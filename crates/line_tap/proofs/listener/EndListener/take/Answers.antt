@@ -5,8 +5,7 @@ use Rattle.line_tap.proofs.Listening.{gives-no-segment, opens-no-segment, opens-
 use Rattle.line_tap.proofs.listener.EndListener.take.Goals as goal
 
 pub returns-in-I-clause-stands : goal.returns-in-I-clause-stands
-returns-in-I-clause-stands c = λ terms role agreed connected i lengths h.
-    rw c.in-I.is
+returns-in-I-clause-stands c = λ terms role agreed connected i lengths h. rw c.in-I.is
     (subst (λ b. Listens c.take_segment.new.self terms role agreed b (after_take c.in-I.ns c.in-I.info i)
     (lengths ++ given_in (given_by connected (Passed (slots.Frame (I c.in-I.ns c.in-I.nr c.in-I.pf c.in-I.info))) lengths)))
     (sym (opens-no-segment role c.in-I.ns c.in-I.nr c.in-I.pf c.in-I.info connected))
@@ -22,8 +21,7 @@ returns-then-self-clause-given c = λ terms role agreed connected i lengths h.
 pub returns-then-self-clause-stands : goal.returns-then-self-clause-stands
 returns-then-self-clause-stands c = λ terms role agreed connected i lengths h.
     let e : true ≡ connected = sym c.if-self.true ∙ h.connected_is in
-    rw c.in-Ui.is
-    (subst (λ b. Listens c.take_information.new.self terms role agreed b i
+    rw c.in-Ui.is (subst (λ b. Listens c.take_information.new.self terms role agreed b i
     (lengths ++ given_in (given_by connected (Passed (slots.Frame (Ui c.in-Ui.command c.in-Ui.pf c.in-Ui.info))) lengths)))
     (sym (opens-no-word role c.in-Ui.command c.in-Ui.pf c.in-Ui.info connected))
     (subst (λ b. Listens c.take_information.new.self terms role agreed connected i

@@ -29,8 +29,7 @@ phase_behind-requires-clause-by c =
     let r = c.args.self.now in
     subst (EndsBy r.framing.check r.framing.sender r.framing.dlci r.phase c.guess-sent.result) (sym c.end.ensures)
     (found-ends r.framing.check r.framing.sender r.framing.dlci r.symbols r.phase (line_bits c.read_labels.new.bits)
-    c.frame_in-found.new.self
-    c.frame_in-found.result c.guess-sent.result c.frame_in-found.ensures.at c.guess-sent.ensures.guess)
+    c.frame_in-found.new.self c.frame_in-found.result c.guess-sent.result c.frame_in-found.ensures.at c.guess-sent.ensures.guess)
 
 pub write_again-requires-clause-octets : goal.write_again-requires-clause-octets
 write_again-requires-clause-octets c =
@@ -60,10 +59,7 @@ returns-in_err-phase c = record {
       let r = c.args.self.now in
       let more : List Sample = samples_in c.args.octets.now in
       let h = c.in_ok-state.ensures.some in
-      let laws : GuessLaws = record {
-        points = c.points_differ.ensures;
-        tell = c.slots_tell_what_was_sent.ensures;
-      } in
+      let laws : GuessLaws = assumption in
       let phase = phase-is r sigs samples k in
       let refuted : (s : Sent) → IsNext r sigs samples more s → ⊥ =
       λ s x.
@@ -82,8 +78,7 @@ returns-in_err-phase c = record {
       (subst (EndsAt r.framing.check r.framing.sender r.framing.dlci r.phase c.guess-sent.result) (sym c.end.ensures)
       (found-sent r.framing.check r.framing.sender r.framing.dlci r.symbols r.phase (line_bits c.read_labels.new.bits)
       c.frame_in-found.new.self
-      c.frame_in-found.result c.guess-sent.result c.frame_in-found.ensures.at c.guess-sent.ensures.guess codable same))
-      codable in
+      c.frame_in-found.result c.guess-sent.result c.frame_in-found.ensures.at c.guess-sent.ensures.guess codable same)) codable in
       subst (λ q. IfNone q ((s : Sent) → IsNext r sigs samples more s → ⊥)) (sym c.from_residual-in_err-phase.ensures) refuted;
   framing = refl;
   size = refl;
@@ -96,10 +91,7 @@ returns-then-not-same_quads c = record {
       let r = c.args.self.now in
       let more : List Sample = samples_in c.args.octets.now in
       let h = c.in_ok-state.ensures.some in
-      let laws : GuessLaws = record {
-        points = c.points_differ.ensures;
-        tell = c.slots_tell_what_was_sent.ensures;
-      } in
+      let laws : GuessLaws = assumption in
       let phase = phase-is r sigs samples k in
       let is : c.guess-sent.result ≡ s =
       guessed laws r sigs samples more s c.guess-sent.result c.read_labels.new.demodulator c.in_ok-state.state c.read_labels.new.bits
@@ -162,8 +154,7 @@ returns c = record {
           leads = leads;
           in_step = record {
             symbols = symbols;
-            phase = phase-next r c.write_again.new.writer sigs s c.in_ok-phase.phase symbols writer phase
-                (c.in_ok-phase.ensures.next ends);
+            phase = phase-next r c.write_again.new.writer sigs s c.in_ok-phase.phase symbols writer phase (c.in_ok-phase.ensures.next ends);
           };
           writer = writer;
         };

@@ -13,13 +13,7 @@ returns-then-not-bit_in-clause-found c = λ symbols long.
 
 pub returns-in_err-end-clause-found : goal.returns-in_err-end-clause-found
 returns-in_err-end-clause-found c = λ symbols long.
-    let laws : FoundLaws = record {
-      fits = c.codable_slots_fit.ensures.fits;
-      sendable = c.codable_slots_fit.ensures.sendable;
-      octets = c.codable_slots_fit.ensures.octets;
-      found = c.found_is_sent.ensures;
-      last = c.last_pieces_are_found.ensures;
-    } in
+    let laws : FoundLaws = assumption in
     let bits : List Bool = line_bits c.args.slot.now in
     let opens = c.rest_bits-opens in
     let place : length (rest_of_flag c.args.phase) + 32 ≡ opens.result + 24 + 8 = omega (arith, opens.ensures.value) in
@@ -33,13 +27,7 @@ returns-in_err-end-clause-found c = λ symbols long.
 
 pub returns : goal.returns
 returns c =
-    let laws : FoundLaws = record {
-      fits = c.codable_slots_fit.ensures.fits;
-      sendable = c.codable_slots_fit.ensures.sendable;
-      octets = c.codable_slots_fit.ensures.octets;
-      found = c.found_is_sent.ensures;
-      last = c.last_pieces_are_found.ensures;
-    } in
+    let laws : FoundLaws = assumption in
     let bits : List Bool = line_bits c.args.slot.now in
     let first =
     subst (λ n. EndsFirst c.end_of_piece.new.deframer bits (n + 24) c.in_ok-end.end) c.rest_bits-opens.ensures.value
@@ -49,8 +37,7 @@ returns c =
           let opens = c.rest_bits-opens in
           let place : length (rest_of_flag c.args.phase) + 32 ≡ opens.result + 24 + 8 = omega (arith, opens.ensures.value) in
           finds-there c.args.framing.check c.args.framing.sender c.args.framing.dlci symbols c.args.phase bits c.frame_of.result long
-          c.requires.phase
-          (ap (bit_of bits) place ∙ sym c.bit_in.ensures ∙ c.if-not-bit_in.false)
+          c.requires.phase (ap (bit_of bits) place ∙ sym c.bit_in.ensures ∙ c.if-not-bit_in.false)
           (first-there laws c.args.framing.check c.args.framing.sender c.args.framing.dlci symbols c.args.phase bits
           c.end_of_piece.new.deframer
           c.in_ok-end.end c.whole.result.now c.frame_of.result c.requires.channel first (c.whole.ensures.value _ first.stands)

@@ -14,12 +14,10 @@ returns-in-Err g c =
     record {
       stands = tt;
       ok = tt;
-      err = λ x ts heard h.
-          inl (
-            c.in-Err.ensures.err _ h.orig.takes,
-            KeepsEach-writes a b n.got_o (n.got_a ∷ n.trace ∷ []) c.requires.0.0
-                c.in-Err.ensures.only,
-          );
+      err = λ x ts heard h. inl (
+        c.in-Err.ensures.err _ h.orig.takes,
+        KeepsEach-writes a b n.got_o (n.got_a ∷ n.trace ∷ []) c.requires.0.0 c.in-Err.ensures.only,
+      );
       orig = tt;
       answ = tt;
       turn = refl;
@@ -47,8 +45,7 @@ returns-in-Ok-deliver g c =
             answ = c.in-Ok-deliver.ensures.stands (terms_of x) Answerer _ _ _ _ h.answ;
             lines = h.lines;
           };
-      ok = λ x ts heard h.
-          AddEach-next _ _ _ (n.got_o ∷ []) n.got_a (n.trace ∷ []) ((added x ts (silent_in x ts heard) []).got.orig ∷ [])
+      ok = λ x ts heard h. AddEach-next _ _ _ (n.got_o ∷ []) n.got_a (n.trace ∷ []) ((added x ts (silent_in x ts heard) []).got.orig ∷ [])
           (added x ts (silent_in x ts heard) []).got.answ tt c.requires.0 c.in-Ok.ensures.only.goes_on
           (c.in-Ok.ensures.ok _ h.orig.takes, KeepsEach-writes _ _ n.got_o (n.got_a ∷ n.trace ∷ []) c.requires.0.0 c.in-Ok.ensures.only)
           c.in-Ok-deliver.ensures.only (c.in-Ok-deliver.ensures.ok _ h.answ.takes);
@@ -74,8 +71,7 @@ returns-in-Err-deliver g c =
     record {
       stands = tt;
       ok = tt;
-      err = λ x ts heard h.
-          AddPart-next a b d (n.got_o ∷ []) n.got_a (n.trace ∷ []) ((added x ts (silent_in x ts heard) []).got.orig ∷ [])
+      err = λ x ts heard h. AddPart-next a b d (n.got_o ∷ []) n.got_a (n.trace ∷ []) ((added x ts (silent_in x ts heard) []).got.orig ∷ [])
           (added x ts (silent_in x ts heard) []).got.answ tt c.requires.0 c.in-Ok.ensures.only.goes_on
           (c.in-Ok.ensures.ok _ h.orig.takes, KeepsEach-writes a b n.got_o (n.got_a ∷ n.trace ∷ []) c.requires.0.0 c.in-Ok.ensures.only)
           c.in-Err-deliver.ensures.only (c.in-Err-deliver.ensures.err _ h.answ.takes);

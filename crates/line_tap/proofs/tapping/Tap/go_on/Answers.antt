@@ -40,36 +40,12 @@ returns g c = record {
         at = tap.at + c.len.result;
         turn = tap.turn + 1;
       } in (
-        after-going x ts tap new c.args.hearing.now slots sent k (record {
-          script = refl;
-          orig = refl;
-          answ = refl;
-          at = ap (λ n. tap.at + n) (c.len.ensures ∙ tap.orig.piece.ok.0);
-          turn = refl;
-          from_orig = record {
-            stands = c.put.ensures.stands;
-            sender = c.put.ensures.sender;
-            delay = c.put.ensures.delay;
-            lag = c.put.ensures.lag;
-            line = c.put.ensures.line;
-          };
-          from_answ = record {
-            stands = c.put-2.ensures.stands;
-            sender = c.put-2.ensures.sender;
-            delay = c.put-2.ensures.delay;
-            lag = c.put-2.ensures.lag;
-            line = c.put-2.ensures.line;
-          };
-          orig_sent = refl;
-          answ_sent = refl;
-        }),
+        after-going x ts tap new c.args.hearing.now slots sent k (assumption (ap (λ n. tap.at + n) (c.len.ensures ∙ tap.orig.piece.ok.0))),
         subst (Appended (g.F.Folder.state c.args.folder.now) (g.F.Folder.state c.append_turn.new.folder) (named c.args.names.now).trace)
-            (text-is tap.turn x ts c.args.hearing.now (Some c.args.sent)
-            (record {
+            (text-is tap.turn x ts c.args.hearing.now (Some c.args.sent) (record {
               orig = Some (told (check_by (terms_of x)) slots.orig.sent);
               answ = Some (told (check_by (terms_of x)) slots.answ.sent);
-            })
-            k.turn k.hears refl refl) c.in-Ok.ensures.ok,
+            }) k.turn k.hears refl refl) c.in-Ok.ensures.ok,
       );
   err = tt;
   orig = refl;

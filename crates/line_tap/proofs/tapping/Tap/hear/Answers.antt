@@ -5,11 +5,7 @@ use Rattle.line_tap.proofs.tapping.Tap.hear.Goals as goal
 
 pub arrive-requires : goal.arrive-requires
 arrive-requires c =
-    let laws : LoneLaws = record {
-      due = c.slots_are_due_alone.ensures.due;
-      counted = c.slots_are_due_alone.ensures.counted;
-      delays = c.scripts_make_links.ensures.delays;
-    } in
+    let laws : LoneLaws = assumption in
     record {
       channel = search rules;
       few = are-few laws c.args.self.now c.requires;
@@ -29,11 +25,7 @@ arrive-requires c =
 
 pub returns-in-Ok-clause-hears : goal.returns-in-Ok-clause-hears
 returns-in-Ok-clause-hears c = λ x ts h.
-    let laws : LoneLaws = record {
-      due = c.slots_are_due_alone.ensures.due;
-      counted = c.slots_are_due_alone.ensures.counted;
-      delays = c.scripts_make_links.ensures.delays;
-    } in
+    let laws : LoneLaws = assumption in
     let tap : Tap = c.args.self.now in
     let new : Tap = record tap {
       lines = c.arrive.new.self;
@@ -67,11 +59,7 @@ returns-in-Ok-clause-answ c = c.hear-in-Ok.ensures.idle c.args.self.now.turn c.r
 
 pub returns-in-Err-clause-hears : goal.returns-in-Err-clause-hears
 returns-in-Err-clause-hears c = λ x ts h.
-    let laws : LoneLaws = record {
-      due = c.slots_are_due_alone.ensures.due;
-      counted = c.slots_are_due_alone.ensures.counted;
-      delays = c.scripts_make_links.ensures.delays;
-    } in
+    let laws : LoneLaws = assumption in
     let checks : Both Check = record { orig = c.check.result; answ = c.check-2.result } in
     ends-by (line_of x) ts (λ role. of role checks) (λ role. judged_by (terms_of x) role ts)
     (checks-so c.args.self.now x ts checks h c.check.ensures c.check-2.ensures) (end_of c.in-Err.end)

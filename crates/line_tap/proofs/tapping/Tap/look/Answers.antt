@@ -27,12 +27,7 @@ read-requires-2-clause-count c = subst (λ (n : ℕ). c.args.counts.now.answ ≤
 pub returns-in-None : goal.returns-in-None
 returns-in-None c = record {
   looks = λ x ts heard h.
-      let laws : FitLaws = record {
-        more = c.slots_that_fit_follow_one_another.ensures.more;
-        fits = c.codable_slots_fit.ensures.fits;
-        sendable = c.codable_slots_fit.ensures.sendable;
-        octets = c.codable_slots_fit.ensures.octets;
-      } in
+      let laws : FitLaws = assumption in
       c.in-None.ensures.none (line_of x) (check_by (terms_of x)) Originator ts x.bodies.orig h.behind.orig
       (told-fit laws x ts h.behind.tells Originator);
   orig = c.in-None.ensures.listener;
@@ -69,12 +64,7 @@ returns-in-Some-read c = record {
 pub returns-in-None-read : goal.returns-in-None-read
 returns-in-None-read c = record {
   looks = λ x ts heard h.
-      let laws : FitLaws = record {
-        more = c.slots_that_fit_follow_one_another.ensures.more;
-        fits = c.codable_slots_fit.ensures.fits;
-        sendable = c.codable_slots_fit.ensures.sendable;
-        octets = c.codable_slots_fit.ensures.octets;
-      } in
+      let laws : FitLaws = assumption in
       let check : Check = check_by (terms_of x) in
       let first = c.in-Some.ensures.some (line_of x) check Originator ts x.bodies.orig h.behind.orig in (
         (c.in-Some.sent, first.holds),

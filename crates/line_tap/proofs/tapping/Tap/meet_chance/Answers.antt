@@ -7,8 +7,7 @@ pub returns-in-Ok : goal.returns-in-Ok
 returns-in-Ok g c = record {
   meets = λ start x ts number tells e read.
       meets-chance start (g.F.Folder.state c.args.folder.now) (g.F.Folder.state c.append_chance.new.folder) (named c.args.names.now) x ts
-      c.args.role
-      c.args.self.now.turn c.requires tells read e number c.in-Ok.ensures.only c.in-Ok.ensures.ok;
+      c.args.role c.args.self.now.turn c.requires tells read e number c.in-Ok.ensures.only c.in-Ok.ensures.ok;
   only =
       let n : TapNames = named c.args.names.now in
       OnlyPuts-one (g.F.Folder.state c.args.folder.now) (g.F.Folder.state c.append_chance.new.folder) (n.got_o ∷ n.got_a ∷ []) n.trace []

@@ -71,8 +71,7 @@ returns c =
           c.in_ok-orig.ensures.listens c.in_ok-answ.ensures.listens
           (c.in_ok-orig.ensures.reads (line_of x) (sym c.slot_symbols-symbols.ensures.value) refl)
           (c.in_ok-answ.ensures.reads (line_of x) (sym c.slot_symbols-symbols.ensures.value) refl) c.in_ok-orig.ensures.room
-          c.in_ok-answ.ensures.room
-          (c.in_ok-lines.ensures 0 (λ role turn. None));
+          c.in_ok-answ.ensures.room (c.in_ok-lines.ensures 0 (λ role turn. None));
     }
 
 pub new-requires-2 : goal.new-requires-2

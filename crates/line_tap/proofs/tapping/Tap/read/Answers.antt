@@ -1,4 +1,4 @@
-use Rattle.line_tap.proofs.Cited.{List, ℕ, ◌≤◌, ◌<◌, refl, sym, ◌∙◌, subst, Heard, named, InTurn, Tapping, Tap, Turn, Both}
+use Rattle.line_tap.proofs.Cited.{arith, List, ℕ, ◌≤◌, ◌<◌, refl, sym, subst, Heard, named, InTurn, Tapping, Tap, Turn, Both}
 use Rattle.line_tap.proofs.Turning.{has-read-pieces, read-turn}
 use Rattle.line_tap.proofs.tapping.Tap.read.Given.{Over}
 use Rattle.line_tap.proofs.tapping.Tap.read.Goals.{After-read_pieces}
@@ -16,15 +16,7 @@ with-pieces g c = record c.args.self.now {
 
 stands-with : (g : Over) (c : After-read_pieces g) (x : Tapping) (ts : List Turn) (heard : Both Heard) → InTurn c.args.self.now x ts heard
     → InTurn (with-pieces g c) x ts heard
-stands-with g c x ts heard = read-turn c.args.self.now (with-pieces g c) x ts heard (record {
-  script = refl;
-  turn = refl;
-  at = refl;
-  orig = refl;
-  answ = refl;
-  orig_piece = sym c.read_pieces.new.orig.ok.0 ∙ c.read_pieces.ensures.orig_kept ∙ c.args.self.now.orig.piece.ok.0;
-  answ_piece = sym c.read_pieces.new.answ.ok.0 ∙ c.read_pieces.ensures.answ_kept ∙ c.args.self.now.answ.piece.ok.0;
-}) refl refl refl
+stands-with g c x ts heard = grind (arith, read-turn)
 
 pub returns-in-Ok : goal.returns-in-Ok
 returns-in-Ok g c = record {

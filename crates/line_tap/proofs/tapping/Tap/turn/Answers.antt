@@ -23,8 +23,7 @@ pieces-read g c start x ts h read =
 
 -- both were looked at, and the turn goes on
 going-on : (g : Over) (c : In-Ok-look g) (x : Tapping) (ts : List Turn) → InTurn c.read.new.self x ts c.in-Ok.hearing.heard
-    → HearsSo x ts c.in-Ok.hearing
-    → IsToGo c.look.new.self (now_of c.read.new.self x c.in-Ok-read.counts) ts c.in-Ok.hearing
+    → HearsSo x ts c.in-Ok.hearing → IsToGo c.look.new.self (now_of c.read.new.self x c.in-Ok-read.counts) ts c.in-Ok.hearing
     (slots_as c.in-Ok-look.sent c.look.new.labels)
 going-on g c x ts turn hears =
     to-go c.read.new.self c.look.new.self x ts c.in-Ok.hearing c.in-Ok-read.counts (slots_as c.in-Ok-look.sent c.look.new.labels) turn hears
@@ -60,8 +59,7 @@ returns-in-Ok-go_on g c =
           c.in-Ok-look.ensures.at ∙ c.in-Ok-read.ensures.at ∙ c.in-Ok-deliver.ensures.at ∙ c.in-Ok.ensures.at in
           let more = nearer-by c.args.self.now c.look.new.self c.go_on.new.self same room c.in-Ok-go_on.ensures.at in
           let whole = whole-orig c.read.new.self c.look.new.self x ts c.in-Ok.hearing c.in-Ok-read.counts
-          (slots_as c.in-Ok-look.sent c.look.new.labels) turn
-          c.in-Ok-read.ensures.orig_few go in
+          (slots_as c.in-Ok-look.sent c.look.new.labels) turn c.in-Ok-read.ensures.orig_few go in
           let within = within-by c.read.new.self c.look.new.self c.go_on.new.self c.deliver.new.self.at c.in-Ok-read.counts.orig
           c.in-Ok-read.ensures.at
           c.in-Ok-look.ensures.at c.in-Ok-look.ensures.orig_piece whole c.in-Ok-read.ensures.within c.in-Ok-go_on.ensures.at in
@@ -73,12 +71,10 @@ returns-in-Ok-go_on g c =
           ∙ c.in-Ok.ensures.script) (c.in-Ok-deliver.ensures.orig (c.args.self.now.turn + 1) c.in-Ok.ensures.orig)
           (c.in-Ok-deliver.ensures.answ (c.args.self.now.turn + 1) c.in-Ok.ensures.answ)
           (c.in-Ok-go_on.ensures.orig ∙ c.in-Ok-look.ensures.orig ∙ c.in-Ok-read.ensures.orig)
-          (c.in-Ok-go_on.ensures.answ ∙ c.in-Ok-look.ensures.answ ∙ c.in-Ok-read.ensures.answ)
-          (c.in-Ok-go_on.ensures.turn
+          (c.in-Ok-go_on.ensures.answ ∙ c.in-Ok-look.ensures.answ ∙ c.in-Ok-read.ensures.answ) (c.in-Ok-go_on.ensures.turn
           ∙ ap (λ n. n + 1) (c.in-Ok-look.ensures.turn ∙ c.in-Ok-read.ensures.turn ∙ c.in-Ok-deliver.ensures.turn ∙ c.in-Ok.ensures.turn))
           more within;
-      nearer = λ same.
-          nearer-by c.args.self.now c.look.new.self c.go_on.new.self
+      nearer = λ same. nearer-by c.args.self.now c.look.new.self c.go_on.new.self
           (c.in-Ok-look.ensures.at ∙ c.in-Ok-read.ensures.at ∙ c.in-Ok-deliver.ensures.at ∙ c.in-Ok.ensures.at) room
           c.in-Ok-go_on.ensures.at;
       only =
@@ -100,8 +96,7 @@ returns-in-Err-read g c = record {
   counts =
       stop-earlier (g.F.Folder.state c.args.folder.now) (g.F.Folder.state c.deliver.new.folder) (g.F.Folder.state c.read.new.folder)
       (recordings_of (named c.args.names.now)) (outputs_of (named c.args.names.now)) (Read c.in-Err-read.fault)
-      c.in-Ok-deliver.ensures.stand
-      c.in-Err-read.ensures.fails;
+      c.in-Ok-deliver.ensures.stand c.in-Err-read.ensures.fails;
 }
 
 pub returns-in-Ok-finish : goal.returns-in-Ok-finish
@@ -143,8 +138,7 @@ returns-in-Err-look g c = record {
       let n : TapNames = named c.args.names.now in
       let k = pieces-read g (goal.at.returns-in-Err-look g c).In-Ok-read start x ts h read in
       ends-badly c.keeps_taken.ensures c.read.new.self start _ _ _ n x ts c.in-Ok.hearing c.in-Ok-read.counts c.in-Err-look.role
-      c.look.new.self.turn k
-      (c.if-are_none.ensures.some refl) (c.in-Err-look.ensures.turn ∙ k.pieces.turn.behind.turn)
+      c.look.new.self.turn k (c.if-are_none.ensures.some refl) (c.in-Err-look.ensures.turn ∙ k.pieces.turn.behind.turn)
       (c.in-Err-look.ensures.looks x ts c.in-Ok.hearing.heard k.pieces.turn);
   script =
       c.in-Err-look.ensures.script ∙ c.in-Ok-read.ensures.script ∙ c.in-Ok-deliver.ensures.script
@@ -177,8 +171,7 @@ returns-in-Err-go_on g c = record {
 
 pub returns-in-Err-Lost : goal.returns-in-Err-Lost
 returns-in-Err-Lost g c = record {
-  turn = λ start x ts h read.
-      rw (c.in-Err-Lost.field-0-is)
+  turn = λ start x ts h read. rw (c.in-Err-Lost.field-0-is)
       (loses-line start (g.F.Folder.state c.args.folder.now) (named c.args.names.now) x ts c.in-Err-Lost.role c.in-Err-Lost.symbol
       h.behind.tells read
       (subst (λ (e : LineEnd). EndsLine x ts (end_of e)) c.in-Err-Lost.field-0-is (c.in-Err-Lost.ensures.hears x ts h)));
@@ -191,8 +184,7 @@ returns-in-Err-Lost g c = record {
 
 pub returns-in-Err-Chance : goal.returns-in-Err-Chance
 returns-in-Err-Chance g c = record {
-  turn = λ start x ts h read.
-      c.meet_chance.ensures.meets start x ts (c.in-Err-Chance.ensures.turn ∙ h.behind.turn) h.behind.tells
+  turn = λ start x ts h read. c.meet_chance.ensures.meets start x ts (c.in-Err-Chance.ensures.turn ∙ h.behind.turn) h.behind.tells
       (rw (c.in-Err-Chance.field-0-is)
       (subst (λ (e : LineEnd). EndsLine x ts (end_of e)) c.in-Err-Chance.field-0-is (c.in-Err-Chance.ensures.hears x ts h))) read;
   script = c.in-Err-Chance.ensures.script;

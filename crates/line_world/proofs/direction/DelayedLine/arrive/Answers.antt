@@ -31,14 +31,7 @@ returns-in-Some-clause-arrives c = λ passed way h.
     Due o.x o.rest o.way_is full
     (passes-oldest c.recordings_grow.ensures.once c.losses_stay.ensures.stays d new c.args.script.now passed way c.in-Some.slot
     (drop 1 d.slots.items) number c.args.check c.args.dlci c.hear.result o h
-    (record {
-      sender = refl;
-      lag = refl;
-      items_are = ap (λ b. b.items) c.in-Some.ensures.items;
-      capacity = ap (λ b. b.capacity) c.in-Some.ensures.items;
-      from = c.hear.ensures.sender;
-      symbols = c.hear.ensures.symbols;
-    })
+    (assumption (ap (λ b. b.items) c.in-Some.ensures.items, ap (λ b. b.capacity) c.in-Some.ensures.items))
     (subst (λ b. PassesAll d new c.in-Some.slot c.args.check c.args.script.now c.args.dlci b c.hear.result) lost
     (λ passed signal. c.hear.ensures.passes passed signal)))
 
@@ -54,6 +47,5 @@ returns-in-Some-clause-numbered c =
     in
     let lost = c.loses-loses.ensures ∙ ap (λ n. loses c.args.script.now d.sender (c.args.turn - n)) c.from-in-Some.ensures in
     numbered-by d new c.args.script.now w.0 w.1 c.in-Some.slot (drop 1 d.slots.items) (c.args.turn - d.delay) c.args.check c.args.dlci
-    c.hear.result o w.2
-    (subst (λ b. PassesAll d new c.in-Some.slot c.args.check c.args.script.now c.args.dlci b c.hear.result) lost
+    c.hear.result o w.2 (subst (λ b. PassesAll d new c.in-Some.slot c.args.check c.args.script.now c.args.dlci b c.hear.result) lost
     (λ passed signal. c.hear.ensures.passes passed signal))

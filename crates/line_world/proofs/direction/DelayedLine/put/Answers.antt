@@ -1,4 +1,4 @@
-use Rattle.line_world.proofs.Cited.{◌<◌, length, arith, refl, sym, ◌∙◌, ap, subst, IsSendable, DelayedLine, SentSlot}
+use Rattle.line_world.proofs.Cited.{◌<◌, length, arith, sym, ◌∙◌, ap, subst, IsSendable, DelayedLine, SentSlot}
 use Rattle.line_world.proofs.Passing.{puts-so, all-kept}
 use Rattle.line_world.proofs.direction.DelayedLine.put.Goals as goal
 
@@ -9,11 +9,7 @@ returns-clause-stands c = λ script passed way x h coded sent.
     let slot : SentSlot = record { labels = c.args.labels; sent = c.args.sent } in
     let room : length d.slots.items < d.slots.capacity = omega (arith, c.requires.room, h.room) in
     let kept = all-kept d.slots.items slot d.slots.capacity room in
-    puts-so d new script passed way slot x h coded
-    (record {
-      sender = refl;
-      lag = refl;
-      items_are = ap (λ b. b.items) c.push_back.ensures.items ∙ kept;
-      capacity = ap (λ b. b.capacity) c.push_back.ensures.items;
-      line = refl;
-    }) (sym sent) (subst IsSendable (sym sent) c.requires.sendable)
+    puts-so d new script passed way slot x h coded (assumption (
+      ap (λ b. b.items) c.push_back.ensures.items ∙ kept,
+      ap (λ b. b.capacity) c.push_back.ensures.items,
+    )) (sym sent) (subst IsSendable (sym sent) c.requires.sendable)

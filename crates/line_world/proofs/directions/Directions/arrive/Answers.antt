@@ -30,8 +30,7 @@ returns-in-Err-clause-arrives c = λ channel links ts streams h due script dlci 
 pub returns-in-Chance-clause-arrives : goal.returns-in-Chance-clause-arrives
 returns-in-Chance-clause-arrives c = λ channel links ts streams h due script dlci number.
     let heard = role-hears c.args.self.now.from_answ c.arrive.new.self channel Answerer links ts streams.answ c.args.turn
-    c.args.checks.now.orig
-    c.args.script.now c.args.dlci (Ok c.in-Ok.heard) (h Answerer) (due Answerer) script dlci number
+    c.args.checks.now.orig c.args.script.now c.args.dlci (Ok c.in-Ok.heard) (h Answerer) (due Answerer) script dlci number
     (moved (goal.at.returns-in-Chance-clause-arrives c).After-arrive) c.in-Ok.ensures.arrives in
     subst (λ (x : Heard). IsHeardOf channel Answerer ts c.args.checks.now.orig x) c.in-Chance.is heard.0
 

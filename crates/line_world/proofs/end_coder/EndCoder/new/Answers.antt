@@ -1,4 +1,4 @@
-use Rattle.std.proofs.Common.{sym, ◌∙◌}
+use Rattle.line_world.proofs.Cited.{sym, ◌∙◌}
 use Rattle.line_world.proofs.Coded.{nothing-newest}
 use Rattle.line_world.proofs.end_coder.EndCoder.new.Goals as goal
 

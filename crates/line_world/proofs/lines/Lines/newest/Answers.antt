@@ -1,5 +1,5 @@
 use Rattle.line_world.proofs.Coded.{newest-is}
-use Rattle.shared_terms.specs.declared.role.Role.TheVariants.{Originator, Answerer}
+use Rattle.line_world.proofs.Cited.{Originator, Answerer}
 use Rattle.line_world.proofs.lines.Lines.newest.Goals as goal
 
 pub returns-in-Originator : goal.returns-in-Originator

@@ -10,10 +10,7 @@ returns c = record {
         answ = c.given_break-answ.ensures.stands files.answ ends.answ h.answ;
       };
   idle =
-      record {
-        orig = c.given_break-orig.ensures.idle c.requires.orig;
-        answ = c.given_break-answ.ensures.idle c.requires.answ;
-      };
+      assumption (c.given_break-orig.ensures.idle c.requires.orig, c.given_break-answ.ensures.idle c.requires.answ);
   counted =
       λ heard asked h. record {
         orig = c.given_break-orig.ensures.counted heard asked h.orig;

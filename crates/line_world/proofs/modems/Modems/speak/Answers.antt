@@ -15,8 +15,7 @@ returns-in-Err-write_turn-clause-speaks g c = λ channel links streams files ts 
     let new = g.F.Folder.state c.write_turn.new.folder in
     let t = spoken-turn c.in-Ok.sent.orig c.in-Ok.sent.answ c.speak.new.self is h (c.in-Ok.ensures.speaks files _ h.stands.link) in
     let sents = spoken_by t.orig t.answ in
-    let text = text-is c.args.self.now.turn ts ends mid c.args.heard.now c.args.given.now
-    (Some c.in-Ok.sent) sents
+    let text = text-is c.args.self.now.turn ts ends mid c.args.heard.now c.args.given.now (Some c.in-Ok.sent) sents
     (o.well Originator) (o.well Answerer) h.stands.turn go ga (λ k. Some (t.orig_sent k)) (λ k. Some (t.answ_sent k)) in
     stops-so channel f new n files ts ends c.args.heard.now mid c.in-Err-write_turn.fault c.in-Err-write_turn.ensures.write
     (adds-part channel f new n files ts ends c.args.heard.now mid sents Going o (ends_of t.orig t.answ, t.going, t.mid_is)
@@ -34,8 +33,7 @@ link_fault-requires g c =
     let o = h.stands.overhears in
     let b = broken-turn c.in-Err.breaking.role c.in-Err.breaking.fault is h (c.in-Err.ensures.speaks files _ h.stands.link) in
     c.each_turn_is_made.ensures.named _ ts ends (turn_in c.args.heard.now ends mid none-sent) mid c.in-Err.breaking.role
-    c.in-Err.breaking.fault
-    (c.scripts_make_links.ensures.ends _ files (subst IsInLimits (sym is.script_is) c.requires.limits)) o.run.run b
+    c.in-Err.breaking.fault (c.scripts_make_links.ensures.ends _ files (subst IsInLimits (sym is.script_is) c.requires.limits)) o.run.run b
 
 pub returns-in-Ok-write_turn-clause-speaks : goal.returns-in-Ok-write_turn-clause-speaks
 returns-in-Ok-write_turn-clause-speaks g c = λ channel links streams files ts ends mid is h arrived go ga.
@@ -45,16 +43,9 @@ returns-in-Ok-write_turn-clause-speaks g c = λ channel links streams files ts e
     let new = g.F.Folder.state c.write_turn.new.folder in
     let t = spoken-turn c.in-Ok.sent.orig c.in-Ok.sent.answ c.speak.new.self is h (c.in-Ok.ensures.speaks files _ h.stands.link) in
     let sents = spoken_by t.orig t.answ in
-    let text = text-is c.args.self.now.turn ts ends mid c.args.heard.now c.args.given.now
-    (Some c.in-Ok.sent) sents
+    let text = text-is c.args.self.now.turn ts ends mid c.args.heard.now c.args.given.now (Some c.in-Ok.sent) sents
     (o.well Originator) (o.well Answerer) h.stands.turn go ga (λ k. Some (t.orig_sent k)) (λ k. Some (t.answ_sent k)) in
-    let laws : GoingLaws = record {
-      play = c.scripts_make_links.ensures.ends;
-      delays = c.scripts_make_links.ensures.delays;
-      carried = c.samples_are_carried.ensures.runs;
-      one = c.samples_are_carried.ensures.turn;
-      counted = c.segments_are_counted_by_their_numbers.ensures.turn;
-    } in
+    let laws : GoingLaws = assumption in
     goes-on laws channel c.args.self.now.tally _ c.send-in-Ok.new.self links streams f new n files ts ends c.args.heard.now mid
     c.in-Ok.sent.orig
     c.in-Ok.sent.answ (subst IsInLimits (sym is.script_is) c.requires.limits) (λ k. h.stands.turn k + 1) refl o t h.stands.tally
@@ -80,12 +71,10 @@ returns-in-Ok-write_turn-2-clause-speaks g c = λ channel links streams files ts
     let b = broken-turn role fault is h (c.in-Err.ensures.speaks files _ h.stands.link) in
     let named = c.each_turn_is_made.ensures.named _ ts ends (turn_in c.args.heard.now ends mid none-sent) mid role fault
     (c.scripts_make_links.ensures.ends _ files (subst IsInLimits (sym is.script_is) c.requires.limits)) o.run.run b in
-    let text = text-is c.args.self.now.turn ts ends mid c.args.heard.now c.args.given.now
-    None none-sent
+    let text = text-is c.args.self.now.turn ts ends mid c.args.heard.now c.args.given.now None none-sent
     (o.well Originator) (o.well Answerer) h.stands.turn go ga refl refl in
     rw c.link_fault.ensures (ends-so channel f new n files ts ends c.args.heard.now mid c.args.self.now.turn role fault h.stands.turn named
-    o b
-    (subst (Appended f new n.trace) text c.in-Ok-write_turn-2.ensures.ok))
+    o b (subst (Appended f new n.trace) text c.in-Ok-write_turn-2.ensures.ok))
 
 pub returns-in-Ok-write_turn-2-clause-counts : goal.returns-in-Ok-write_turn-2-clause-counts
 returns-in-Ok-write_turn-2-clause-counts g c =
@@ -114,8 +103,7 @@ returns-in-Err-write_turn-2-clause-speaks g c = λ channel links streams files t
     let role = c.in-Err.breaking.role in
     let fault = c.in-Err.breaking.fault in
     let b = broken-turn role fault is h (c.in-Err.ensures.speaks files _ h.stands.link) in
-    let text = text-is c.args.self.now.turn ts ends mid c.args.heard.now c.args.given.now
-    None none-sent
+    let text = text-is c.args.self.now.turn ts ends mid c.args.heard.now c.args.given.now None none-sent
     (o.well Originator) (o.well Answerer) h.stands.turn go ga refl refl in
     stops-so channel f new n files ts ends c.args.heard.now mid c.in-Err-write_turn-2.fault c.in-Err-write_turn-2.ensures.write
     (adds-part channel f new n files ts ends c.args.heard.now mid none-sent (Broken role fault) o b
@@ -175,11 +163,8 @@ send-requires-in-Ok g c =
           all-codable c.slots_have_room.ensures.codable channel files ts ends c.args.heard.now mid c.in-Ok.sent.orig c.in-Ok.sent.answ
           c.in-Ok.sent c.speak.new.self c.args.lines.now w.1 w.2 c.args.self.now.dlci c.checks-checks.result
           (is.symbols_are ∙ ap (λ x. slot_symbols (longest_of x)) (sym is.script_is))
-          (subst IsInLimits (sym is.script_is) c.requires.limits) o t
-          w.9
-          c.in-Ok.ensures.orig_sendable c.in-Ok.ensures.answ_sendable
-          refl refl
-          (c.checks-checks.ensures files (ends_of t.orig t.answ) t.stands Originator)
+          (subst IsInLimits (sym is.script_is) c.requires.limits) o t w.9 c.in-Ok.ensures.orig_sendable c.in-Ok.ensures.answ_sendable
+          refl refl (c.checks-checks.ensures files (ends_of t.orig t.answ) t.stands Originator)
           (c.checks-checks.ensures files (ends_of t.orig t.answ) t.stands Answerer);
       room = (w.0, w.1, w.2, w.9);
     }

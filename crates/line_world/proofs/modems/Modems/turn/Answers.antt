@@ -34,24 +34,17 @@ pub hear-requires : goal.hear-requires
 hear-requires g c = record { ready = c.requires.ready }
 
 making-laws : (g : Over) (c : After-line_runs_end_soon g) → MakingLaws
-making-laws g c = record {
-  play = c.scripts_make_links.ensures.ends;
-  delays = c.scripts_make_links.ensures.delays;
-  carried = c.samples_are_carried.ensures.runs;
-  one = c.samples_are_carried.ensures.turn;
-  made = c.each_turn_is_made.ensures.made;
-}
+making-laws g c = assumption
 
 pub returns-in-Err-Lost : goal.returns-in-Err-Lost
 returns-in-Err-Lost g c = record {
   turn = λ beside links streams files ts ends h within waits due.
       let channel = wire_at c.args.script.now c.args.self.now.dlci beside in
       let e = c.in-Err-Lost.ensures.hears channel links streams files ts ends refl refl h waits due in
-      record {
-        is = subst (λ (x : LineEnd). EndsLine channel ts ends (end_of x)) c.in-Err-Lost.field-0-is e.0;
-        halts = e.1;
-        kept = KeepsEach-refl (g.F.Folder.state c.args.folder.now) (outputs_of (written c.args.names.now));
-      };
+      assumption (
+        subst (λ (x : LineEnd). EndsLine channel ts ends (end_of x)) c.in-Err-Lost.field-0-is e.0,
+        KeepsEach-refl (g.F.Folder.state c.args.folder.now) (outputs_of (written c.args.names.now)),
+      );
   kept = λ e. no-step e;
   number = c.hear.ensures.turn;
   channel = c.hear.ensures.dlci;
@@ -92,11 +85,9 @@ returns-in-Err g c = record {
       let has = c.in-Ok.ensures.hears channel links streams files ts ends refl refl h waits due in
       writing-ends w c.hear.new.lines channel links streams _ _ n files ts ends c.in-Err.fault c.in-Err.ensures.write
       (stops-handing (making-laws g (goal.at.returns-in-Err g c).After-line_runs_end_soon) w c.hear.new.lines channel links streams _ _ n
-      files ts ends c.in-Ok.heard has.mid c.requires.ready.limits c.requires.apart within c.hand_over.ensures.only
-      has.stands.overhears
+      files ts ends c.in-Ok.heard has.mid c.requires.ready.limits c.requires.apart within c.hand_over.ensures.only has.stands.overhears
       (halts-so c.hear.new.self w c.hear.new.lines channel links streams files ts ends c.in-Ok.heard has.mid has.mid has.stands has.lines
-      c.hand_over.ensures.beside)
-      (c.in-Err.ensures.part channel files ts ends c.in-Ok.heard has.mid has.stands));
+      c.hand_over.ensures.beside) (c.in-Err.ensures.part channel files ts ends c.in-Ok.heard has.mid has.stands));
   kept = λ e. no-step e;
   number = c.hand_over.ensures.beside.turn ∙ c.hear.ensures.turn;
   channel = c.hand_over.ensures.beside.dlci ∙ c.hear.ensures.dlci;
@@ -119,8 +110,7 @@ returns-in-Ok-finish g c =
           (c.is_closed.ensures files (handed has.mid) hands.stands.link) ∙ c.if-is_closed.true in
           let w = c.hand_over.new.self in
           ends-in w c.hear.new.lines channel links streams _ _ _ n files files ts ends c.in-Ok.heard has.mid c.requires.apart
-          (stay-known _ _ n files c.requires.apart
-          only within) c.hand_over.ensures.only hands.delivered c.finish.ensures.only
+          (stay-known _ _ n files c.requires.apart only within) c.hand_over.ensures.only hands.delivered c.finish.ensures.only
           (halts-so w w c.hear.new.lines channel links streams files ts ends c.in-Ok.heard has.mid (handed has.mid) hands.stands has.lines
           (same-beside w)) Done w.turn hands.stands.turn (checked-so w w channel files ts ends c.in-Ok.heard has.mid (handed has.mid)
           hands.stands (same-beside w)) (c.in-Ok-finish.ensures.adds channel files ts ends has.mid hands.stands closed hands.orig_given
@@ -151,9 +141,7 @@ returns-in-Err-finish g c =
           (c.is_closed.ensures files (handed has.mid) hands.stands.link) ∙ c.if-is_closed.true in
           writing-ends w c.hear.new.lines channel links streams a d n files ts ends c.in-Err-finish.fault c.in-Err-finish.ensures.write
           (stops-writing w c.hear.new.lines channel links streams a b d n files files ts ends c.in-Ok.heard has.mid c.requires.apart
-          (stay-known a d n files c.requires.apart
-          only within)
-          c.hand_over.ensures.only hands.delivered c.finish.ensures.only
+          (stay-known a d n files c.requires.apart only within) c.hand_over.ensures.only hands.delivered c.finish.ensures.only
           (halts-so w w c.hear.new.lines channel links streams files ts ends c.in-Ok.heard has.mid (handed has.mid) hands.stands has.lines
           (same-beside w))
           (c.in-Err-finish.ensures.part channel files ts ends has.mid hands.stands closed hands.orig_given hands.answ_given));
@@ -182,12 +170,9 @@ returns-in-Err-serve g c =
           let hands = c.in-Ok-hand_over.ensures.hands channel files ts ends c.in-Ok.heard has.mid has.stands in
           reading-ends w c.hear.new.lines channel links streams a d n files ts ends c.in-Err-serve.fault c.in-Err-serve.ensures.read
           (stops-reading (making-laws g (goal.at.returns-in-Err-serve g c).After-line_runs_end_soon) w c.hear.new.lines channel links
-          streams a d n files ts ends c.in-Ok.heard has.mid c.requires.ready.limits c.requires.apart within
-          only
-          hands.stands.overhears
+          streams a d n files ts ends c.in-Ok.heard has.mid c.requires.ready.limits c.requires.apart within only hands.stands.overhears
           (halts-so c.hand_over.new.self w c.hear.new.lines channel links streams files ts ends c.in-Ok.heard has.mid (handed has.mid)
-          hands.stands
-          has.lines c.serve.ensures.beside)
+          hands.stands has.lines c.serve.ensures.beside)
           (AddEach-kept a b d (outputs_of n) (octets_of has.mid) c.hand_over.ensures.only.goes_on hands.delivered
           (KeepsEach-reads b d (outputs_of n) c.serve.ensures.only)));
       kept = λ e. no-step e;
@@ -206,8 +191,7 @@ speak-requires g c = record {
       rw (c.serve.ensures.beside.turn, c.hand_over.ensures.beside.turn, c.hear.ensures.turn)
       (early-turns c.line_runs_end_soon.ensures.within_limits c.args.self.now c.args.script.now c.args.lines.now c.requires.ready);
   channel =
-      subst (λ n. n < 64)
-      (sym (c.serve.ensures.beside.dlci ∙ c.hand_over.ensures.beside.dlci ∙ c.hear.ensures.dlci))
+      subst (λ n. n < 64) (sym (c.serve.ensures.beside.dlci ∙ c.hand_over.ensures.beside.dlci ∙ c.hear.ensures.dlci))
       c.requires.ready.kept.channel;
   limits = c.requires.ready.limits;
   few =
@@ -233,11 +217,7 @@ speak-requires g c = record {
         r.turns,
         r.ends,
         has.mid,
-        record {
-          script_is = refl;
-          dlci_is = sym (c.serve.ensures.beside.dlci ∙ c.hand_over.ensures.beside.dlci ∙ c.hear.ensures.dlci);
-          symbols_are = refl;
-        },
+        assumption (sym (c.serve.ensures.beside.dlci ∙ c.hand_over.ensures.beside.dlci ∙ c.hear.ensures.dlci)),
         record { stands = s.stands; going = still },
         has.lines,
       );
@@ -250,8 +230,7 @@ returns-in-Ok-speak g c =
     let b = g.F.Folder.state c.hand_over.new.folder in
     let d = g.F.Folder.state c.serve.new.folder in
     let z = g.F.Folder.state c.speak.new.folder in
-    let only-d = OnlyPuts-trans a b d (outputs_of n) c.hand_over.ensures.only
-    (OnlyPuts-reads b d (outputs_of n) c.serve.ensures.only) in
+    let only-d = OnlyPuts-trans a b d (outputs_of n) c.hand_over.ensures.only (OnlyPuts-reads b d (outputs_of n) c.serve.ensures.only) in
     let only-z = OnlyPuts-trans a d z (outputs_of n) only-d (lines-only d z n c.speak.ensures.only) in
     let dlci = c.serve.ensures.beside.dlci ∙ c.hand_over.ensures.beside.dlci ∙ c.hear.ensures.dlci in
     record {
@@ -274,8 +253,7 @@ returns-in-Ok-speak g c =
           let same : c.serve.new.self.turn + 1 ≡ t = ap (λ x. x + 1) c.serve.ensures.beside.turn in
           kept-on c.speak.new.self t (subst (λ n. n < 64) (sym (c.speak.ensures.dlci ∙ dlci)) c.requires.ready.kept.channel)
           (c.in-Ok-speak.ensures.idle (c.in-Ok-serve.ensures.idle c.in-Ok-hand_over.ensures.idle))
-          (c.in-Ok-speak.ensures.counted t t c.in-Ok-serve.ensures.counted)
-          (rw (sym same) c.in-Ok-speak.ensures.few)
+          (c.in-Ok-speak.ensures.counted t t c.in-Ok-serve.ensures.counted) (rw (sym same) c.in-Ok-speak.ensures.few)
           (c.in-Ok-speak.ensures.turn ∙ same);
       number =
           c.in-Ok-speak.ensures.turn ∙ ap (λ x. x + 1) (c.serve.ensures.beside.turn ∙ c.hand_over.ensures.beside.turn ∙
@@ -295,8 +273,7 @@ returns-in-Err-speak g c =
     let b = g.F.Folder.state c.hand_over.new.folder in
     let d = g.F.Folder.state c.serve.new.folder in
     let z = g.F.Folder.state c.speak.new.folder in
-    let only-d = OnlyPuts-trans a b d (outputs_of n) c.hand_over.ensures.only
-    (OnlyPuts-reads b d (outputs_of n) c.serve.ensures.only) in
+    let only-d = OnlyPuts-trans a b d (outputs_of n) c.hand_over.ensures.only (OnlyPuts-reads b d (outputs_of n) c.serve.ensures.only) in
     let only-z = OnlyPuts-trans a d z (outputs_of n) only-d (lines-only d z n c.speak.ensures.only) in
     let dlci = c.serve.ensures.beside.dlci ∙ c.hand_over.ensures.beside.dlci ∙ c.hear.ensures.dlci in
     record {

@@ -1,4 +1,4 @@
-use Rattle.std.proofs.Common.{◌≡◌, Ok, Err}
+use Rattle.line_world.proofs.Cited.{◌≡◌, Ok, Err}
 use Rattle.line_world.proofs.one_end.ear.frame_in.Goals as goal
 
 apart : {T E : Type 0} {x : T} {e : E} → Err e ≡ Ok x → ⊥

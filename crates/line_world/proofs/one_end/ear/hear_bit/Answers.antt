@@ -11,8 +11,7 @@ returns-in-Some-frame_in-clause-heard c = λ earlier bits h e.
     (c.whole.ensures.lent _ (c.push.ensures.stands (earlier ++ bits) h.deframer)) c.in-Some-frame_in.ensures.some)
 
 pub returns-in_default-frame_in-clause-heard : goal.returns-in_default-frame_in-clause-heard
-returns-in_default-frame_in-clause-heard c = λ earlier bits h e.
-    heard-still c.args.peer earlier bits c.args.bit c.args.heard.now e
+returns-in_default-frame_in-clause-heard c = λ earlier bits h e. heard-still c.args.peer earlier bits c.args.bit c.args.heard.now e
     (nothing-ends c.args.peer ((earlier ++ bits) ++ c.args.bit ∷ []) c.whole.result.now c.one_lent.ensures.no_other
     (c.in_default-pattern.ensures.answer (earlier ++ bits) h.reader)
     (c.whole.ensures.lent _ (c.push.ensures.stands (earlier ++ bits) h.deframer)) c.in_default-frame_in.ensures.none)

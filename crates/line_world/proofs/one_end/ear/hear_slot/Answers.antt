@@ -40,11 +40,9 @@ pub returns : goal.returns
 returns c =
     let all : c.loop-place.place ≡ slot_octets = omega (arith, c.loop-place-test.false, c.loop-place.auto.place-end) in
     record {
-      stands = λ bits h.
-          subst (λ (o : List ℕ). HasHeard c.loop-place.ear (bits ++ bits_of o))
+      stands = λ bits h. subst (λ (o : List ℕ). HasHeard c.loop-place.ear (bits ++ bits_of o))
           (ap (λ n. take n (filled c.args.slot.now)) all ∙ slot-whole c.args.slot.now c.requires) (c.loop-place.invariant.stands bits h);
-      heard = λ bits h.
-          subst (λ (o : List ℕ). IsHeard c.args.peer bits (bits_of o) c.loop-place.heard)
+      heard = λ bits h. subst (λ (o : List ℕ). IsHeard c.args.peer bits (bits_of o) c.loop-place.heard)
           (ap (λ n. take n (filled c.args.slot.now)) all ∙ slot-whole c.args.slot.now c.requires) (c.loop-place.invariant.heard bits h);
       numbers = c.loop-place.invariant.numbers;
     }

@@ -20,8 +20,7 @@ returns-then-not-deliver-clause-stands g c = λ file a h.
     let i = c.loop-segment.invariant.hands file a h in
     let e = sym (c.if-not-deliver.ensures.answer i.after i.stands.end) in
     let k = handing-ends (g.F.Folder.state c.args.folder.now) (g.F.Folder.state c.loop-segment.folder) c.args.name.now
-    c.loop-segment.self _ file a i e
-    (c.if-not-deliver.ensures.account i.after i.stands.end) refl in
+    c.loop-segment.self _ file a i e (c.if-not-deliver.ensures.account i.after i.stands.end) refl in
     k.0
 
 pub returns-then-not-deliver-clause-ok : goal.returns-then-not-deliver-clause-ok
@@ -30,8 +29,7 @@ returns-then-not-deliver-clause-ok g c = λ file a h.
     let e = sym (c.if-not-deliver.ensures.answer i.after i.stands.end) in
     let new : Station = record c.loop-segment.self { end = c.deliver.new.self } in
     let k = handing-ends (g.F.Folder.state c.args.folder.now) (g.F.Folder.state c.loop-segment.folder) c.args.name.now
-    c.loop-segment.self new file a i e
-    (c.if-not-deliver.ensures.account i.after i.stands.end) refl in
+    c.loop-segment.self new file a i e (c.if-not-deliver.ensures.account i.after i.stands.end) refl in
     k.1
 
 pub loop-segment-preserved : goal.loop-segment-preserved

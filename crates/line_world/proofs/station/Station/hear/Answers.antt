@@ -16,7 +16,6 @@ returns g c = record {
       c.hear-became.ensures.counted) c.requires.counted;
   over =
       heard-gives-up c.args.turn (g.A.Arrives.arrival c.args.arrived.now) c.args.self.now c.keep_end.new.self c.hear-became.result
-      c.keep_end.result
-      (c.keep_end.ensures.breaks ∙ c.take_end.ensures.breaks) c.keep_end.ensures.kept
+      c.keep_end.result (c.keep_end.ensures.breaks ∙ c.take_end.ensures.breaks) c.keep_end.ensures.kept
       (λ a h. c.hear-became.ensures.hears a (subst (λ e. StandsFor e a) (sym c.take_end.ensures.end) h));
 }

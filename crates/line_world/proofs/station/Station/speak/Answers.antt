@@ -4,8 +4,7 @@ use Rattle.line_world.proofs.station.Station.speak.Goals as goal
 
 pub returns : goal.returns
 returns c = record {
-  speaks = λ file a h.
-      kept-spoken c.segments_are_offered_as_they_are_read.ensures.spoken c.args.turn c.args.release file a
+  speaks = λ file a h. kept-spoken c.segments_are_offered_as_they_are_read.ensures.spoken c.args.turn c.args.release file a
       c.args.sent.now c.speak-became.new.sent c.args.self.now c.keep_end.new.self c.speak-became.result c.keep_end.result h
       (c.keep_end.ensures.breaks ∙ c.take_end.ensures.breaks) c.keep_end.ensures.kept
       (c.speak-became.ensures.speaks a (subst (λ e. StandsFor e a) (sym c.take_end.ensures.end) h.end));

@@ -74,8 +74,7 @@ loop-number-preserved g c =
           (omega (arith, whole, c.in-Ok.ensures.count)) (omega (arith, whole, c.in-Ok.ensures.within))
           (λ told. c.in-Ok.ensures.octets (told_later old.only.goes_on name told)
           ∙ ap (λ l. piece_at c.piece-size.result (take c.args.limit l) c.in-Some.number)
-          (octets-kept start now name (old.only.names name) told))
-          (c.offer.ensures.account i.now i.stands.end) refl;
+          (octets-kept start now name (old.only.names name) told)) (c.offer.ensures.account i.now i.stands.end) refl;
       takes = takes-on _ _ _ old.takes c.offer.ensures.takes_nothing;
       breaks = old.breaks;
       room = c.read_segment.ensures.length ∙ old.room;
@@ -107,8 +106,7 @@ returns-in-Err g c = record {
       };
   stand = search rules;
   spared =
-      λ e. FaultsStand-trans c.loop-number.invariant.stand.faults
-      (c.in-Err.ensures.spared (as-err c.in-Err.fault _ e));
+      λ e. FaultsStand-trans c.loop-number.invariant.stand.faults (c.in-Err.ensures.spared (as-err c.in-Err.fault _ e));
   came = g.met.F.Folder.came_on _ _ _ c.loop-number.invariant.came c.read_segment.ensures.came;
 }
 

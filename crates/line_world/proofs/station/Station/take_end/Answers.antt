@@ -1,4 +1,4 @@
-use Rattle.std.proofs.Common.{refl}
+use Rattle.line_world.proofs.Cited.{refl}
 use Rattle.line_world.proofs.station.Station.take_end.Goals as goal
 
 pub new-requires : goal.new-requires

@@ -25,8 +25,7 @@ loop-label-preserved g c =
           subst (λ (count : ℕ). OctetsJoined c.push-octet.new.self (so_far.bits ++ low_bits count c.push-number.result) (all ++ given))
           c.BITS.ensures (c.push-octet.ensures.joined so_far.bits all so_far.joined) in
           subst (λ (p : List ℕ × List ℕ). LabelsJoined (g.D.Demodulate.reads mode) c.push-number.new.self c.push-octet.new.self p.0 p.1)
-          (λ i. (front i, behind i))
-          (record {
+          (λ i. (front i, behind i)) (record {
             bits = so_far.bits ++ low_bits g.D.Demodulate.BITS c.push-number.result;
             read = c.push-number.ensures.stands mode (before ++ take place labels) so_far.bits so_far.read;
             joined = next;

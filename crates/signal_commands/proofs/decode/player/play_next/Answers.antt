@@ -16,8 +16,7 @@ returns-in-Err g c = record {
       let reads = c.read_samples.ensures.reads in
       inr (front-part start _ n c.args.mode c.args.playback.now h.content h.octets
       (reads-first start _ n.rec n.rate c.args.mode h.content c.args.at h.behind) h.hears c.requires.ready.not_lost
-      c.requires.ready.all_taken
-      (Holds-kept _ _ n.file h.octets reads.goes_on h.file (reads.names n.file)));
+      c.requires.ready.all_taken (Holds-kept _ _ n.file h.octets reads.goes_on h.file (reads.names n.file)));
   next = search rules;
   only =
       only-of-reads (g.F.Folder.state c.args.folder.now) (g.F.Folder.state c.read_samples.new.folder) c.args.names.now.file.now
@@ -90,12 +89,9 @@ returns-in-Ok-2 g c =
           (arith, h.whole, length-append h.content piece, long) in
           inr (cut-part start n2 n c.args.mode p (h.content ++ piece) (h.octets ++ given) (c.args.at + (c.in-Ok.read - c.in-Ok.read % 4))
           (reads-all start n1 n.rec n.rate c.args.mode (h.content ++ piece) (c.args.at + c.in-Ok.read) behind
-          (c.in-Ok.ensures.end start n.rate c.args.mode h.content h.behind (inl cut)))
-          (λ e. cut (sym content_cut ∙ e))
-          (omega (arith, behind.at_is, content_cut))
-          (subst (λ (xs : List Sample). Hears n.rate c.args.mode p xs (h.octets ++ given))
-          (sym (samples_in-append h.content piece h.whole)) hears)
-          ready.not_lost ready.all_taken
+          (c.in-Ok.ensures.end start n.rate c.args.mode h.content h.behind (inl cut))) (λ e. cut (sym content_cut ∙ e))
+          (omega (arith, behind.at_is, content_cut)) (subst (λ (xs : List Sample). Hears n.rate c.args.mode p xs (h.octets ++ given))
+          (sym (samples_in-append h.content piece h.whole)) hears) ready.not_lost ready.all_taken
           (Holds-more n1 n2 n.file h.octets given c.append_output.ensures.only.goes_on kept puts));
       next = search rules;
       only =
@@ -128,8 +124,7 @@ returns-in-Err-played g c =
           lost-part start n2 n c.args.mode p (h.content ++ piece) (h.octets ++ given) symbol c.hearer_of.result
           (reads-first start n1 n.rec n.rate c.args.mode (h.content ++ piece) (c.args.at + c.in-Ok.read) behind)
           (subst (λ (xs : List Sample). LosesWithin n.rate c.args.mode p xs (h.octets ++ given) symbol)
-          (sym (samples_in-append h.content piece h.whole)) loses)
-          c.hearer_of.ensures
+          (sym (samples_in-append h.content piece h.whole)) loses) c.hearer_of.ensures
           (Holds-more n1 n2 n.file h.octets given c.append_output.ensures.only.goes_on kept puts);
       next = search rules;
       only =

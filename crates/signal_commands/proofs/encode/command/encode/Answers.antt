@@ -1,4 +1,4 @@
-use Rattle.std.proofs.Common.{map, string_bytes}
+use Rattle.signal_commands.proofs.Names.{map, string_bytes}
 use Rattle.signal_commands.specs.Encoding.Words.{named}
 use Rattle.signal_commands.proofs.Encoding.Headline.{headline-of, completes-of}
 use Rattle.signal_commands.proofs.encode.command.encode.Goals as goal

@@ -21,13 +21,11 @@ returns-in-Err-create_output g c = record {
       let old : FolderState = g.F.Folder.state c.args.folder.now in let mid : FolderState = g.F.Folder.state c.within_limit.new.folder in
       let new : FolderState = g.F.Folder.state c.create_output.new.folder in (
         c.in-Ok.ensures.within,
-        create-part old mid new
-            (named c.args.names.now) c.in-Ok.ensures.within c.in-Ok.ensures.reads c.in-Err-create_output.ensures.err,
+        create-part old mid new (named c.args.names.now) c.in-Ok.ensures.within c.in-Ok.ensures.reads c.in-Err-create_output.ensures.err,
       );
   only =
       writes-only (g.F.Folder.state c.args.folder.now) (g.F.Folder.state c.within_limit.new.folder)
-      (g.F.Folder.state c.create_output.new.folder)
-      (named c.args.names.now) c.in-Ok.ensures.reads c.in-Err-create_output.ensures.only;
+      (g.F.Folder.state c.create_output.new.folder) (named c.args.names.now) c.in-Ok.ensures.reads c.in-Err-create_output.ensures.only;
   counts =
       write-earlier (g.F.Folder.state c.args.folder.now) (g.F.Folder.state c.within_limit.new.folder)
       (g.F.Folder.state c.create_output.new.folder)
@@ -40,19 +38,16 @@ returns g c = record {
       c.record_file.ensures.ends (g.F.Folder.state c.args.folder.now) (record {
         within = c.in-Ok.ensures.within;
         only = writes-only (g.F.Folder.state c.args.folder.now) (g.F.Folder.state c.within_limit.new.folder)
-            (g.F.Folder.state c.create_output.new.folder)
-            (named c.args.names.now) c.in-Ok.ensures.reads c.in-Ok-create_output.ensures.only;
+            (g.F.Folder.state c.create_output.new.folder) (named c.args.names.now) c.in-Ok.ensures.reads c.in-Ok-create_output.ensures.only;
         empty = c.in-Ok-create_output.ensures.ok;
       });
   only =
       OnlyOutput-trans c.args.names.now.rec.now
       (writes-only (g.F.Folder.state c.args.folder.now) (g.F.Folder.state c.within_limit.new.folder)
-      (g.F.Folder.state c.create_output.new.folder)
-      (named c.args.names.now) c.in-Ok.ensures.reads c.in-Ok-create_output.ensures.only)
+      (g.F.Folder.state c.create_output.new.folder) (named c.args.names.now) c.in-Ok.ensures.reads c.in-Ok-create_output.ensures.only)
       c.record_file.ensures.only;
   counts =
       end-earlier (g.F.Folder.state c.args.folder.now) (g.F.Folder.state c.create_output.new.folder)
-      (g.F.Folder.state c.record_file.new.folder)
-      (c.args.names.now.file.now ∷ []) (c.args.names.now.rec.now ∷ []) c.record_file.result
+      (g.F.Folder.state c.record_file.new.folder) (c.args.names.now.file.now ∷ []) (c.args.names.now.rec.now ∷ []) c.record_file.result
       (CountsStand-trans c.in-Ok.ensures.stand c.in-Ok-create_output.ensures.stand) c.record_file.ensures.counts;
 }

@@ -50,8 +50,7 @@ returns-in-Err g c = record {
 
 pub returns-in-Ok-eq0 : goal.returns-in-Ok-eq0
 returns-in-Ok-eq0 g c = record {
-  ends = λ start b.
-      subst (WritesAll start _ (named c.args.names.now)) (sym c.samples.ensures)
+  ends = λ start b. subst (WritesAll start _ (named c.args.names.now)) (sym c.samples.ensures)
       ((c.in-Ok-eq0.ensures.ok start (c.loop-count.invariant.recorded start b)).1 c.in-Ok-eq0.field-0-test);
   only = OnlyOutput-trans c.args.names.now.rec.now c.loop-count.invariant.only c.in-Ok-eq0.ensures.only;
   counts = CountsStand-trans c.loop-count.invariant.stand c.in-Ok-eq0.ensures.counts;

@@ -21,8 +21,7 @@ returns-in-Err-append_output-clause-err g c = λ start r.
     c.record_piece.ensures n.rate n.mode r.octets r.recorded r.stands in (
       r.read.within,
       piece-part start old mid new n c.args.recorder.now next c.args.at c.in-Ok.count piece made r
-          (c.in-Ok.ensures.more start r.octets r.read)
-          stands c.in-Ok.ensures.reads c.in-Err-append_output.ensures.only
+          (c.in-Ok.ensures.more start r.octets r.read) stands c.in-Ok.ensures.reads c.in-Err-append_output.ensures.only
           (subst (λ (xs : List ℕ). PartlyAppended mid new n.rec xs) c.as_slice.ensures.items c.in-Err-append_output.ensures.err),
     )
 
@@ -32,8 +31,7 @@ read_piece-requires g c = c.requires.within
 pub returns-in-Ok-eq0 : goal.returns-in-Ok-eq0
 returns-in-Ok-eq0 g c = record {
   ok = λ start r.
-      let end : (count : ℕ) → count ≡ 0
-      → (count < 512 → IsTrue (start.tells c.args.names.now.file.now)
+      let end : (count : ℕ) → count ≡ 0 → (count < 512 → IsTrue (start.tells c.args.names.now.file.now)
       → r.octets ++ take count c.read_piece.new.piece ≡ octets_at start c.args.names.now.file.now) →
       IsTrue (start.tells c.args.names.now.file.now) → r.octets ++ [] ≡ octets_at start c.args.names.now.file.now =
       λ count e h told. (subst (λ (m : ℕ). m < 512
@@ -59,8 +57,7 @@ returns-in-Err-clause-counts g c = c.in-Err.ensures.fails
 pub returns-in-Err-append_output-clause-only : goal.returns-in-Err-append_output-clause-only
 returns-in-Err-append_output-clause-only g c =
     writes-only (g.F.Folder.state c.args.folder.now) (g.F.Folder.state c.read_piece.new.folder)
-    (g.F.Folder.state c.append_output.new.folder)
-    (named c.args.names.now) c.in-Ok.ensures.reads c.in-Err-append_output.ensures.only
+    (g.F.Folder.state c.append_output.new.folder) (named c.args.names.now) c.in-Ok.ensures.reads c.in-Err-append_output.ensures.only
 
 pub returns-in-Ok-append_output : goal.returns-in-Ok-append_output
 returns-in-Ok-append_output g c = record {
@@ -73,8 +70,7 @@ returns-in-Ok-append_output g c = record {
       let stands : RecorderStands n.rate n.mode next (r.octets ++ piece) (r.recorded ++ made) =
       c.record_piece.ensures n.rate n.mode r.octets r.recorded r.stands in (
         recorded-more start old mid new n c.args.recorder.now next c.args.at c.in-Ok.count piece made r c.requires.apart
-            (c.in-Ok.ensures.more start r.octets r.read)
-            stands c.in-Ok.ensures.reads c.in-Ok-append_output.ensures.only
+            (c.in-Ok.ensures.more start r.octets r.read) stands c.in-Ok.ensures.reads c.in-Ok-append_output.ensures.only
             (subst (λ (xs : List ℕ). Appended mid new n.rec xs) c.as_slice.ensures.items c.in-Ok-append_output.ensures.ok),
         λ none. absurd (omega (arith, none, c.in-Ok.count-test)),
       );
@@ -82,8 +78,7 @@ returns-in-Ok-append_output g c = record {
   bound = c.in-Ok.ensures.within;
   only =
       writes-only (g.F.Folder.state c.args.folder.now) (g.F.Folder.state c.read_piece.new.folder)
-      (g.F.Folder.state c.append_output.new.folder)
-      (named c.args.names.now) c.in-Ok.ensures.reads c.in-Ok-append_output.ensures.only;
+      (g.F.Folder.state c.append_output.new.folder) (named c.args.names.now) c.in-Ok.ensures.reads c.in-Ok-append_output.ensures.only;
   counts = CountsStand-trans c.in-Ok.ensures.stand c.in-Ok-append_output.ensures.stand;
 }
 

@@ -17,8 +17,7 @@ loop-octet-preserved c =
     let piece : List ℕ = c.args.piece.now in
     record {
       room = omega (arith, c.loop-octet.invariant.room, c.put.ensures.room);
-      stands = λ rate mode octets before h.
-          subst (λ (xs : List ℕ). RecorderStands rate mode c.put.new.self xs (before ++ c.put.new.out))
+      stands = λ rate mode octets before h. subst (λ (xs : List ℕ). RecorderStands rate mode c.put.new.self xs (before ++ c.put.new.out))
           (append_assoc octets (take i piece) (slice_index piece i ∷ [])
           ∙ ap (λ (xs : List ℕ). octets ++ xs) (sym (take_more piece i 0 c.loop-octet-test.true)))
           (c.put.ensures.stands rate mode (octets ++ take i piece) before (c.loop-octet.invariant.stands rate mode octets before h));
@@ -27,5 +26,4 @@ loop-octet-preserved c =
 pub returns : goal.returns
 returns c rate mode octets before h =
     subst (λ (xs : List ℕ). RecorderStands rate mode c.loop-octet.recorder (octets ++ xs) (before ++ c.loop-octet.recorded))
-    (take_all c.loop-octet.octet-index c.args.piece.now c.loop-octet-test.false)
-    (c.loop-octet.invariant.stands rate mode octets before h)
+    (take_all c.loop-octet.octet-index c.args.piece.now c.loop-octet-test.false) (c.loop-octet.invariant.stands rate mode octets before h)

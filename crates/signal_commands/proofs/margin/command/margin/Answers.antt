@@ -1,4 +1,4 @@
-use Rattle.std.proofs.Common.{map, string_bytes}
+use Rattle.signal_commands.proofs.Names.{map, string_bytes}
 use Rattle.signal_commands.specs.Margins.Words.{named}
 use Rattle.signal_commands.proofs.Margins.Headline.{headline-of, completes-of}
 use Rattle.signal_commands.proofs.margin.command.margin.Goals as goal

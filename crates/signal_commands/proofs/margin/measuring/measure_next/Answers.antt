@@ -52,8 +52,7 @@ returns-in-Err-read_piece-clause-counts g c =
     let mid : FolderState = g.F.Folder.state c.read_piece.new.folder in
     let new : FolderState = g.F.Folder.state c.read_piece-2.new.folder in
     stop-earlier (g.F.Folder.state c.args.folder.now) mid new (inputs_of (named c.args.names.now)) [] (Read c.in-Err-read_piece.fault)
-    c.in-Ok.ensures.stand
-    (rec-fails mid new (named c.args.names.now) c.in-Err-read_piece.fault c.in-Err-read_piece.ensures.fails)
+    c.in-Ok.ensures.stand (rec-fails mid new (named c.args.names.now) c.in-Err-read_piece.fault c.in-Err-read_piece.ensures.fails)
 
 pub returns-then-read-count-clause-reads : goal.returns-then-read-count-clause-reads
 returns-then-read-count-clause-reads g c = OnlyReads-trans c.in-Ok.ensures.reads c.in-Ok-read_piece.ensures.reads

@@ -1,5 +1,5 @@
 use Rattle.signal_commands.proofs.Names.{◌≡◌, ◌+◌, ◌*◌, ◌++◌, ◌∷◌, [], ℕ, List, take, slice_index, sym, subst, arith, append-nil}
-use Rattle.signal_commands.proofs.Names.{append_assoc, ap, ◌∙◌, take_more, take_all, MarginStands, samples_in, Sample}
+use Rattle.signal_commands.proofs.Names.{append_assoc, take_more, take_all, MarginStands, samples_in, Sample}
 use Rattle.signal_commands.proofs.Margins.Measures.{two-more-samples}
 use Rattle.signal_commands.proofs.margin.measuring.measure_piece.Goals as goal
 
@@ -7,9 +7,7 @@ use Rattle.signal_commands.proofs.margin.measuring.measure_piece.Goals as goal
 octet-more : (before octets : List ℕ) (place octet : ℕ) → octet ≡ slice_index octets place
     → take (place + 1) octets ≡ take place octets ++ slice_index octets place ∷ []
     → (before ++ take place octets) ++ octet ∷ [] ≡ before ++ take (place + 1) octets
-octet-more before octets place octet is more =
-    append_assoc before (take place octets) (octet ∷ []) ∙ ap (λ (x : ℕ). before ++ (take place octets ++ x ∷ [])) is
-    ∙ ap (λ (xs : List ℕ). before ++ xs) (sym more)
+octet-more before octets place octet is more = grind (arith, append_assoc)
 
 pub loop-place-preserved : goal.loop-place-preserved
 loop-place-preserved c =
@@ -19,8 +17,7 @@ loop-place-preserved c =
     let octet : ℕ = slice_index octets place in
     record {
       stands = λ mode before samples s.
-          let pushed : MarginStands mode c.push.new.self ((before ++ take place octets) ++ octet ∷ [])
-          (((samples ++ samples_in (take
+          let pushed : MarginStands mode c.push.new.self ((before ++ take place octets) ++ octet ∷ []) (((samples ++ samples_in (take
           (4 * (2 * place)) recorded)) ++ c.sample_at-first.result ∷ []) ++ c.sample_at-second.result ∷ []) =
           c.push.ensures.stands mode (before ++ take place octets) (samples ++ samples_in (take (4 * (2 * place)) recorded))
           (c.loop-place.invariant.stands mode before samples s) in

@@ -1,6 +1,6 @@
-use Rattle.std.proofs.Common.{◌+◌, arith}
-use Rattle.outside_calls.proofs.Steps.{OnlyReads-refl, OnlyReads-trans, CountsStand-refl, CountsStand-trans}
-use Rattle.signal_commands.specs.Margins.Words.{MarginNames, named}
+use Rattle.signal_commands.proofs.Names.{◌+◌, arith, OnlyReads-trans, CountsStand-refl, CountsStand-trans, MarginNames}
+use Rattle.outside_calls.proofs.Steps.{OnlyReads-refl}
+use Rattle.signal_commands.specs.Margins.Words.{named}
 use Rattle.signal_commands.proofs.Margins.Measures.{measured-none, measures-all}
 use Rattle.signal_commands.proofs.margin.measuring.measure_to_end.Goals as goal
 
@@ -32,5 +32,4 @@ returns-in-Ok-eq0-clause-ends g c start o =
     let all = c.in-Ok-eq0.ensures.ok start c.args.mode before in
     let end = all.1 c.in-Ok-eq0.field-0-test in
     measures-all start _ n c.args.mode c.measure_next.new.margin (c.loop-margin.at + c.in-Ok-eq0.field-0)
-    all.0 (λ told. (let e = end.0 told in omega (arith, e)))
-    (λ told. (let e = end.1 told in omega (arith, e)))
+    all.0 (λ told. (let e = end.0 told in omega (arith, e))) (λ told. (let e = end.1 told in omega (arith, e)))

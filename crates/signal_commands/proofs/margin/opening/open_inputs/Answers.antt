@@ -28,8 +28,7 @@ returns-in-Err-clause-counts g c =
     let old : FolderState = g.F.Folder.state c.args.folder.now in
     let new : FolderState = g.F.Folder.state c.within_limit.new.folder in
     refused-counts old new (named c.args.names.now) c.args.names.now.rec.now RECORDING_LIMIT 1 c.in-Err.stop
-    (rec-fails old new (named c.args.names.now))
-    c.in-Err.ensures.refused
+    (rec-fails old new (named c.args.names.now)) c.in-Err.ensures.refused
 
 pub returns-in-Err-within_limit-clause-reads : goal.returns-in-Err-within_limit-clause-reads
 returns-in-Err-within_limit-clause-reads g c = OnlyReads-trans c.in-Ok.ensures.reads c.in-Err-within_limit.ensures.reads
@@ -39,8 +38,7 @@ returns-in-Err-within_limit-clause-counts g c =
     let mid : FolderState = g.F.Folder.state c.within_limit.new.folder in
     let new : FolderState = g.F.Folder.state c.within_limit-2.new.folder in
     stop-earlier (g.F.Folder.state c.args.folder.now) mid new (inputs_of (named c.args.names.now)) [] c.in-Err-within_limit.stop
-    c.in-Ok.ensures.stand
-    (refused-counts mid new (named c.args.names.now) c.args.names.now.file.now FILE_LIMIT 2 c.in-Err-within_limit.stop
+    c.in-Ok.ensures.stand (refused-counts mid new (named c.args.names.now) c.args.names.now.file.now FILE_LIMIT 2 c.in-Err-within_limit.stop
     (file-fails mid new (named c.args.names.now)) c.in-Err-within_limit.ensures.refused)
 
 pub returns-in-Ok-read_header : goal.returns-in-Ok-read_header
@@ -99,8 +97,7 @@ returns-in-Err-read_piece g c = record {
   err =
       one_unread c.in-Ok.ensures.within
       (within-earlier (g.F.Folder.state c.args.folder.now) (g.F.Folder.state c.within_limit.new.folder) c.args.names.now.file.now FILE_LIMIT
-      c.in-Ok.ensures.reads
-      c.in-Ok-within_limit.ensures.within);
+      c.in-Ok.ensures.reads c.in-Ok-within_limit.ensures.within);
   reads = OnlyReads-trans (OnlyReads-trans c.in-Ok.ensures.reads c.in-Ok-within_limit.ensures.reads) c.in-Err-read_piece.ensures.reads;
   counts =
       let mid : FolderState = g.F.Folder.state c.within_limit-2.new.folder in

@@ -1,4 +1,4 @@
-use Rattle.std.proofs.Common.{map, string_bytes}
+use Rattle.signal_commands.proofs.Names.{map, string_bytes}
 use Rattle.signal_commands.proofs.PickingUp.Headline.{headline-of, completes-of}
 use Rattle.signal_commands.proofs.pickup.command.pickup.Goals as goal
 

@@ -1,5 +1,5 @@
-use Rattle.std.proofs.Common.{◌++◌, Bool, List, OnOk, OnErr, subst}
-use Rattle.command_base.specs.Heard.{Heard, PartlyHeard}
+use Rattle.signal_commands.proofs.Names.{◌++◌, Bool, List, subst, Heard, PartlyHeard}
+use Rattle.std.proofs.Common.{OnOk, OnErr}
 use Rattle.signal_commands.proofs.pickup.player.hear_taken.Goals as goal
 
 pub returns-clause-ok : goal.returns-clause-ok
@@ -10,7 +10,6 @@ returns-clause-ok g c start bits h =
 
 pub returns-clause-err : goal.returns-clause-err
 returns-clause-err g c start bits h =
-    subst
-    (λ (more : List Bool). OnErr c.hear_low.result
+    subst (λ (more : List Bool). OnErr c.hear_low.result
     (PartlyHeard start (g.F.Folder.state c.hear_low.new.folder) c.args.listener.now.sender (bits ++ more)))
     c.taken_bits-octet.ensures.bits (c.hear_low.ensures.err start bits h)

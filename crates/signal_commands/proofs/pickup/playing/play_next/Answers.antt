@@ -12,8 +12,7 @@ pub returns-in-Err : goal.returns-in-Err
 returns-in-Err g c = record {
   size = c.read_samples.ensures.kept;
   ok = search rules;
-  err = λ start h.
-      inr (front-part start _ c.args.rec.now c.args.mode c.args.player.now h.content
+  err = λ start h. inr (front-part start _ c.args.rec.now c.args.mode c.args.player.now h.content
       (reads-first start _ c.args.rec.now rates.Trellis c.args.mode h.content c.args.at h.behind)
       (plays-after start _ _ c.args.mode c.args.player.now (samples_in h.content) c.read_samples.ensures.reads h.plays)
       c.requires.ready.not_lost c.requires.ready.all_taken);
@@ -35,8 +34,7 @@ returns-in-Err-play_piece g c = record {
       stops-by start n2 c.args.rec.now c.args.mode (h.content ++ piece) c.in-Err-play_piece.stop
       (reads-first start n1 c.args.rec.now rates.Trellis c.args.mode (h.content ++ piece) (c.args.at + c.in-Ok.read) behind)
       (subst (λ (xs : List Sample). StopsPlay start n2 c.args.mode xs c.in-Err-play_piece.stop)
-      (sym (samples_in-append h.content piece h.whole))
-      (c.in-Err-play_piece.ensures.err start (samples_in h.content)
+      (sym (samples_in-append h.content piece h.whole)) (c.in-Err-play_piece.ensures.err start (samples_in h.content)
       (plays-after start _ n1 c.args.mode c.args.player.now (samples_in h.content) c.read_samples.ensures.reads h.plays)));
   next = search rules;
   only = OnlyOutputs-trans [] (OnlyOutputs-reads [] c.read_samples.ensures.reads) (OnlyOutputs-says [] c.play_piece.ensures.only);
@@ -91,14 +89,12 @@ returns g c =
             record {
               content = h.content ++ piece;
               plays = subst (λ (xs : List Sample). Plays start n2 c.args.mode c.play_piece.new.player xs)
-                  (sym (samples_in-append h.content piece h.whole))
-                  (c.in-Ok-play_piece.ensures.ok start (samples_in h.content)
+                  (sym (samples_in-append h.content piece h.whole)) (c.in-Ok-play_piece.ensures.ok start (samples_in h.content)
                   (plays-after start _ n1 c.args.mode c.args.player.now (samples_in h.content) c.read_samples.ensures.reads h.plays));
               whole = omega (arith, h.whole, length-append h.content piece, long, c.if-read-ne0.false);
               behind = behind-kept start n1 n2 c.args.rec.now rates.Trellis c.args.mode (h.content ++ piece)
                   (c.args.at + c.in-Ok.read) behind c.play_piece.ensures.only.goes_on (c.play_piece.ensures.only.names c.args.rec.now);
-              only = OnlyOutputs-trans [] h.only
-                  (OnlyOutputs-trans [] (OnlyOutputs-reads [] c.read_samples.ensures.reads)
+              only = OnlyOutputs-trans [] h.only (OnlyOutputs-trans [] (OnlyOutputs-reads [] c.read_samples.ensures.reads)
                   (OnlyOutputs-says [] c.play_piece.ensures.only));
             },
             λ none told. (let e = c.in-Ok.ensures.end start rates.Trellis c.args.mode h.content h.behind (inr none)

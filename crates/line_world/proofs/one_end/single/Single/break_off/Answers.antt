@@ -7,8 +7,7 @@ returns-in-Ok-clause-ends g c = λ p slot b.
     let s = c.args.self.now in
     let k = c.args.breaking in
     adds-line s (g.F.Folder.state c.args.folder.now) (g.F.Folder.state c.write.new.folder) c.args.trace.now p slot [] (Broken k.fault)
-    (silent-turn k.arrived None) None b.turn refl
-    (breaking-off s p slot k.arrived k.fault b) c.in-Ok.ensures.ok
+    (silent-turn k.arrived None) None b.turn refl (breaking-off s p slot k.arrived k.fault b) c.in-Ok.ensures.ok
 
 pub returns-in-Err-clause-ends : goal.returns-in-Err-clause-ends
 returns-in-Err-clause-ends g c = λ p slot b.

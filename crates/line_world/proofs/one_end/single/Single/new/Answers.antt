@@ -1,4 +1,4 @@
-use Rattle.line_world.proofs.Cited.{[], refl, subst, arith, Stands, fresh}
+use Rattle.line_world.proofs.Cited.{[], subst, arith, Stands, fresh}
 use Rattle.line_world.specs.OneEnd.Peer.{setup_of}
 use Rattle.line_world.proofs.one_end.single.Single.new.Goals as goal
 
@@ -6,12 +6,7 @@ pub returns-clause-ready : goal.returns-clause-ready
 returns-clause-ready c = record {
   past = record { file = []; slots = []; turns = []; account = fresh (setup_of c.args.role) };
   within = omega arith;
-  after = record {
-    run = record { run = refl; hears = tt };
-    station = subst (λ s. Stands c.in_ok-new.field-0 [] (fresh s)) c.setup.ensures.value (c.in_ok-new.ensures.stands []);
-    ear = c.new-2.ensures;
-    turn = refl;
-  };
+  after = assumption (subst (λ s. Stands c.in_ok-new.field-0 [] (fresh s)) c.setup.ensures.value (c.in_ok-new.ensures.stands []));
   idle = c.in_ok-new.ensures.idle;
   counted = c.in_ok-new.ensures.counted;
 }

@@ -51,8 +51,7 @@ returns-in-Err-write-2-clause-speaks g c = λ p slot mid h up given.
     ends-part t (g.F.Folder.state c.args.folder.now) (g.F.Folder.state c.write-in-Err.new.folder) c.args.trace.now p slot
     (concat (deliveries mid)) c.in-Err-write-2.failed c.in-Err-write-2.ensures.write
     (adds-part t (g.F.Folder.state c.args.folder.now) (g.F.Folder.state c.write-in-Err.new.folder) c.args.trace.now p slot
-    (concat (deliveries mid)) (Broken fault)
-    (silent-turn c.args.arrived c.args.given) None h.turn refl
+    (concat (deliveries mid)) (Broken fault) (silent-turn c.args.arrived c.args.given) None h.turn refl
     (broken s p slot c.args.arrived mid c.args.given fault h up given e) c.in-Err-write-2.ensures.err)
 
 pub returns-in-Ok-write-2-clause-idle : goal.returns-in-Ok-write-2-clause-idle

@@ -32,8 +32,7 @@ pub returns-in-Err : goal.returns-in-Err
 returns-in-Err g c =
     let n = named c.args.file.now c.args.got.now c.args.trace.now in
     record {
-      turn = λ p h within.
-          broke-off c.hear.new.self (g.F.Folder.state c.args.folder.now) (g.F.Folder.state c.break_off.new.folder)
+      turn = λ p h within. broke-off c.hear.new.self (g.F.Folder.state c.args.folder.now) (g.F.Folder.state c.break_off.new.folder)
           (named c.args.file.now c.args.got.now c.args.trace.now) p c.args.bits.now c.break_off.result
           c.requires.apart within c.break_off.ensures.only (c.break_off.ensures.ends p c.args.bits.now (c.in-Err.ensures.hears p h));
       role = c.hear.ensures.role;
@@ -96,8 +95,7 @@ returns-in-Err-finish g c =
       number = c.hand_over.ensures.turn ∙ c.hear.ensures.turn;
       only = only;
       counts =
-          counts-later a b z (inputs_of n) (outputs_of n) c.in-Err-finish.fault
-          c.in-Ok-hand_over.ensures.counts
+          counts-later a b z (inputs_of n) (outputs_of n) c.in-Err-finish.fault c.in-Ok-hand_over.ensures.counts
           (trace-counts b z n c.in-Err-finish.fault c.in-Err-finish.ensures.counts);
       came = g.met.F.Folder.came_on _ _ _ c.hand_over.ensures.came c.finish.ensures.came;
     }
@@ -119,8 +117,7 @@ returns-in-Err-serve g c =
           subst (λ (r : Role). EndsBy r a d n p slot c.in-Err-serve.fault) (sym c.serve.ensures.role)
           (reading-ends c.hand_over.new.self.role a d n p slot c.in-Err-serve.fault c.in-Err-serve.ensures.read
           (not-read c.one_lone_run.ensures.made c.hand_over.new.self a d n p slot arrived has.0 (handed has.0) c.requires.apart within now
-          only
-          (AddEach-kept a b d (outputs_of n) (concat (deliveries has.0) ∷ []) c.hand_over.ensures.only.goes_on
+          only (AddEach-kept a b d (outputs_of n) (concat (deliveries has.0) ∷ []) c.hand_over.ensures.only.goes_on
           (hands-over a b n (concat (deliveries has.0)) c.requires.apart c.hand_over.ensures.only
           (c.in-Ok-hand_over.ensures.adds p slot arrived has.0 has.1)) (KeepsEach-reads b d (outputs_of n) c.serve.ensures.only))));
       role = c.serve.ensures.role ∙ c.hand_over.ensures.role ∙ c.hear.ensures.role;
@@ -128,8 +125,7 @@ returns-in-Err-serve g c =
       number = c.serve.ensures.turn ∙ c.hand_over.ensures.turn ∙ c.hear.ensures.turn;
       only = only;
       counts =
-          counts-later a b d (inputs_of n) (outputs_of n) c.in-Err-serve.fault
-          c.in-Ok-hand_over.ensures.counts
+          counts-later a b d (inputs_of n) (outputs_of n) c.in-Err-serve.fault c.in-Ok-hand_over.ensures.counts
           (read-counts b d n c.in-Err-serve.fault c.in-Err-serve.ensures.counts);
       came = g.met.F.Folder.came_on _ _ _ c.hand_over.ensures.came c.serve.ensures.came;
     }
@@ -162,8 +158,7 @@ returns-in-Ok-speak g c =
           (AddEach-kept a b d (outputs_of n) (concat (deliveries mid) ∷ []) c.hand_over.ensures.only.goes_on
           (hands-over a b n (concat (deliveries mid)) c.requires.apart c.hand_over.ensures.only
           (c.in-Ok-hand_over.ensures.adds p slot arrived mid has.1)) (KeepsEach-reads b d (outputs_of n) c.serve.ensures.only))
-          c.speak.ensures.only
-          (others-known a b z n p.file s.others (handed mid) c.requires.apart first only-z s.reads)
+          c.speak.ensures.only (others-known a b z n p.file s.others (handed mid) c.requires.apart first only-z s.reads)
           (c.in-Ok-speak.ensures.speaks (over s.others p) slot mid s.stands still
           (c.in-Ok-hand_over.ensures.given p slot arrived mid has.1));
       role = c.speak.ensures.role ∙ c.serve.ensures.role ∙ c.hand_over.ensures.role ∙ c.hear.ensures.role;
@@ -187,8 +182,7 @@ returns-in-Ok-speak g c =
             within = s.reads.within;
             after = gone.single;
             idle = c.in-Ok-speak.ensures.idle (c.in-Ok-serve.ensures.idle c.in-Ok-hand_over.ensures.idle);
-            counted = subst (λ x. IsCounted c.speak.new.self.station x x) (sym number)
-                (counted-later c.speak.new.self.station (t + 1) t
+            counted = subst (λ x. IsCounted c.speak.new.self.station x x) (sym number) (counted-later c.speak.new.self.station (t + 1) t
                 (c.in-Ok-speak.ensures.counted (t + 1) t
                 (c.in-Ok-serve.ensures.counted (t + 1) t (c.in-Ok-hand_over.ensures.counted (t + 1) t c.in-Ok.ensures.counted))));
           };
@@ -247,9 +241,7 @@ returns-in-Err-hand_over g c =
           subst (λ (r : Role). EndsBy r a b n p c.args.bits.now c.in-Err-hand_over.fault) (sym c.hand_over.ensures.role)
           (writing-ends c.hear.new.self.role a b n p c.args.bits.now c.in-Err-hand_over.fault c.in-Err-hand_over.ensures.write
           (not-handed c.one_lone_run.ensures.made c.hear.new.self a b n p c.args.bits.now c.in-Ok.arrived has.0 c.requires.apart within
-          has.1
-          c.hand_over.ensures.only
-          (c.in-Err-hand_over.ensures.part p c.args.bits.now c.in-Ok.arrived has.0 has.1)));
+          has.1 c.hand_over.ensures.only (c.in-Err-hand_over.ensures.part p c.args.bits.now c.in-Ok.arrived has.0 has.1)));
       role = c.hand_over.ensures.role ∙ c.hear.ensures.role;
       ready = λ e. no-step e;
       number = c.hand_over.ensures.turn ∙ c.hear.ensures.turn;

@@ -24,8 +24,7 @@ pub returns-in-Err-clause-err : goal.returns-in-Err-clause-err
 returns-in-Err-clause-err g c start mode samples h =
     let p = c.loop-taken.invariant.plays start mode samples h in
     says-some start (g.F.Folder.state c.hear_taken.new.folder) mode c.take.new.self samples
-    (p.bits ++ bits_of_taken c.in-Some.taken) c.loop-taken.self-inside.listener.sender
-    (c.in-Some.ensures.stands mode samples p.bits p.read)
+    (p.bits ++ bits_of_taken c.in-Some.taken) c.loop-taken.self-inside.listener.sender (c.in-Some.ensures.stands mode samples p.bits p.read)
     p.sender_is (c.in-Err.ensures.err start p.bits p.heard)
 
 pub returns-clause-taken : goal.returns-clause-taken

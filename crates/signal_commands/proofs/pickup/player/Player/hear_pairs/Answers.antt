@@ -38,8 +38,7 @@ pub returns-in-Err-clause-err : goal.returns-in-Err-clause-err
 returns-in-Err-clause-err g c start mode samples h =
     let p = c.loop-octet.invariant.plays start mode samples h in
     says-some start (g.F.Folder.state c.hear_octet.new.folder) mode c.take_octet.new.self samples
-    (p.bits ++ octet_bits c.in-Some.octet) c.loop-octet.self-inside.listener.sender
-    (c.in-Some.ensures.stands mode samples p.bits p.read)
+    (p.bits ++ octet_bits c.in-Some.octet) c.loop-octet.self-inside.listener.sender (c.in-Some.ensures.stands mode samples p.bits p.read)
     p.sender_is (c.in-Err.ensures.err start p.bits p.heard)
 
 pub returns-clause-ok : goal.returns-clause-ok

@@ -1,4 +1,4 @@
-use Rattle.std.proofs.Common.{[], ◌∙◌}
+use Rattle.signal_commands.proofs.Names.{[], ◌∙◌}
 use Rattle.signal_commands.proofs.pickup.player.Player.new.Goals as goal
 
 pub returns-clause-plays : goal.returns-clause-plays
