@@ -14,7 +14,7 @@ use crate::codes::{
     BAD_ARGUMENT, BROKEN, DONE, EMPTY, FULL, LATE, NO_MEMORY, NOTHING, ORDER, WRONG_KIND, flag_of,
     put_octets, role_of,
 };
-use crate::handle::{Handle, make, put, take};
+use crate::handle::{Handle, fill, make, take};
 use crate::machine::Machine;
 use crate::xid::OfferFields;
 use frame_check::{Check, INFO, Info, WHOLE};
@@ -93,19 +93,17 @@ fn take_end(alloc: Global, handle: &mut Handle) -> Result<(Box<Machine>, Endpoin
     match mem::replace(machine.as_mut(), Machine::Spent) {
         Machine::Link(end) => Ok((machine, end)),
         other => {
-            *machine = other;
-            put(alloc, handle, machine);
+            fill(alloc, handle, machine, other);
             Err(WRONG_KIND)
         }
     }
 }
 
 /// Puts an end into the handle, in that block.
-fn put_end(alloc: Global, handle: &mut Handle, mut block: Box<Machine>, end: Endpoint)
+fn put_end(alloc: Global, handle: &mut Handle, block: Box<Machine>, end: Endpoint)
     ensures { link_in handle.new.value ≡ Some end }
 {
-    *block = Machine::Link(end);
-    put(alloc, handle, block);
+    fill(alloc, handle, block, Machine::Link(end));
 }
 
 /// The setup that these numbers say.
