@@ -1,7 +1,8 @@
-use Rattle.std.proofs.Common.{Some, ap, length, refl}
+use Rattle.std.proofs.Common.{Some, ap, length, refl, subst}
 use Rattle.std.specs.Prelude.{IsSomeAnd}
+use Rattle.modem_c.specs.declared.machine.Machine.{Machine}
 use Rattle.modem_c.specs.Answered.{Answered}
-use Rattle.modem_c.specs.Decoders.{PushAnswers}
+use Rattle.modem_c.specs.Decoders.{Decodes, PushAnswers}
 use Rattle.modem_c.specs.Led.{decoder_in}
 use Rattle.modem_c.proofs.CodesBack.{handed_on}
 use Rattle.modem_c.proofs.Stopping.{pushed-so}
@@ -16,3 +17,8 @@ returns-in-Decoder-clause-answer c = let pushed = c.push-pushed.result in
     (pushed-so pushed.stop c.in-Decoder.decoder c.push-pushed.new.self (length c.args.parts.now) pushed.read pushed.written c.lost_of.result
     c.args.bits.now c.push-pushed.new.bits c.code_of.result c.code_of.ensures c.lost_of.ensures c.push-pushed.ensures.stops
     c.push-pushed.ensures.late)
+
+pub returns-in-Decoder-clause-decodes : goal.returns-in-Decoder-clause-decodes
+returns-in-Decoder-clause-decodes c = λ line mode samples before d.
+    c.push-pushed.ensures.decodes line mode samples before
+    (subst (λ (m : Machine). Decodes line mode (Some m) samples before) c.in-Decoder.is d)
