@@ -1,7 +1,8 @@
 -- What the calls of an end of the link answer.
-use Rattle.std.proofs.Common.{◌≡◌, ℕ, ◌≤◌, ◌⊎◌, inl, inr, ℤ, to_z, of_z, w32, Bool, List, length, drop, Option, Some, None, Result, Ok, Err}
-use Rattle.std.proofs.Common.{sym, ap, subst, arith, length-append}
-use Rattle.std.specs.Prelude.{IsSomeAnd}
+use Rattle.std.proofs.Common.{◌≡◌, ℕ, ◌<◌, ◌≤◌, ◌⊎◌, inl, inr, ℤ, to_z, of_z, w32, Bool, List, length, drop, Option, Some, None, Result}
+use Rattle.std.proofs.Common.{Ok, Err, sym, ap, subst, arith, length-append}
+use Rattle.std.specs.Prelude.{IsSomeAnd, MatchOption}
+use lib.Signed.{mag}
 use Rattle.link_account.specs.declared.setup.Setup.{Setup}
 use Rattle.lapm_frames.specs.declared.seen.Seen.TheVariants as seen
 use Rattle.lapm_link.specs.Fits.{IsSetUp}
@@ -16,6 +17,8 @@ use Rattle.modem_c.specs.declared.link.Broke.{Broke}
 use Rattle.modem_c.specs.declared.machine.Machine.{Machine}
 use Rattle.modem_c.specs.declared.machine.Machine.TheVariants as machines
 use Rattle.modem_c.specs.Answered.{room_with}
+use Rattle.modem_c.specs.Answers.{AnswersOf, astray}
+use Rattle.modem_c.proofs.CodesBack.{code_back}
 use Rattle.modem_c.specs.Led.{link_in}
 use Rattle.modem_c.specs.Links.{AnswersSetup, AnswersDelivery, AnswersSpeaking, DeliveredAs, SpokenNumbers, room_said, said_of}
 
@@ -67,3 +70,13 @@ spoken-within (Some release) old new code before after said why (inl spoke) = go
         (subst (λ (s : Said). s.octets ≤ length (room_said it before)) (sym h.1) (said-within it before))
     go (Err stop) h = silent-within said after h.1
 spoken-within (Some release) old new code before after said why (inr full) = silent-within said after full.2.said_is
+
+-- What is said of an end is said of the handle that it was taken from and put back to.
+pub linked : (own : ℤ → Endpoint → Endpoint → Type 0) (besides : Type 0) (old new : Option Machine) {end after : Endpoint} (code : ℤ)
+    → mag code < 2147483648 → link_in old ≡ Some end → link_in new ≡ Some after → own code end after
+    → AnswersOf link_in old new (to_z w32 (of_z w32 code)) besides (own (to_z w32 (of_z w32 code)))
+linked own besides old new {end} {after} code small was is h =
+    subst (λ (z : ℤ). AnswersOf link_in old new z besides (own z)) (sym (code_back code small))
+    (subst (λ (found : Option Endpoint). MatchOption found ((code ≡ astray old) × (new ≡ old) × besides)
+    (λ it. IsSomeAnd (link_in new) (own code it))) (sym was)
+    (subst (λ (found : Option Endpoint). IsSomeAnd found (own code end)) (sym is) h))

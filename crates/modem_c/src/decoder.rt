@@ -14,7 +14,7 @@ ghost use Rattle.modem_c.specs.Led.{decoder_in};
 ghost use Rattle.modem_c.specs.Progressed.{nothing_done};
 
 use crate::codes::{BAD_ARGUMENT, DONE, EMPTY, FULL, LATE, LOST, NO_MEMORY, WRONG_KIND, mode_of};
-use crate::handle::{Handle, make, put, take};
+use crate::handle::{Handle, fill, make, put, take};
 use crate::machine::Machine;
 use crate::progress::Progress;
 use gateway::{DecoderStop, LineKind, SampleDecoder};
@@ -66,8 +66,7 @@ fn take_decoder(alloc: Global, handle: &mut Handle) -> Result<(SampleDecoder, Bo
     match mem::replace(machine.as_mut(), Machine::Spent) {
         Machine::Decoder(decoder) => Ok((decoder, machine)),
         other => {
-            *machine = other;
-            put(alloc, handle, machine);
+            fill(alloc, handle, machine, other);
             Err(WRONG_KIND)
         }
     }
@@ -163,7 +162,7 @@ pub extern "C" fn modem_decoder_finish(
     ensures written { progress.new.written ≤ length bits.new }
 {
     *progress = Progress::none();
-    let (decoder, mut machine) = match take_decoder(alloc, handle) {
+    let (decoder, machine) = match take_decoder(alloc, handle) {
         Ok(taken) => taken,
         Err(code) => return code,
     };
@@ -174,8 +173,7 @@ pub extern "C" fn modem_decoder_finish(
             DONE
         }
         Err((decoder, stop)) => {
-            *machine = Machine::Decoder(decoder);
-            put(alloc, handle, machine);
+            fill(alloc, handle, machine, Machine::Decoder(decoder));
             progress.lost = lost_of(stop);
             code_of(stop)
         }

@@ -13,7 +13,7 @@ ghost use Rattle.modem_c.specs.Led.{encoder_in};
 ghost use Rattle.modem_c.specs.Progressed.{nothing_done};
 
 use crate::codes::{BAD_ARGUMENT, DONE, EMPTY, FULL, WRONG_KIND, mode_of};
-use crate::handle::{Handle, make, put, take};
+use crate::handle::{Handle, fill, make, take};
 use crate::machine::Machine;
 use crate::progress::Progress;
 use gateway::SampleEncoder;
@@ -43,8 +43,7 @@ fn take_encoder(alloc: Global, handle: &mut Handle) -> Result<(SampleEncoder, Bo
     match mem::replace(machine.as_mut(), Machine::Spent) {
         Machine::Encoder(encoder) => Ok((encoder, machine)),
         other => {
-            *machine = other;
-            put(alloc, handle, machine);
+            fill(alloc, handle, machine, other);
             Err(WRONG_KIND)
         }
     }
@@ -85,13 +84,12 @@ pub extern "C" fn modem_encoder_push(
     ensures written { 2 * progress.new.written ≤ length parts.new }
 {
     *progress = Progress::none();
-    let (mut encoder, mut machine) = match take_encoder(alloc, handle) {
+    let (mut encoder, machine) = match take_encoder(alloc, handle) {
         Ok(taken) => taken,
         Err(code) => return code,
     };
     let encoded = encoder.push(bits, parts);
-    *machine = Machine::Encoder(encoder);
-    put(alloc, handle, machine);
+    fill(alloc, handle, machine, Machine::Encoder(encoder));
     progress.read = encoded.read;
     progress.written = encoded.written;
     if encoded.all { DONE } else { FULL }

@@ -1,5 +1,5 @@
 // An end of the link, turn by turn.
-ghost use Rattle.std.specs.Prelude.{◌≡◌, ◌≤◌, length, MatchResult, None, Some};
+ghost use Rattle.std.specs.Prelude.{◌≡◌, ◌≤◌, ◌<◌, length, MatchOption, MatchResult, None, Some};
 ghost use Rattle.frame_check.specs.declared.sizes.TheConstants.{INFO, WHOLE};
 ghost use Rattle.link_account.specs.Account.{Account};
 ghost use Rattle.lapm_link.specs.Stands.{StandsFor};
@@ -8,13 +8,13 @@ ghost use Rattle.gateway.specs.Endpoints.{wanted_length};
 ghost use Rattle.modem_c.specs.CodeNumbers.{done};
 ghost use Rattle.modem_c.specs.Answers.{AnswersOf, astray, flag_of};
 ghost use Rattle.modem_c.specs.Led.{link_in};
-ghost use Rattle.modem_c.specs.Links.{setup_of, AnswersSetup, unbroken, broke_by, code_of, why_of, length_given, AnswersHearing, AnswersDelivery, WantedAs, IsOffered, IsAsked, AnswersBusy, phase_number, standing_of, silence, said_of, room_said, AnswersSpeaking};
+ghost use Rattle.modem_c.specs.Links.{setup_of, AnswersSetup, unbroken, broke_by, code_of, why_of, length_given, Carries, AnswersHearing, AnswersDelivery, WantedAs, IsOffered, IsAsked, AnswersBusy, phase_number, standing_of, silence, said_of, room_said, AnswersSpeaking};
 
 use crate::codes::{
     BAD_ARGUMENT, BROKEN, DONE, EMPTY, FULL, LATE, NO_MEMORY, NOTHING, ORDER, WRONG_KIND, flag_of,
     put_octets, role_of,
 };
-use crate::handle::{Handle, make, put, take};
+use crate::handle::{Handle, fill, make, take};
 use crate::machine::Machine;
 use crate::xid::OfferFields;
 use frame_check::{Check, INFO, Info, WHOLE};
@@ -93,19 +93,17 @@ fn take_end(alloc: Global, handle: &mut Handle) -> Result<(Box<Machine>, Endpoin
     match mem::replace(machine.as_mut(), Machine::Spent) {
         Machine::Link(end) => Ok((machine, end)),
         other => {
-            *machine = other;
-            put(alloc, handle, machine);
+            fill(alloc, handle, machine, other);
             Err(WRONG_KIND)
         }
     }
 }
 
 /// Puts an end into the handle, in that block.
-fn put_end(alloc: Global, handle: &mut Handle, mut block: Box<Machine>, end: Endpoint)
+fn put_end(alloc: Global, handle: &mut Handle, block: Box<Machine>, end: Endpoint)
     ensures { link_in handle.new.value ≡ Some end }
 {
-    *block = Machine::Link(end);
-    put(alloc, handle, block);
+    fill(alloc, handle, block, Machine::Link(end));
 }
 
 /// The setup that these numbers say.
@@ -199,6 +197,19 @@ pub extern "C" fn modem_link_new(alloc: Global, handle: &mut Handle, setup: &Set
     }
 }
 
+/// What this number says that a line carries.
+fn carried_by(kind: u32, octets: &[u8]) -> Option<Carried<'_>>
+    ensures { MatchOption result (4 < kind) (λ carried. Carries kind octets.now carried) }
+{
+    match kind {
+        0 | 4 => Some(Carried::Nothing),
+        1 => Some(Carried::Pattern(Seen::Odp)),
+        2 => Some(Carried::Pattern(Seen::Adp)),
+        3 => Some(Carried::Octets(octets)),
+        _ => None,
+    }
+}
+
 fn hear(
     end: Endpoint,
     kind: u32,
@@ -210,12 +221,8 @@ fn hear(
     requires why { why.old ≡ unbroken }
     ensures { AnswersHearing kind octets.now end result.0 result.1 given.new why.new }
 {
-    let carried = match kind {
-        0 | 4 => Carried::Nothing,
-        1 => Carried::Pattern(Seen::Odp),
-        2 => Carried::Pattern(Seen::Adp),
-        3 => Carried::Octets(octets),
-        _ => return (end, BAD_ARGUMENT),
+    let Some(carried) = carried_by(kind, octets) else {
+        return (end, BAD_ARGUMENT);
     };
     let (end, heard) = end.hear(&carried);
     let code = match heard {

@@ -14,7 +14,7 @@ ghost use Rattle.modem_c.specs.Progressed.{nothing_done};
 ghost use Rattle.modem_c.specs.Meters.{Meters, MeterAnswers, no_reading};
 
 use crate::codes::{BAD_ARGUMENT, DONE, EMPTY, LATE, WRONG_KIND, mode_of};
-use crate::handle::{Handle, make, put, take};
+use crate::handle::{Handle, fill, make, take};
 use crate::machine::Machine;
 use crate::progress::Progress;
 use gateway::LockMeter;
@@ -45,8 +45,7 @@ fn take_meter(alloc: Global, handle: &mut Handle) -> Result<(LockMeter, Box<Mach
     match mem::replace(machine.as_mut(), Machine::Spent) {
         Machine::Meter(meter) => Ok((meter, machine)),
         other => {
-            *machine = other;
-            put(alloc, handle, machine);
+            fill(alloc, handle, machine, other);
             Err(WRONG_KIND)
         }
     }
@@ -82,13 +81,12 @@ pub extern "C" fn modem_meter_push(
     ensures heard { 2 * (progress.new.read / 4) ≤ length parts.now }
 {
     *progress = Progress::none();
-    let (meter, mut machine) = match take_meter(alloc, handle) {
+    let (meter, machine) = match take_meter(alloc, handle) {
         Ok(taken) => taken,
         Err(code) => return code,
     };
     let (meter, measured) = meter.push(bits, parts);
-    *machine = Machine::Meter(meter);
-    put(alloc, handle, machine);
+    fill(alloc, handle, machine, Machine::Meter(meter));
     match measured {
         Some(octets) => {
             progress.read = 8 * octets;
@@ -112,13 +110,12 @@ pub extern "C" fn modem_meter_read(alloc: Global, handle: &mut Handle, reading: 
         symbols: 0,
         sure: 0,
     };
-    let (meter, mut machine) = match take_meter(alloc, handle) {
+    let (meter, machine) = match take_meter(alloc, handle) {
         Ok(taken) => taken,
         Err(code) => return code,
     };
     let read = meter.reading();
-    *machine = Machine::Meter(meter);
-    put(alloc, handle, machine);
+    fill(alloc, handle, machine, Machine::Meter(meter));
     *reading = Reading {
         cost: read.cost,
         symbols: read.symbols,
