@@ -1,9 +1,30 @@
-use Rattle.noise_script.proofs.Names.{◌≡◌, ◌∙◌, ◌+◌, ◌-◌, ℕ, true, arith, rules, drawn_offset, word_at, stream_of, Noise, Offset, same_role}
-use Rattle.noise_script.proofs.Batched.{begins, goes-on, ends, within-at, noise-small, same-drawn}
+use Rattle.noise_script.proofs.Names.{◌≡◌, ◌∙◌, ◌+◌, ◌-◌, ℕ, true, false, arith, rules, drawn_offset}
+use Rattle.noise_script.proofs.Names.{word_at, stream_of, Noise, Offset, same_role}
+use Rattle.noise_script.proofs.Batched.{apart, begins, goes-on, ends, within-at, noise-small, same-drawn}
 use Rattle.noise_script.proofs.batch.add_noise.Goals as goal
 
 abbrev drawn_at : Noise → ℕ → ℕ → Offset
 drawn_at noise start place = drawn_offset noise.amplitude (word_at noise.seed (stream_of noise.role) (start + place - noise.from))
+
+pub returns-then-ne : goal.returns-then-ne
+returns-then-ne c =
+    let noise = c.args.noise.now in
+    let own : same_role noise.role c.args.sender ≡ false = search rules in
+    record {
+      grow = apart _ _ _ _ (drawn_at noise c.args.start) _ own;
+      small = noise-small noise c.args.sender c.requires.quiet;
+    }
+
+pub returns-then-end-begin : goal.returns-then-end-begin
+returns-then-end-begin c =
+    let noise = c.args.noise.now in
+    let same = same_role noise.role c.args.sender in
+    let drawn = drawn_at noise c.args.start in
+    let none = begins same noise.from noise.count c.args.start drawn _ _ c.begin_of-begin.ensures in
+    record {
+      grow = ends same noise.from noise.count c.args.start drawn _ _ _ _ c.end_of-end.ensures c.if-end-begin.true none;
+      small = noise-small noise c.args.sender c.requires.quiet;
+    }
 
 pub loop-place-init : goal.loop-place-init
 loop-place-init c =
