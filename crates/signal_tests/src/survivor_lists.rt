@@ -1,5 +1,5 @@
 // The decoder beside survivors as whole lists, which is the definition as plainly as can be.
-ghost use Rattle.std.specs.Prelude.{◌≡◌, ◌<◌, ◌≤◌, ◌^◌, [], length, OnOk};
+ghost use Rattle.std.specs.Prelude.{◌≡◌, ◌<◌, ◌≤◌, ◌^◌, [], length};
 
 use super::assert_row;
 use exact_decoder::{Decoder, Lost};
@@ -11,32 +11,74 @@ use trellis_tables::{Encoder, TrellisCode, V32Code};
 
 type Line = Decoder<V32Code, 8, 32, 128>;
 
+/// As many symbols as a stream has.
+const SYMBOLS: usize = 400;
+
+/// Labels in order, at most one for each symbol. A plain value, so that nothing is to be dropped.
+#[derive(Clone, Copy)]
+struct Labels {
+    labels: [u8; SYMBOLS],
+    count: usize,
+}
+
+impl Labels {
+    fn new() -> Labels {
+        Labels {
+            labels: [0; SYMBOLS],
+            count: 0,
+        }
+    }
+
+    // One label more. Whether there was room for it.
+    fn push(&mut self, label: u8) -> bool {
+        if self.count >= SYMBOLS {
+            return false;
+        }
+        self.labels[self.count] = label;
+        self.count += 1;
+        true
+    }
+
+    fn as_slice(&self) -> &[u8] {
+        match self.labels.split_at_checked(self.count) {
+            Some((labels, _)) => labels,
+            None => &self.labels,
+        }
+    }
+}
+
 /// The nearest sequence to a state, with its cost.
-#[derive(Drop)]
+#[derive(Clone, Copy)]
 struct Survivor {
     cost: u64,
-    labels: Vec<u8>,
+    labels: Labels,
 }
 
 /// How many labels at the front of both lists are the same.
 fn shared(a: &[u8], b: &[u8]) -> usize {
-    a.iter().zip(b).take_while(|(x, y)| x == y).count()
+    let most = a.len().min(b.len());
+    for place in 0..most {
+        if a[place] != b[place] {
+            return place;
+        }
+    }
+    most
 }
 
 /// The survivor of each state to which a sequence from state 0 leads.
-#[derive(Drop)]
+#[derive(Clone, Copy)]
 struct Survivors {
-    of_states: Vec<Option<Survivor>>,
+    of_states: [Option<Survivor>; 8],
 }
 
 impl Survivors {
-    fn new(alloc: Global) -> Result<Survivors, NoMemory> {
-        let mut of_states = Vec::new(alloc);
-        of_states.push(Some(Survivor {
+    fn new() -> Survivors {
+        let mut of_states = [None; 8];
+        of_states[0] = Some(Survivor {
             cost: 0,
-            labels: Vec::new(alloc),
-        }))?;
-        Ok(Survivors { of_states })
+            labels: Labels::new(),
+        });
+        Survivors { of_states }
     }
 
     fn of(&self, state: u8) -> Option<&Survivor> {
@@ -46,52 +88,57 @@ impl Survivors {
         }
     }
 
+    // What entering a state by this label from the survivor of the state before costs, and that state.
+    fn by(&self, state: u8, label: u8, sample: Sample) -> Option<(u64, u8)>
+        requires state { state < 8 }
+        requires label { label < 32 }
+    {
+        let before = V32Code.before(state, label)?;
+        let survivor = self.of(before)?;
+        let far = distance(V32Code.point(label), sample);
+        Some((survivor.cost.saturating_add(far), before))
+    }
+
+    // The survivor of a state, with one label more and this cost.
+    fn gone_on(&self, cost: u64, label: u8, before: u8) -> Option<Survivor> {
+        let mut labels = self.of(before)?.labels;
+        if labels.push(label) {
+            Some(Survivor { cost, labels })
+        } else {
+            None
+        }
+    }
+
     // The survivor of a state once one sample more was heard.
-    fn entered(&self, state: u8, sample: Sample) -> Result<Option<Survivor>, NoMemory>
+    fn entered(&self, state: u8, sample: Sample) -> Option<Survivor>
         requires { state < 8 }
     {
         let mut least: Option<(u64, u8, u8)> = None;
         for label in 0..32u8 {
-            if let Some(before) = V32Code.before(state, label) {
-                if let Some(survivor) = self.of(before) {
-                    let cost = survivor
-                        .cost
-                        .saturating_add(distance(V32Code.point(label), sample));
-                    match least {
-                        Some((known, _, _)) if known <= cost => {}
-                        _ => least = Some((cost, label, before)),
-                    }
+            if let Some((cost, before)) = self.by(state, label, sample) {
+                match least {
+                    Some((known, _, _)) if known <= cost => {}
+                    _ => least = Some((cost, label, before)),
                 }
             }
         }
-        let Some((cost, label, before)) = least else {
-            return Ok(None);
-        };
-        let Some(survivor) = self.of(before) else {
-            return Ok(None);
-        };
-        let mut labels = survivor.labels.clone()?;
-        labels.push(label)?;
-        Ok(Some(Survivor { cost, labels }))
+        let (cost, label, before) = least?;
+        self.gone_on(cost, label, before)
     }
 
-    fn push(&mut self, alloc: Global, sample: Sample) -> Result<(), NoMemory> {
-        let mut of_states = Vec::new(alloc);
+    fn push(&mut self, sample: Sample) {
+        let mut of_states = [None; 8];
         for state in 0..8u8 {
-            of_states.push(self.entered(state, sample)?)?;
+            of_states[state as usize] = self.entered(state, sample);
         }
         self.of_states = of_states;
-        Ok(())
     }
 
-    // The released labels, and those behind them in one survivor.
+    // The released labels, and those behind them in the least survivor.
     fn released(&self) -> (&[u8], &[u8]) {
-        let Some(Some(first)) = self.of_states.iter().find(|survivor| survivor.is_some()) else {
-            return (&[], &[]);
-        };
-        let labels = first.labels.as_slice();
+        let labels = self.least();
         let mut count = labels.len();
-        for survivor in &self.of_states {
+        for survivor in self.of_states.iter() {
             if let Some(survivor) = survivor {
                 count = count.min(shared(labels, survivor.labels.as_slice()));
             }
@@ -102,7 +149,7 @@ impl Survivors {
     // The labels of the least survivor, of equal ones that of the smallest state.
     fn least(&self) -> &[u8] {
         let mut least: Option<&Survivor> = None;
-        for survivor in &self.of_states {
+        for survivor in self.of_states.iter() {
             if let Some(survivor) = survivor {
                 match least {
                     Some(known) if known.cost <= survivor.cost => {}
@@ -181,111 +228,64 @@ impl Stream {
     }
 }
 
-fn take_all(rt: &impl Abort, decoder: &mut Line, taken: &mut Vec<u8>) -> Result<(), NoMemory>
-    ensures pending { OnOk result (decoder.new.pending ≡ []) }
+fn take_all(rt: &impl Abort, decoder: &mut Line, taken: &mut Labels)
+    ensures pending { decoder.new.pending ≡ [] }
     ensures count { decoder.new.count ≡ decoder.old.count }
 {
     for _ in 0..decoder.pending() {
         if let Some(label) = decoder.take() {
-            taken.push(label)?;
+            assert!(rt; taken.push(label));
         }
     }
     assert!(rt; decoder.pending() == 0);
-    Ok(())
 }
 
-/// What stands beside a decoder: a stream, its survivors, and the labels that the decoder gave.
-struct Beside {
-    stream: Stream,
-    survivors: Survivors,
-    taken: Vec<u8>,
-}
-
-impl Drop for Beside {
-    // for the prover: so it is dropped by a call, and its fields are not dropped anew wherever one is.
-    fn drop(self) {
-        let Beside {
-            stream: _,
-            survivors: _,
-            taken: _,
-        } = self;
-    }
-}
-
-impl Beside {
-    fn new(alloc: Global) -> Result<Beside, NoMemory> {
-        Ok(Beside {
-            stream: Stream {
-                encoder: Encoder::new(),
-                word: 1,
-            },
-            survivors: Survivors::new(alloc)?,
-            taken: Vec::new(alloc),
+// Whether what all survivors begin with was taken, and the line is lost with this symbol where they have too much behind it.
+fn agree(survivors: &Survivors, taken: &Labels, pushed: &Result<(), Lost>, symbol: u32) -> bool {
+    let (released, unreleased) = survivors.released();
+    let expected = if unreleased.len() > 128 {
+        Err(Lost {
+            symbol: u64::from(symbol),
         })
-    }
-
-    // The sample of a symbol, which the survivors have then heard.
-    fn hear(
-        &mut self,
-        alloc: Global,
-        symbol: u32,
-        middle: u32,
-        spread: u32,
-    ) -> Result<Sample, NoMemory>
-        requires { spread < 2 ^ 12 }
-    {
-        let sample = self.stream.sample_at(symbol, middle, spread);
-        self.survivors.push(alloc, sample)?;
-        Ok(sample)
-    }
-
-    // Whether what all survivors begin with was taken, and the line is lost with this symbol where they have too much behind it.
-    fn agrees(&self, pushed: &Result<(), Lost>, symbol: u32) -> bool {
-        let (released, unreleased) = self.survivors.released();
-        let expected = if unreleased.len() > 128 {
-            Err(Lost {
-                symbol: u64::from(symbol),
-            })
-        } else {
-            Ok(())
-        };
-        self.taken.as_slice() == released && *pushed == expected
-    }
+    } else {
+        Ok(())
+    };
+    taken.as_slice() == released && *pushed == expected
 }
 
 // With which symbol the line is lost. Where it isn't, what was taken, and the labels behind it, are the least survivor.
-fn ends_alike(rt: &impl Abort, decoder: Line, beside: &mut Beside) -> Result<Option<u64>, NoMemory>
+fn ends_alike(rt: &impl Abort, decoder: Line, survivors: &Survivors, taken: &Labels) -> Option<u64>
     requires { decoder.pending ≡ [] }
 {
     if let Some(lost) = decoder.lost() {
-        return Ok(Some(lost.symbol));
+        return Some(lost.symbol);
     }
     let tail = decoder.finish();
+    let mut whole = *taken;
     for label in tail.as_slice() {
-        beside.taken.push(*label)?;
+        assert!(rt; whole.push(*label));
     }
-    assert!(rt; beside.taken.as_slice() == beside.survivors.least());
-    Ok(None)
+    assert!(rt; whole.as_slice() == survivors.least());
+    None
 }
 
-// What a decoder gives that is handed so many samples at once, and with which symbol it loses the line.
+// What a decoder gives that is handed at most so many samples at once, and with which symbol it loses
+// the line. As many calls as there are samples are enough.
 fn batched(
     rt: &impl Abort,
     alloc: Global,
     samples: &[Sample],
     batch: usize,
-) -> Result<(Vec<u8>, Option<u64>), NoMemory>
-    requires batch { 1 ≤ batch }
-    requires few { batch ≤ 400 }
-    requires short { length samples.now ≤ 400 }
+) -> Result<(Labels, Option<u64>), NoMemory>
+    requires { length samples.now ≤ 400 }
 {
     let mut decoder: Line = Decoder::new(alloc, V32Code, 0)?;
-    let mut taken = Vec::new(alloc);
-    let mut at = 0;
-    while at < samples.len() {
-        let end = samples.len().min(at + batch);
+    let mut taken = Labels::new();
+    let mut at = 0usize;
+    for _ in 0..samples.len() {
+        let end = samples.len().min(at.saturating_add(batch));
         let pushed = decoder.push_some(&samples[at..end]);
-        take_all(rt, &mut decoder, &mut taken)?;
+        take_all(rt, &mut decoder, &mut taken);
         match pushed {
             Ok(heard) => at += heard,
             Err(lost) => return Ok((taken, Some(lost.symbol))),
@@ -294,8 +294,62 @@ fn batched(
     Ok((taken, None))
 }
 
-// With which symbol the line is lost, where from the symbol `middle` on all samples lie in the middle of the map. After each sample
-// the decoder has released what all survivors begin with, and one that hears several at once gives the same in the end.
+/// How many samples a decoder is handed at once.
+const BATCHES: &[usize] = &[2, 7, 128, 400];
+
+// Decoders that hear several samples at once give these labels, and lose the line with this symbol.
+fn batches_alike(
+    rt: &impl Abort,
+    alloc: Global,
+    samples: &[Sample],
+    taken: &Labels,
+    lost: Option<u64>,
+) -> Result<(), NoMemory>
+    requires { length samples.now ≤ 400 }
+{
+    for &batch in BATCHES {
+        let (labels, ended) = batched(rt, alloc, samples, batch)?;
+        assert!(rt; ended == lost);
+        assert!(rt; labels.as_slice() == taken.as_slice());
+    }
+    Ok(())
+}
+
+// The samples of a stream, up to the one that loses the line: from the symbol `middle` on all lie in the
+// middle of the map. After each the decoder has released what all survivors begin with.
+fn samples_heard(
+    rt: &impl Abort,
+    decoder: &mut Line,
+    survivors: &mut Survivors,
+    taken: &mut Labels,
+    spread: u32,
+    middle: u32,
+) -> [Sample; SYMBOLS]
+    requires spread { spread < 2 ^ 12 }
+    requires count { decoder.old.count ≡ 0 }
+    requires pending { decoder.old.pending ≡ [] }
+    ensures { decoder.new.pending ≡ [] }
+{
+    let mut stream = Stream {
+        encoder: Encoder::new(),
+        word: 1,
+    };
+    let mut samples = [Sample { re: 0, im: 0 }; SYMBOLS];
+    for symbol in 0..400u32 {
+        let sample = stream.sample_at(symbol, middle, spread);
+        samples[symbol as usize] = sample;
+        survivors.push(sample);
+        let pushed = decoder.push(sample);
+        take_all(rt, decoder, taken);
+        assert!(rt; agree(survivors, taken, &pushed, symbol));
+        if pushed.is_err() {
+            break;
+        }
+    }
+    samples
+}
+
+// With which symbol the line is lost. Decoders that hear several samples at once give the same.
 fn lost_with(
     rt: &impl Abort,
     alloc: Global,
@@ -305,24 +359,12 @@ fn lost_with(
     requires { spread < 2 ^ 12 }
 {
     let mut decoder: Line = Decoder::new(alloc, V32Code, 0)?;
-    let mut beside = Beside::new(alloc)?;
-    let mut samples = [Sample { re: 0, im: 0 }; 400];
-    for symbol in 0..400u32 {
-        let sample = beside.hear(alloc, symbol, middle, spread)?;
-        samples[symbol as usize] = sample;
-        let pushed = decoder.push(sample);
-        take_all(rt, &mut decoder, &mut beside.taken)?;
-        assert!(rt; beside.agrees(&pushed, symbol));
-        if pushed.is_err() {
-            break;
-        }
-    }
-    let lost = decoder.lost().map(|lost| lost.symbol);
-    for batch in [2, 7, 128, 400] {
-        let (taken, ended) = batched(rt, alloc, &samples, batch)?;
-        assert!(rt; ended == lost && taken.as_slice() == beside.taken.as_slice());
-    }
-    ends_alike(rt, decoder, &mut beside)
+    let mut survivors = Survivors::new();
+    let mut taken = Labels::new();
+    let samples = samples_heard(rt, &mut decoder, &mut survivors, &mut taken, spread, middle);
+    let lost = ends_alike(rt, decoder, &survivors, &taken);
+    batches_alike(rt, alloc, &samples, &taken, lost)?;
+    Ok(lost)
 }
 
 /// Spreads, the symbol from which on all samples lie in the middle, and whether the line is lost, where that is known beforehand.
@@ -335,11 +377,19 @@ const STREAMS: &[(&str, u32, u32, Option<bool>)] = &[
     ("half units", 0, 400, None),
 ];
 
+/// Whether the line is lost or not, as it is known beforehand.
+fn is_as_known(symbol: Option<u64>, lost: Option<bool>) -> bool {
+    match lost {
+        Some(known) => known == symbol.is_some(),
+        None => true,
+    }
+}
+
 #[test]
 fn both_release_the_same(rt: HostRuntime) -> Result<(), NoMemory> {
     for &(name, spread, middle, lost) in STREAMS {
         let symbol = lost_with(&rt, rt.alloc(), spread % 4096, middle)?;
-        assert_row(&rt, name, lost.is_none() || lost == Some(symbol.is_some()));
+        assert_row(&rt, name, is_as_known(symbol, lost));
     }
     Ok(())
 }
