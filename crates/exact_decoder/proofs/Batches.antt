@@ -1,8 +1,8 @@
 -- Several samples more.
-use Rattle.exact_decoder.proofs.Names.{◌≡◌, ℕ, ◌+◌, ◌≤◌, min, List, [], ◌∷◌, ◌++◌, length, Option, arith, append_assoc}
+use Rattle.exact_decoder.proofs.Names.{◌≡◌, ℕ, ◌+◌, ◌<◌, ◌≤◌, ◌^◌, min, List, [], ◌∷◌, ◌++◌, length, Option, Some, arith, append_assoc}
 use Rattle.exact_decoder.proofs.Names.{length-append, subst, min-le_left, min-le_right, min-eq_left, min-eq_right}
-use Rattle.exact_decoder.proofs.Names.{append-nil, SteppedEach, Kept, KeepsSurvivors, Stepped, trellis_of, Sample, IsBounded, StaysWithin}
-use Rattle.exact_decoder.proofs.Names.{Reaches, EntersOnce}
+use Rattle.exact_decoder.proofs.Names.{append-nil, SteppedEach, sums_at, Kept, KeepsSurvivors, Stepped, trellis_of, Sample, IsBounded}
+use Rattle.exact_decoder.proofs.Names.{StaysWithin, Reaches, EntersOnce}
 use Rattle.exact_decoder.specs.Batches.{IsSmallAfter}
 use Rattle.exact_decoder.proofs.Pushed.{keeps-stepped}
 use Rattle.exact_decoder.proofs.Spreading.{spread-next}
@@ -27,6 +27,11 @@ module _ (table : ℕ → ℕ → Option ℕ) (points : ℕ → Sample) (states 
             (spread-next _ _ _ _ _ _ _ _ _ bounded within reaches p (s.small count h));
         longer = omega (arith, n, s.longer, p.longer_by_one);
       }
+
+-- how far the sums are apart before one sample more
+pub small-before : (table : ℕ → ℕ → Option ℕ) (states reach count : ℕ) (k : Kept) → reach ≤ 64 → IsSmallAfter table states reach count k
+    → (s m : ℕ) → sums_at k.sums s ≡ Some m → m < 2 ^ 44
+small-before table states reach count k few h s m e = omega (arith, h.small s m e, min-le_right count reach, few)
 
 -- how many samples are heard where there is room for at least one
 pub heard-within : (given room heard : ℕ) → heard ≡ min given room → heard ≤ given

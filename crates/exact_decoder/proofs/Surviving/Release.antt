@@ -33,4 +33,4 @@ prefix-parted (z ∷ other) (w ∷ front) a b x y apart (r, e) (s, f) =
     let tail_e : other ++ r ≡ front ++ x ∷ a = cc in
     let tail_f : other ++ s ≡ front ++ y ∷ b = cc in
     let same : w ≡ z = cc in
-    let p = prefix-parted other front a b x y apart (r, tail_e) (s, tail_f) in grind (arith)
+    let p = prefix-parted other front a b x y apart (r, tail_e) (s, tail_f) in (p.0, cc)

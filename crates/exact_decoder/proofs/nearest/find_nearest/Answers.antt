@@ -1,4 +1,4 @@
-use Rattle.exact_decoder.proofs.Names.{◌≢◌, ◌<◌, length, arith, get_or-set_other, get_or-set_same, below_more, length-set}
+use Rattle.exact_decoder.proofs.Names.{◌≢◌, ℕ, ◌<◌, length, arith, get_or-set_other, get_or-set_same, below_more, length-set}
 use Rattle.exact_decoder.proofs.nearest.find_nearest.Goals as goal
 
 pub loop-subset-preserved : goal.loop-subset-preserved
@@ -11,3 +11,14 @@ loop-subset-preserved g c =
           (let within : c.loop-subset.subset < length c.loop-subset.nearest = omega arith in
           rw get_or-set_same (nearest, c.nearest_in.ensures.bound, close)),
     )
+
+pub returns : goal.returns
+returns g c =
+    let (long, below) = c.loop-subset.invariant in
+    let low : (s : ℕ) → s < g.C.TrellisCode.SUBSETS → s < c.loop-subset.subset = λ s h. omega (arith, h, c.loop-subset-test.false) in
+    record {
+      nearest = λ s h. (below s (low s h)).0;
+      bound = λ s h. (below s (low s h)).1;
+      close = λ s h. (below s (low s h)).2;
+      long = long;
+    }

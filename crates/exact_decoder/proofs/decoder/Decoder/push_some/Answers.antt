@@ -1,9 +1,9 @@
 use Rattle.exact_decoder.proofs.Names.{◌≡◌, ℕ, ◌+◌, ◌-◌, ◌<◌, ◌≤◌, ◌^◌, ◌++◌, [], ◌∷◌, List, length, take, drop, lit<, Option, None, Some}
-use Rattle.exact_decoder.proofs.Names.{reverse, append_assoc, refl, sym, ◌∙◌, ap, subst, arith, length-take-le, length-reverse}
+use Rattle.exact_decoder.proofs.Names.{reverse, append-nil, append_assoc, refl, sym, ◌∙◌, ap, subst, arith, length-take-le, length-reverse}
 use Rattle.exact_decoder.proofs.Names.{take-append-drop, Decoding, decoding_of, IsSound, DecoderStands, Sample}
 use Rattle.exact_decoder.specs.Memory.{opened}
 use Rattle.exact_decoder.proofs.Keeping.{All-turned}
-use Rattle.exact_decoder.proofs.Pushed.{Pushed, stands-goes_on, stands-lost, stands-stays}
+use Rattle.exact_decoder.proofs.Pushed.{Pushed, none-some, stands-goes_on, stands-lost, stands-stays}
 use Rattle.exact_decoder.proofs.Batches.{heard-within, heard-fit, some-heard}
 use Rattle.exact_decoder.proofs.Spreading.{sound-next}
 use Rattle.exact_decoder.proofs.decoder.Decoder.push_some.Given.{Over}
@@ -24,6 +24,11 @@ returns-in-Some-clause-stands g c = λ starts past taken h.
 pub overflow_sub-unreleased : goal.overflow_sub-unreleased
 unfolding opened
 overflow_sub-unreleased g c = omega (arith, c.unreleased.ensures, c.self.invariant.few_unreleased)
+
+pub returns-then-heard-eq0-clause-stands : goal.returns-then-heard-eq0-clause-stands
+returns-then-heard-eq0-clause-stands g c = λ starts past taken h.
+    let t = g.C.TrellisCode in
+    subst (λ l. DecoderStands t.table t.points starts g.row.DEPTH c.args.self.now l taken) (sym (append-nil past)) h
 
 pub returns-then-heard-eq0-clause-some : goal.returns-then-heard-eq0-clause-some
 unfolding opened
@@ -132,6 +137,14 @@ returns-then-unreleased-clause-stands g c = λ starts past taken h.
     subst (λ l. DecoderStands t.table t.points starts g.row.DEPTH (behind g m (Some last)) l taken)
     (whole past c.args.samples.now c.min-heard.result) (stands-stays _ _ _ _ (drop c.min-heard.result c.args.samples.now) _ _ _ _ refl lost)
 
+pub returns-then-unreleased-clause-stays : goal.returns-then-unreleased-clause-stays
+returns-then-unreleased-clause-stays g c = λ symbol e.
+    none-some symbol (sym c.in_default.is ∙ ap (λ v. v.lost) c.self.view_is ∙ e)
+
+pub returns-then-unreleased-clause-count : goal.returns-then-unreleased-clause-count
+returns-then-unreleased-clause-count g c =
+    omega (arith, ap (λ v. v.count) c.self.view_is, heard-within _ _ _ c.min-heard.ensures)
+
 pub invariant_of-self-else-unreleased : goal.invariant_of-self-else-unreleased
 unfolding opened
 invariant_of-self-else-unreleased g c =
@@ -147,3 +160,9 @@ returns-clause-stands g c = λ starts past taken h.
     taken c.in_default.is (fits g m) (pushed g m c.self.inside.lost)
     (subst (λ v. DecoderStands t.table t.points starts g.row.DEPTH v past taken) (sym c.self.view_is) h) c.in_default.is
     (omega (arith, c.if-unreleased.false, c.unreleased-2.ensures))
+
+pub returns-clause-stays : goal.returns-clause-stays
+returns-clause-stays g c = λ symbol e. none-some symbol (sym c.in_default.is ∙ ap (λ v. v.lost) c.self.view_is ∙ e)
+
+pub returns-clause-count : goal.returns-clause-count
+returns-clause-count g c = omega (arith, ap (λ v. v.count) c.self.view_is)
