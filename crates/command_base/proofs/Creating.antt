@@ -1,11 +1,27 @@
 -- Outputs that are created in order.
 use Rattle.command_base.proofs.Names.{arith, inl, inr, ℕ, List, [], ◌∷◌, WriteFails, Holds-kept, GoesOn-trans, KeepsName-trans, FolderState}
-use Rattle.command_base.proofs.Names.{GoesOn, KeepsName, CountsStand, IsNoneOf, CreatesPart, OnlyOutputs, FolderFault}
-use Rattle.outside_calls.specs.Folder.{OnlyWrites}
+use Rattle.command_base.proofs.Names.{GoesOn, KeepsName, CountsStand, IsNoneOf, CreatesPart, OnlyOutputs, FolderFault, ◌⊎◌, Err, IsErrOf}
+use Rattle.command_base.proofs.Names.{NoMemory, HasCause, FaultsStand, IsTrue, subst}
+use Rattle.outside_calls.specs.Folder.{OnlyWrites, Created}
 use Rattle.outside_calls.specs.declared.folder.FolderFault.TheVariants as folder
 use Rattle.outside_calls.specs.Outputs.{Holds, KeptOrEmpty, KeepsEach}
 use Rattle.outside_calls.proofs.Putting.{KeepsEach-writes, KeepsEach-trans}
 use Rattle.command_base.proofs.Jobs.{write-earlier}
+
+-- what a call leaves that makes an output, or fails to
+pub made-empty : (old new : FolderState) (name : List ℕ) → OnlyWrites old new name → Created old new name → Holds new name []
+made-empty old new name only made told = made (subst IsTrue (only.goes_on.tells name) told)
+
+pub kept-or-made : (old new : FolderState) (name : List ℕ) → OnlyWrites old new name → KeepsName old new name ⊎ Created old new name
+    → KeptOrEmpty old new name
+kept-or-made old new name only (inl kept) = inl kept
+kept-or-made old new name only (inr made) = inr (made-empty old new name only made)
+
+-- a call that writes and fails, by the count of its name
+pub write-fails : (old new : FolderState) (name : List ℕ) (fault : FolderFault)
+    → HasCause {T = Unit {0}} (old.write_faults name) (new.write_faults name) old.refusals new.refusals (Err fault)
+    → (IsErrOf {T = Unit {0}} {E = FolderFault} (Err fault) NoMemory → FaultsStand old new) → WriteFails old new (name ∷ []) fault
+write-fails old new name fault cause spared = grind (arith)
 
 kept-earlier : (old mid new : FolderState) (name : List ℕ) → GoesOn old mid → KeepsName old mid name → KeptOrEmpty mid new name
     → KeptOrEmpty old new name
