@@ -245,6 +245,11 @@ pub heard-well : (r : Result Account LinkFault) (file : List ℕ) (s : Station) 
     → HeardWell r file s
 heard-well q0 file s done h = grind (arith)
 
+pub heard-badly : (r : Result Account LinkFault) (file : List ℕ) (s : Station) (fault : LinkFault) → HearsAs r file s (Err fault)
+    → r ≡ Err fault
+heard-badly (Ok after) file s fault h = absurd h
+heard-badly (Err broken) file s fault h = ap Err (sym h)
+
 -- ---- the whole turn
 
 pub writing-ends : (role : Role) (a b : FolderState) (n : PeerNames) (p : Past) (slot : List ℕ) (fault : SingleFault) → IsWriting fault

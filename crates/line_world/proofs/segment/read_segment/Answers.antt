@@ -1,9 +1,53 @@
-use Rattle.line_world.proofs.Cited.{◌≡◌, ◌⊎◌, inl, inr, ◌-◌, ◌*◌, ◌≤◌, ℕ, IsTrue, ◌++◌, length, take, drop, arith, ap, ◌∙◌, Result, Ok, Err}
-use Rattle.line_world.proofs.Cited.{IfOk, length-take-le, file_at, piece_at, octets_at, FolderFault}
+use Rattle.line_world.proofs.Cited.{◌≡◌, ◌⊎◌, inl, inr, ◌-◌, ◌*◌, ◌≤◌, ◌<◌, ◌+◌, List, ℕ, IsTrue, ◌++◌, length, take, drop, arith, ap}
+use Rattle.line_world.proofs.Cited.{◌∙◌, Result, Ok, Err}
+use Rattle.line_world.proofs.Cited.{IfOk, length-take, length-take-le, file_at, piece_at, octets_at, FolderFault}
 use Rattle.outside_calls.specs.Folder.{ReadsFront}
 use Rattle.line_world.proofs.Offering.{read-segment}
-use Rattle.line_world.proofs.segment.read_segment.Goals.{then-left-from, else-left-from}
+use Rattle.line_world.proofs.segment.read_segment.Given.{Over}
+use Rattle.line_world.proofs.segment.read_segment.Goals.{After-read_at, then-left-from, else-left-from}
 use Rattle.line_world.proofs.segment.read_segment.Goals as goal
+
+-- the room is the lesser of both
+abbrev Rooms : ℕ → ℕ → ℕ → ℕ → Type 0
+Rooms room size left from = ((room ≡ left) × (left < from)) ⊎ ((room ≡ size) × (from ≤ left))
+
+in-bounds : (room size left from : ℕ) → from ≡ size → Rooms room size left from → (room ≤ size) × (room ≤ left)
+in-bounds room size left from e (inl h) = (omega (arith, e, h.0, h.1), omega (arith, h.0))
+in-bounds room size left from e (inr h) = (omega (arith, h.0), omega (arith, e, h.0, h.1))
+
+rooms : (g : Over) (c : After-read_at g)
+    → Rooms c.if-left-from.room c.args.size (c.args.limit - c.from.result * c.args.number) c.from-2.result
+rooms g c = elim c.if-left-from.branch [
+  | then-left-from w ↦ inl (w.room-is, w.if-left-from.true)
+  | else-left-from w ↦ inr (w.room-is ∙ w.from-room.ensures, w.if-left-from.false)
+]
+
+within-so : (r : Result ℕ FolderFault) (segment : List ℕ) (room size number at limit : ℕ) → at ≡ size * number → at ≤ limit
+    → room ≤ limit - at → IfOk r (λ count. count ≤ length (take room segment)) → IfOk r (λ count. size * number + count ≤ limit)
+within-so (Ok count) segment room size number at limit e low few h = omega (arith, e, low, few, h, length-take room segment)
+within-so (Err fault) segment room size number at limit e low few h = tt
+
+count-so : (r : Result ℕ FolderFault) (segment : List ℕ) (room size : ℕ) → room ≤ size → IfOk r (λ count. count ≤ length (take room segment))
+    → IfOk r (λ count. count ≤ size)
+count-so (Ok count) segment room size low h = omega (arith, low, h, length-take room segment)
+count-so (Err fault) segment room size low h = tt
+
+-- so it is as the octets are read
+bounds : (g : Over) (c : After-read_at g)
+    → (c.if-left-from.room ≤ c.args.size) × (c.if-left-from.room ≤ c.args.limit - c.from.result * c.args.number)
+bounds g c = in-bounds c.if-left-from.room c.args.size _ c.from-2.result c.from-2.ensures (rooms g c)
+
+pub returns-clause-within : goal.returns-clause-within
+returns-clause-within g c =
+    let at : ℕ = c.from.result * c.args.number in
+    let at-is : at ≡ c.args.size * c.args.number = ap (λ n. n * c.args.number) c.from.ensures in
+    within-so c.read_at.result c.args.segment.now c.if-left-from.room c.args.size c.args.number at c.args.limit at-is
+    (rw at-is c.requires.within) (bounds g (goal.at.returns-clause-within g c).After-read_at).1 c.read_at.ensures.bound
+
+pub returns-clause-count : goal.returns-clause-count
+returns-clause-count g c =
+    count-so c.read_at.result c.args.segment.now c.if-left-from.room c.args.size
+    (bounds g (goal.at.returns-clause-count g c).After-read_at).0 c.read_at.ensures.bound
 
 pub returns-clause-octets : goal.returns-clause-octets
 returns-clause-octets g c = go c.read_at.result c.read_at.ensures.octets
@@ -20,17 +64,14 @@ returns-clause-octets g c = go c.read_at.result c.read_at.ensures.octets
     low : at ≤ c.args.limit
     low = rw at-is c.requires.within
 
-    bounds : (room ≤ c.args.size) × (room ≤ c.args.limit - at)
-    bounds = grind (arith, then-left-from, else-left-from)
-
     small : room ≤ c.args.size
-    small = bounds.0
+    small = (bounds g (goal.at.returns-clause-octets g c).After-read_at).0
 
     few : room ≤ c.args.limit - at
-    few = bounds.1
+    few = (bounds g (goal.at.returns-clause-octets g c).After-read_at).1
 
     way : (room ≡ c.args.size) ⊎ (room ≡ c.args.limit - at)
-    way = elim c.if-left-from.branch [ then-left-from w ↦ inr w.room-is | else-left-from w ↦ inl (w.room-is ∙ w.from-room.ensures) ]
+    way = elim (rooms g (goal.at.returns-clause-octets g c).After-read_at) [ inl h ↦ inr h.0 | inr h ↦ inl h.0 ]
 
     wide : length (take room c.args.segment.now) ≡ room
     wide = length-take-le room c.args.segment.now (omega (arith, small, c.requires.size, c.requires.room))
