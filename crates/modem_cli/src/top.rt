@@ -1,5 +1,5 @@
 // The top call.
-ghost use Rattle.std.specs.Prelude.{◌≡◌, ◌≢◌, IfSome, map, string_bytes};
+ghost use Rattle.std.specs.Prelude.{◌≡◌, ◌≢◌, IfSome, drop, map, string_bytes};
 ghost use Rattle.std.specs.Option.{option_map_or};
 ghost use Rattle.command_base.specs.Status.{PassesNoneOver};
 ghost use Rattle.modem_cli.specs.Modem.{Nothing, commands, asked, asked_by, promise, usage};
@@ -39,29 +39,42 @@ enum Asked<'a> {
     Audit(AuditWords<'a>),
 }
 
-/// What is asked for by a command's word and the words behind it.
+/// What is asked for by the word of one of the last seven commands of the usage line and the words behind it.
 #[tactic(auto, using(crate::proofs::Others::others))]
+fn read_later_names<'a>(command: &str, names: &'a [String]) -> Option<Asked<'a>>
+    ensures names { asked_by (drop 8 commands) command.now (map string_bytes names.now) ≡ option_map_or named result Nothing }
+    ensures apart { IfSome result (λ it. (promise (named it)).Apart) }
+{
+    let asked = match command {
+        "margin" => Asked::Margin(margin_words(names)?),
+        "encode4" => Asked::Encode(encode_words(Rate::Quarters, names)?),
+        "decode4" => Asked::Decode(decode_words(Rate::Quarters, names)?),
+        "record" => Asked::Run(record_words(names)?),
+        "tap" => Asked::Tap(tap_words(names)?),
+        "pair" => Asked::Pair(pair_words(names)?),
+        "audit" => Asked::Audit(audit_words(names)?),
+        _ => return None,
+    };
+    Some(asked)
+}
+
+/// What is asked for by a command's word and the words behind it. Two functions read the words: what one holds in all fifteen arms
+/// costs the prover much more.
+#[tactic(auto, using(crate::proofs::Others::later))]
 fn read_names<'a>(command: &str, names: &'a [String]) -> Option<Asked<'a>>
     ensures names { asked_by commands command.now (map string_bytes names.now) ≡ option_map_or named result Nothing }
     ensures apart { IfSome result (λ it. (promise (named it)).Apart) }
 {
     let asked = match command {
         "run" => Asked::Run(run_words(names)?),
-        "record" => Asked::Run(record_words(names)?),
         "encode" => Asked::Encode(encode_words(Rate::Trellis, names)?),
-        "encode4" => Asked::Encode(encode_words(Rate::Quarters, names)?),
         "decode" => Asked::Decode(decode_words(Rate::Trellis, names)?),
-        "decode4" => Asked::Decode(decode_words(Rate::Quarters, names)?),
         "frames" => Asked::Frames(frames_words(names)?),
         "xid" => Asked::Xid(xid_words(names)?),
         "soak" => Asked::Soak(soak_words(names)?),
         "peer" => Asked::Peer(peer_words(names)?),
         "pickup" => Asked::Pickup(pickup_words(names)?),
-        "margin" => Asked::Margin(margin_words(names)?),
-        "tap" => Asked::Tap(tap_words(names)?),
-        "pair" => Asked::Pair(pair_words(names)?),
-        "audit" => Asked::Audit(audit_words(names)?),
-        _ => return None,
+        _ => return read_later_names(command, names),
     };
     Some(asked)
 }
