@@ -3,7 +3,7 @@ use Rattle.line_tap.proofs.Cited.{arith, ◌≡◌, ℕ, List, ◌++◌, length,
 use Rattle.line_tap.proofs.Cited.{Tapping, Hearing, Spoken, Side, Turn, side_line, turn_text, Both, of, Role, Originator, Answerer}
 use Rattle.std.proofs.Common.{◌≢◌}
 use Rattle.line_texts.specs.LineText.{line_of}
-use Rattle.line_world.specs.Texts.{lines_of}
+use Rattle.stations.specs.Texts.{lines_of}
 use Rattle.line_tap.specs.Tap.{side_in}
 
 line-of : (turn t : ℕ) (role : Role) (heard : Heard) (sent : Option Sent) (given : Option ℕ) (s : Side) → heard ≢ Chance → turn ≡ t

@@ -26,12 +26,13 @@ use lapm_frames::{Heard, Sent};
 use lapm_receiver::laws::keeps_taken;
 use line_run::direction::{codable_slots_fit, slots_that_fit_follow_one_another};
 use line_run::laws::{scripts_make_links, slots_are_due_alone, slots_have_room};
-use line_world::{Directions, LineEnd, append_chance, append_turn, slot_symbols};
+use line_world::{Directions, LineEnd, slot_symbols};
 use noise_script::Script;
 use outside_calls::{Folder, FolderFault};
 use recordings::HEADER;
 use sample_line::LabelSlot;
 use shared_terms::{Both, NoMemory, Role};
+use stations::{append_chance, append_turn};
 use std::alloc::Global;
 use xid_params::agree;
 

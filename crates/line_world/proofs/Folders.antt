@@ -1,11 +1,9 @@
 -- What the steps of a turn leave of the folder, in a row.
 use Rattle.line_world.proofs.Cited.{arith, ℕ, List, [], ◌++◌, Written, inputs_of, outputs_of, received_of, RunFault, AreWithin, ReadsBoth}
-use Rattle.line_world.proofs.Cited.{FaultCountsOver, IsWriting, StayKnown, KnowsFiles, Accounts, OnlyPuts-one, FolderState, GoesOn}
-use Rattle.line_world.proofs.Cited.{OnlyWrites, CountsStand, KeepsEach, AreApartFrom, OnlyPuts, Both}
+use Rattle.line_world.proofs.Cited.{handed, FaultCountsOver, IsWriting, FaultCounts, StayKnown, KnowsFiles, Accounts, OnlyPuts-one}
+use Rattle.line_world.proofs.Cited.{FolderState, GoesOn, OnlyWrites, CountsStand, KeepsEach, AreApartFrom, OnlyPuts, Both}
 use Rattle.line_run.specs.declared.fault.RunFault.TheVariants as run_faults
-use Rattle.line_world.specs.Turn.{FaultCounts}
 use Rattle.line_world.proofs.Several.{rose-front, rose-behind}
-use Rattle.line_world.specs.Mid.{handed}
 
 -- no output is another one, nor an input
 abbrev pub IsApart : Written → Type 0

@@ -9,10 +9,6 @@ pub mod Reached
 pub mod Linking
 pub mod Lending
 pub mod Taping
-pub mod Standing
-pub mod Handing
-pub mod Offering
 pub mod Passing
 pub mod Waiting
 pub mod Coded
-pub mod OneEnd

@@ -1,20 +1,16 @@
 -- Parts of a turn of both ends.
-use Rattle.line_world.proofs.Cited.{◌≡◌, ℕ, ◌+◌, Bool, true, false, is_ok, List, length, arith, Option, Result, Ok, Err, option_map}
-use Rattle.line_world.proofs.Cited.{Arrived, Sent, breaks_of, busy_of, HearsOn, Stands, HearsAs, SpeaksAs, ReadsOn, IsCounted, Station}
-use Rattle.line_world.proofs.Cited.{Account, after_busy, hear, Said, asked, asked_at, is_busy, ScriptValue, octets-kept, FolderState}
-use Rattle.line_world.proofs.Cited.{OnlyReads, LinkFault, Role}
+use Rattle.line_world.proofs.Cited.{◌≡◌, ℕ, Bool, true, false, is_ok, List, length, arith, Option, Result, Ok, option_map, Arrived, Sent}
+use Rattle.line_world.proofs.Cited.{breaks_of, busy_of, HearsOn, Account, after_busy, hear, Said, asked, asked_at, is_busy, ScriptValue}
+use Rattle.line_world.proofs.Cited.{octets-kept, FolderState, OnlyReads, LinkFault, Role, Stands, HearsAs, SpeaksAs, ReadsOn, Station}
 use Rattle.std.proofs.Common.{slice_get}
 use Rattle.noise_script.specs.Script.{break_of}
 use Rattle.noise_script.specs.Script as script
 use Rattle.line_run.specs.Scripted.{BreaksAreTheScripts, PausesAreTheScripts}
-use Rattle.line_world.specs.Station.{break_line_of}
+use Rattle.stations.specs.Station.{break_line_of}
 
 pub heard-well : (s : Station) (file : List ℕ) (a : Account) (turn : ℕ) (arrived : Arrived) → is_ok (hear turn arrived a) ≡ true
     → HearsAs (hear turn arrived a) file s (Ok tt) → HearsOn s file a turn arrived
 heard-well s file a turn arrived well h = grind (arith)
-
-pub counted-later : (s : Station) (heard asked : ℕ) → IsCounted s heard asked → IsCounted s heard (asked + 1)
-counted-later s heard asked h = record { segments = omega (arith, h.segments); breaks = omega (arith, h.breaks) }
 
 -- The next break of the script is the next one of the user's.
 pub next-is : BreaksAreTheScripts → (value : ScriptValue) (role : Role) (index taken : ℕ) (next : Option (ℕ × ℕ))
@@ -35,11 +31,6 @@ pub asks-none : PausesAreTheScripts → (value : ScriptValue) (role : Role) (tur
     → busy ≡ script.is_busy value role turn → released ≡ true
     → after_busy busy a ≡ asked turn released (breaks_of value role) (after_busy (is_busy turn (busy_of value role)) a)
 asks-none pauses value role turn released busy a b r = grind (arith)
-
--- An end that breaks as it is to speak does so by its rules;
-pub broken-so : (r : Result Said LinkFault) (file : List ℕ) (sent : Sent) (s : Station) (fault : LinkFault)
-    → SpeaksAs r file sent s (Err fault) → r ≡ Err fault
-broken-so q0 file sent s fault h = grind (arith)
 
 -- What an end says by its rules, as the station sends it.
 pub record Says (r : Result Said LinkFault) (file : List ℕ) (sent : Sent) (s : Station) : Type 0 where

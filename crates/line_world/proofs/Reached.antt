@@ -1,17 +1,16 @@
 -- Where the turns of a run have come.
 use Rattle.line_world.proofs.Cited.{◌≡◌, inl, inr, ℕ, ◌+◌, ◌-◌, ◌≤◌, ◌<◌, ◌^◌, List, [], ◌∷◌, ◌++◌, length, take, refl, sym, ◌∙◌, ap, subst}
 use Rattle.line_world.proofs.Cited.{arith, length-take, concat-append, concat, hearing-in, Written, inputs_of, outputs_of, Tapes, tapes_of}
-use Rattle.line_world.proofs.Cited.{LineRun, wire_of, link_of, both_sent_by, RunFault, chance_line, octets_of, file_at, HoldTapes}
-use Rattle.line_world.proofs.Cited.{HoldTapesPartly, added, GoesOnBy, EndsInTurn, StopsReading, Stops, IsWriting, KnowsFiles, WorldAfter}
-use Rattle.line_world.proofs.Cited.{script_of, turn_of, World, deliveries, Outcome, Done, Accounts, Turn, LastTurn, start, Hears, turn_text}
+use Rattle.line_world.proofs.Cited.{LineRun, wire_of, link_of, both_sent_by, RunFault, chance_line, octets_of, HoldTapes, HoldTapesPartly}
+use Rattle.line_world.proofs.Cited.{added, GoesOnBy, EndsInTurn, StopsReading, Stops, IsWriting, KnowsFiles, WorldAfter, script_of, turn_of}
+use Rattle.line_world.proofs.Cited.{World, deliveries, Outcome, Done, Going, Broken, Accounts, Turn, LastTurn, start, Hears, turn_text}
 use Rattle.line_world.proofs.Cited.{ScriptValue, Holds-kept, Holds-more, HoldsPart-more, OnlyPuts-refl, OnlyPuts-trans, inputs-kept}
 use Rattle.line_world.proofs.Cited.{CountsStand-refl, CountsStand-trans, FolderState, octets_at, GoesOn, KeepsName, CountsStand}
-use Rattle.line_world.proofs.Cited.{AreApartFrom, Holds, KeepsEach, OnlyPuts, AddEach, Both, of, Role, Originator, Answerer}
+use Rattle.line_world.proofs.Cited.{AreApartFrom, Holds, KeepsEach, OnlyPuts, AddEach, Both, of, Role, Originator, Answerer, file_at}
 use Rattle.std.proofs.lemmas.List.{append-nil}
 use Rattle.shared_terms.specs.declared.fault.LinkFault.TheVariants as causes
 use Rattle.link_run.specs.Counts.{numbers_sent, repeated, segment_number, sent_again}
 use Rattle.link_run.specs.Run.{Link, RunOf}
-use Rattle.link_run.specs.Outcomes.{Going, Broken}
 use Rattle.link_run.specs.Laws.{HearingsDeliver, SpeakingTakesNothing}
 use Rattle.link_run.specs.Trace.{trace_text}
 use Rattle.line_run.specs.Ends.{RunEnd, Left, EndsBy}

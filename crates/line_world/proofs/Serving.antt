@@ -1,9 +1,9 @@
 -- What happens to both ends between hearing and speaking.
 use Rattle.line_world.proofs.Cited.{arith, ◌≡◌, ℕ, zero, suc, List, length, refl, ◌∙◌, Option, None, Err, Heard, Written, inputs_of}
-use Rattle.line_world.proofs.Cited.{outputs_of, Wire, link_of, RunFault, fault_of, Overhears, ReadsBoth, served, turn_in, IsWriting}
-use Rattle.line_world.proofs.Cited.{Account, after_given, given_break, wants, delivered, offered_at, SameSoFar, Accounts, Spoken, Turn}
-use Rattle.line_world.proofs.Cited.{Hears, ScriptValue, IsInLimits, FolderState, FaultsStand, HasCause, FolderFault, Both, of, Role}
-use Rattle.line_world.proofs.Cited.{Originator, Answerer, IsAllowed}
+use Rattle.line_world.proofs.Cited.{outputs_of, Wire, link_of, RunFault, Overhears, ReadsBoth, served, turn_in, handed, IsWriting}
+use Rattle.line_world.proofs.Cited.{IsReading, FaultCounts, Account, after_given, wants, delivered, offered_at, SameSoFar, Accounts, Spoken}
+use Rattle.line_world.proofs.Cited.{Turn, Hears, ScriptValue, IsInLimits, FolderState, FaultsStand, HasCause, FolderFault, Both, of, Role}
+use Rattle.line_world.proofs.Cited.{Originator, Answerer, fault_of, IsAllowed}
 use Rattle.std.proofs.Common.{IsErrOf}
 use Rattle.outside_calls.specs.declared.folder.FolderFault.TheVariants.{NoMemory}
 use Rattle.link_run.specs.End.{offered_times}
@@ -12,12 +12,6 @@ use Rattle.link_run.specs.Reading.{RunsByWhatIsReadOn}
 use Rattle.outside_calls.specs.Outputs.{SomeCause}
 use Rattle.line_run.specs.declared.fault.RunFault.TheVariants.{ReadFault, WriteFault}
 use Rattle.line_run.specs.declared.fault.RunFault.TheVariants as faults
-use Rattle.line_world.specs.Turn.{IsReading, FaultCounts}
-use Rattle.line_world.specs.Mid.{handed}
-
--- handing segments over hands no break over
-pub given-delivered : (a : Account) → given_break (delivered a) ≡ given_break a
-given-delivered a = grind (arith)
 
 pub hears-in : (c : Wire) (files : Both (List ℕ)) (ts : List Turn) (ends mid : Accounts) (heard : Both Heard) (sent : Both (Option Spoken))
     → Overhears c files ts ends heard mid → Hears (length ts) ends (turn_in heard ends mid sent) mid

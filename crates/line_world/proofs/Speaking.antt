@@ -3,10 +3,10 @@ use Rattle.line_world.proofs.Cited.{◌≡◌, ◌≢◌, ℕ, ◌+◌, true, Li
 use Rattle.line_world.proofs.Cited.{option_map, Check, IsSendable, Heard, Chance, Sent, SamplesAreCarried, OneIsCarried, Written, Wire}
 use Rattle.line_world.proofs.Cited.{HeardIn, link_of, longest_of, slot_symbols, ScriptsMayPlay, ScriptsHaveDelays, Carried, RunFault}
 use Rattle.line_world.proofs.Cited.{LinesWait, HaveArrived, ArePut, and_more, LinkStands, HearsThese, Overhears, TalliesHeard, HasGone}
-use Rattle.line_world.proofs.Cited.{AddsPart, SpeaksLast, served, turn_in, Tallies, IsWriting, Lines, Modems, Counts, given_break, check_of}
-use Rattle.line_world.proofs.Cited.{Said, is_closed, Outcome, TurnIs, Accounts, Spoken, Turn, LastTurn, spoken, turn_text, IsInLimits}
-use Rattle.line_world.proofs.Cited.{ScriptValue, delay_of, FolderState, Appended, PartlyAppended, CountsStand, Both, of, LinkFault, Role}
-use Rattle.line_world.proofs.Cited.{Originator, Answerer}
+use Rattle.line_world.proofs.Cited.{AddsPart, SpeaksLast, served, turn_in, Tallies, IsWriting, FaultCounts, Lines, Modems, Counts}
+use Rattle.line_world.proofs.Cited.{given_break, check_of, Said, is_closed, Outcome, TurnIs, Accounts, Spoken, Turn, LastTurn, spoken}
+use Rattle.line_world.proofs.Cited.{turn_text, IsInLimits, ScriptValue, delay_of, FolderState, Appended, PartlyAppended, CountsStand, Both}
+use Rattle.line_world.proofs.Cited.{of, LinkFault, Role, Originator, Answerer}
 use Rattle.sample_line.specs.Signals.{IsCodable}
 use Rattle.shared_terms.specs.declared.fault.LinkFault.TheVariants as faults
 use Rattle.link_run.specs.Run.{GoingTurn, BrokenTurn, IsBroken, BreaksAt, SpeaksAt, says_at}
@@ -17,8 +17,7 @@ use Rattle.line_run.specs.Scripted.{SlotsAreCodable}
 use Rattle.line_world.specs.declared.link.Link.{Link}
 use Rattle.line_world.specs.Link.{SaysBoth}
 use Rattle.line_world.specs.Lines.{AreCodable}
-use Rattle.line_world.specs.Texts.{lines_of}
-use Rattle.line_world.specs.Turn.{FaultCounts}
+use Rattle.stations.specs.Texts.{lines_of}
 use Rattle.line_world.specs.Modems.{IsWireOf}
 use Rattle.line_world.specs.Mid.{IsToSpeak}
 use Rattle.line_world.proofs.Hearing.{heard-in, none-sent, runs-over}

@@ -1,7 +1,7 @@
 -- What tapes hold, as turns are recorded and as others are written.
 use Rattle.line_world.proofs.Cited.{arith, ◌≡◌, ◌∙◌, ℕ, ◌+◌, ◌<◌, Bool, List, [], ◌∷◌, ◌++◌, length, take, Option, Some, Result, refl, sym}
 use Rattle.line_world.proofs.Cited.{ap, subst, append-nil, append_assoc, take_more, line_bits, BitSlot, low_bits, Tapes, tapes_of, Wire}
-use Rattle.line_world.proofs.Cited.{wire_of, RunFault, HoldTapes, RecordsBits, KeepTapes, tape_names, HasSent, Turn, ScriptValue}
+use Rattle.line_world.proofs.Cited.{bits_of, wire_of, RunFault, HoldTapes, RecordsBits, KeepTapes, tape_names, HasSent, Turn, ScriptValue}
 use Rattle.line_world.proofs.Cited.{HoldsPart-more, FolderState, GoesOn, KeepsName, OnlyWrites, Appended, PartlyAppended, Holds, KeepsEach}
 use Rattle.line_world.proofs.Cited.{mode_of, Mode, Both, Role, Originator, Answerer, Sample}
 use Rattle.std.proofs.Common.{slice_index_or}
@@ -10,7 +10,6 @@ use Rattle.line_coding.specs.declared.modulator.Modulator.{Modulator}
 use Rattle.line_coding.specs.Modulates.{ModulatorStands}
 use Rattle.recordings.specs.Recording.{header_of, sample_octets}
 use Rattle.recordings.proofs.Octets.{sample-more}
-use Rattle.line_run.specs.Sampled.{bits_of}
 use Rattle.line_run.specs.Recorded.{IsRecorded}
 use Rattle.line_run.proofs.Bits.{bits-more}
 use Rattle.line_world.specs.Tapes.{HoldsTape, HoldsTapePart}

@@ -3,18 +3,17 @@ use Rattle.line_world.proofs.Cited.{arith, ◌≡◌, inl, inr, ℕ, ◌+◌, �
 use Rattle.line_world.proofs.Cited.{Heard, hearing-in, SamplesAreCarried, OneIsCarried, Written, outputs_of, received_of, Wire, HeardIn}
 use Rattle.line_world.proofs.Cited.{IsHeardOf, link_of, ScriptsMayPlay, ScriptsHaveDelays, Carried, RunFault, HaveArrived, AreCounted}
 use Rattle.line_world.proofs.Cited.{AreIdle, AreWithin, octets_of, Overhears, HasGone, HearsThese, AddsPart, SpeaksLast, turn_in, AreKept}
-use Rattle.line_world.proofs.Cited.{Stops, StopsReading, EndsInTurn, GoesOnBy, IsWriting, added, StayKnown, Lines, Modems, Step, Counts}
-use Rattle.line_world.proofs.Cited.{check_of, lost_in, Outcome, TurnIs, Accounts, Turn, Hears, turn_text, IsInLimits, AddEach-next}
-use Rattle.line_world.proofs.Cited.{AddPart-next, AddPart-none, AddPart-longer, FolderState, OnlyWrites, OnlyPuts, AddEach, Both, of, other}
-use Rattle.line_world.proofs.Cited.{LinkFault, Role, Originator, Answerer}
+use Rattle.line_world.proofs.Cited.{Stops, StopsReading, EndsInTurn, GoesOnBy, IsWriting, added, IsReading, StayKnown, Lines, Modems, Step}
+use Rattle.line_world.proofs.Cited.{Counts, check_of, lost_in, Outcome, TurnIs, Broken, Accounts, Turn, Hears, turn_text, IsInLimits}
+use Rattle.line_world.proofs.Cited.{AddEach-next, AddPart-next, AddPart-none, AddPart-longer, FolderState, OnlyWrites, OnlyPuts, AddEach}
+use Rattle.line_world.proofs.Cited.{Both, of, other, LinkFault, Role, Originator, Answerer}
 use Rattle.outside_calls.specs.Outputs.{AddPart}
 use Rattle.shared_terms.specs.declared.fault.LinkFault.TheVariants as faults
 use Rattle.link_run.specs.Laws.{EachTurnIsMade, MakesTurn as MakesAny}
-use Rattle.link_run.specs.Outcomes.{Broken}
 use Rattle.line_run.specs.declared.fault.RunFault.TheVariants as run_faults
 use Rattle.line_world.specs.declared.step.Step.TheVariants as steps
 use Rattle.line_world.specs.Tally.{IsFew}
-use Rattle.line_world.specs.Turn.{SendsNone, MakesTurn, EndsBy, IsReading}
+use Rattle.line_world.specs.Turn.{SendsNone, MakesTurn, EndsBy}
 use Rattle.line_world.specs.Mid.{InTurn, SameBeside, AddsLines}
 use Rattle.link_run.specs.Counts.{lost_slots}
 use Rattle.line_world.proofs.Speaking.{hears-these}

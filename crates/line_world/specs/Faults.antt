@@ -1,7 +1,5 @@
--- Why there is no further turn: which fault it is that a folder fails, or an end breaks.
+-- Why there is no further turn: how the line ends a run, and which fault it is that an end breaks.
 use Rattle.std.specs.Prelude.{ℕ}
-use Rattle.outside_calls.specs.declared.folder.FolderFault.{FolderFault}
-use Rattle.outside_calls.specs.declared.folder.FolderFault.TheVariants as folder
 use Rattle.shared_terms.specs.declared.role.Role.{Role}
 use Rattle.shared_terms.specs.declared.fault.LinkFault.{LinkFault}
 use Rattle.shared_terms.specs.declared.fault.LinkFault.TheVariants as link
@@ -21,9 +19,3 @@ abbrev pub fault_named : ℕ → Role → LinkFault → RunFault
 fault_named turn role link.NotDetected = faults.NotDetected turn
 fault_named turn role (link.Spent segment since) = faults.LinkLost role segment turn
 fault_named turn role fault = faults.NoMemory
-
--- why there is no further turn where a call of the folder is not done: the first of these where it failed, the second where it had no
--- memory
-abbrev pub fault_of : {T : Type 0} → T → T → FolderFault → T
-fault_of failed no_memory folder.Failed = failed
-fault_of failed no_memory folder.NoMemory = no_memory

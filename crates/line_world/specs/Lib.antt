@@ -3,14 +3,11 @@ pub mod Faults
 pub mod Tally
 pub mod Modems
 pub mod World
-pub mod Texts
 pub mod Turn
 pub mod Mid
 pub mod Turns
 pub mod Link
 pub mod Tapes
 pub mod Taping
-pub mod Station
 pub mod Way
 pub mod Lines
-pub mod OneEnd

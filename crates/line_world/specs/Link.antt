@@ -15,8 +15,8 @@ use Rattle.link_run.specs.End.{deliveries, offered, asked, is_busy, is_released}
 use Rattle.link_run.specs.Run.{Link as RunLink, Accounts, says_at, BreaksAt}
 use Rattle.line_run.specs.Scripted.{breaks_of, busy_of}
 use Rattle.turn_bound.specs.Limits.{file_limit}
-use Rattle.line_world.specs.declared.station.Station.{Station}
-use Rattle.line_world.specs.Station.{Stands, ReadsOn, IsIdle, IsCounted}
+use Rattle.stations.specs.declared.station.Station.{Station}
+use Rattle.stations.specs.Station.{Stands, ReadsOn, IsIdle, IsCounted}
 use Rattle.line_world.specs.declared.link.Link.{Link}
 use Rattle.line_world.specs.declared.link.Breaking.{Breaking}
 use Rattle.line_run.specs.Names.{Written}

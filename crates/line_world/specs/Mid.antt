@@ -21,7 +21,7 @@ use Rattle.line_run.specs.Ends.{ByEnd}
 use Rattle.line_run.specs.Scripted.{link_of}
 use Rattle.line_world.specs.declared.directions.LineEnd.{LineEnd}
 use Rattle.turn_bound.specs.Limits.{file_limit}
-use Rattle.line_world.specs.Station.{ReadsOn}
+use Rattle.stations.specs.Station.{ReadsOn}
 use Rattle.line_run.specs.Names.{Written, outputs_of}
 use Rattle.line_world.specs.Link.{LinkStands, both_ends, octets_of, served_on}
 use Rattle.line_run.specs.Stream.{Carried, and_sent}

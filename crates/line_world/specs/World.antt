@@ -13,7 +13,7 @@ use Rattle.line_run.specs.Sampled.{signals}
 use Rattle.line_run.specs.Scripted.{wire_of}
 use Rattle.line_run.specs.Stream.{sent_by, both_sent_by}
 use Rattle.turn_bound.specs.Limits.{file_limit}
-use Rattle.line_world.specs.Station.{file_at}
+use Rattle.stations.specs.Station.{file_at}
 use Rattle.line_world.specs.Way.{Carries}
 use Rattle.line_world.specs.Lines.{LinesWait}
 use Rattle.line_world.specs.declared.lines.Lines.{Lines}

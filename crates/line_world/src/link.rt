@@ -14,12 +14,11 @@ ghost use Rattle.link_account.specs.Account.{Account, fresh, after_given, after_
 ghost use Rattle.link_run.specs.End.{delivered, asked, is_busy, is_closed, is_released, has_finished};
 ghost use Rattle.link_run.specs.Run.{Accounts, arrival, both_finished, start};
 ghost use Rattle.line_run.specs.Scripted.{setup_of, breaks_of, busy_of, party_of, link_of};
-ghost use Rattle.line_world.specs.Station.{Stands, IsIdle, IsCounted};
+ghost use Rattle.stations.specs.Station.{Stands, IsIdle, IsCounted};
 ghost use Rattle.line_run.specs.Names.{inputs_of, outputs_of, written};
 ghost use Rattle.line_world.specs.Link.{HearsOn};
 ghost use Rattle.link_account.specs.Hear.{hear};
 
-use crate::Station;
 use frame_check::Check;
 use lapm_frames::Heard;
 use lapm_link::{LinkFault, Phase, Sent, Setup};
@@ -28,6 +27,7 @@ use line_run::laws::scripts_make_links;
 use noise_script::Script;
 use outside_calls::{Folder, FolderFault};
 use shared_terms::{Both, NoMemory, RUN_FILE_LIMIT, Role};
+use stations::Station;
 use std::alloc::Global;
 
 /// Two stations.

@@ -20,7 +20,6 @@ ghost use Rattle.outside_calls.specs.Outputs.{AddPart, AreApartFrom, OnlyPuts};
 ghost use Rattle.link_account.specs.Account.{check_of, given_break};
 ghost use Rattle.noise_script.specs.Script.{IsInLimits};
 
-use crate::fault::folder_fault;
 use crate::step::Step;
 use crate::tally::Counts;
 use crate::turn_text::{link_fault, write_chance, write_turn};
@@ -38,6 +37,7 @@ use noise_script::Script;
 use outside_calls::Folder;
 use sample_line::Heard;
 use shared_terms::{Both, NoMemory, Role};
+use stations::folder_fault;
 use std::alloc::Global;
 
 /// Two ends of a link with their users, as a turn takes them.

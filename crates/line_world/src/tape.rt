@@ -16,7 +16,6 @@ ghost use Rattle.line_world.specs.Taping.{RecordsBits, TapeStands, KeepsTape, Ta
 ghost use Rattle.line_world.specs.Turn.{CountsOver, IsWriting};
 
 use crate::World;
-use crate::fault::folder_fault;
 use bit_stuffing::BitSlot;
 use frame_check::Octets;
 use line_coding::Modulator;
@@ -25,6 +24,7 @@ use outside_calls::Folder;
 use recordings::octets_of;
 use sample_line::mode_of;
 use shared_terms::{Both, Role};
+use stations::folder_fault;
 
 /// The octets of the samples of the largest slot: four for each of its symbols.
 const RECORDED_SLOT: usize = 10_460;

@@ -4,18 +4,18 @@ ghost use Rattle.std.specs.Option.{option_map};
 ghost use Rattle.outside_calls.specs.Folder.{Appended, OnlyWrites, PartlyAppended};
 ghost use Rattle.line_texts.specs.LineText.{chance_line};
 ghost use Rattle.line_run.specs.Names.{written};
-ghost use Rattle.line_world.specs.Texts.{lines_of};
+ghost use Rattle.stations.specs.Texts.{lines_of};
 ghost use Rattle.line_world.specs.Turn.{IsWriting, TurnCounts};
 ghost use Rattle.line_world.specs.Faults.{fault_named};
 ghost use Rattle.link_run.specs.Laws.{IsNamed};
 
-use crate::fault::folder_fault;
-use crate::{Breaking, Names, append_chance, append_turn};
+use crate::{Breaking, Names};
 use lapm_frames::{Heard, Sent};
 use lapm_link::LinkFault;
 use line_run::RunFault;
 use outside_calls::Folder;
 use shared_terms::{Both, Role};
+use stations::{append_chance, append_turn, folder_fault};
 
 /// Appends both lines of a turn, in which both ends send or neither does, to the trace.
 pub(crate) fn write_turn<F: Folder>(

@@ -5,7 +5,7 @@ use Rattle.link_pair.proofs.Names.{OnlyPuts, Both}
 use Rattle.outside_calls.proofs.OnlyOutputs.{told_earlier}
 use Rattle.outside_calls.proofs.Steps.{octets-kept}
 use Rattle.turn_bound.specs.Limits.{file_limit}
-use Rattle.line_world.specs.Station.{file_at}
+use Rattle.stations.specs.Station.{file_at}
 use Rattle.line_run.specs.Names.{inputs_of}
 
 -- no output is another one, nor an input

@@ -5,7 +5,7 @@ use Rattle.std.proofs.Common.{IsTrue}
 use Rattle.outside_calls.specs.Folder.{GoesOn, KeepsName, Appended, Adds}
 use Rattle.outside_calls.specs.Outputs.{Holds}
 use Rattle.outside_calls.proofs.Holding.{Holds-kept, Holds-more, Holds-add}
-use Rattle.line_world.specs.Station.{file_at}
+use Rattle.stations.specs.Station.{file_at}
 use Rattle.program_folders.specs.Audited.{swallowed}
 use Rattle.program_folders.proofs.Passed.{told-inside, told-outside, octets-inside, trace-told, trace-held}
 

@@ -14,9 +14,10 @@ use command_base::Stop;
 use frame_check::Octets;
 use line_run::RunFault;
 use line_world::laws::turns_are_few;
-use line_world::{Names, Step, TURN_TEXT, World};
+use line_world::{Names, Step, World};
 use outside_calls::{Folder, FolderFault};
 use program_folders::AuditFolder;
+use stations::TURN_TEXT;
 
 /// A turn that was made.
 #[derive(Drop)]

@@ -4,8 +4,8 @@ use Rattle.run_commands.proofs.Names.{Past, PeerTurn, Outcome, Going, Closed, Br
 use Rattle.run_commands.proofs.Names.{GivesUp, MakesTurn, RunsTo, left_after, slot_at, slots_before, other, Role}
 use Rattle.link_account.specs.Account.{Account}
 use Rattle.link_run.specs.Alone.{LoneRun}
-use Rattle.line_world.specs.OneEnd.Peer.{HearsSlots}
-use Rattle.line_world.specs.OneEnd.Laws.{OnePeerRun, OnePeerTurn}
+use Rattle.stations.specs.OneEnd.Peer.{HearsSlots}
+use Rattle.stations.specs.OneEnd.Laws.{OnePeerRun, OnePeerTurn}
 use Rattle.run_commands.specs.Peering.Runs.{Left, HearsAll, IsPast}
 
 pub record RunLaws : Type 0 where

@@ -12,11 +12,11 @@ use Rattle.run_commands.proofs.Names.{turn_names, LinkFault, FILE_LIMIT, Role}
 use Rattle.std.proofs.Common.{append-nil}
 use Rattle.std.proofs.lemmas.Bool.{false≢true}
 use Rattle.outside_calls.specs.declared.folder.FolderFault.TheVariants as folder
-use Rattle.line_world.specs.declared.one_end.step.SingleFault.{SingleFault}
-use Rattle.line_world.specs.declared.one_end.step.SingleFault.TheVariants as faults
-use Rattle.line_world.specs.OneEnd.Peer.{turn_line}
-use Rattle.line_world.specs.OneEnd.Single.{KnowsFile}
-use Rattle.line_world.specs.OneEnd.Turn.{Stops, added, StopsInReading as TurnStopsInReading, EndsBy as TurnEndsBy, FaultCounts}
+use Rattle.stations.specs.declared.one_end.step.SingleFault.{SingleFault}
+use Rattle.stations.specs.declared.one_end.step.SingleFault.TheVariants as faults
+use Rattle.stations.specs.OneEnd.Peer.{turn_line}
+use Rattle.stations.specs.OneEnd.Single.{KnowsFile}
+use Rattle.stations.specs.OneEnd.Turn.{Stops, added, StopsInReading as TurnStopsInReading, EndsBy as TurnEndsBy, FaultCounts}
 use Rattle.command_base.specs.Stops.{IsOwn}
 use Rattle.outside_calls.proofs.Putting.{HoldEach-add, HoldPart-add}
 use Rattle.command_base.proofs.Reading.{ReadTo-begins}

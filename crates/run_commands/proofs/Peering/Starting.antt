@@ -7,9 +7,9 @@ use Rattle.run_commands.proofs.Names.{CreatesPart, Creates, AreNoneOf, OnlyOutpu
 use Rattle.run_commands.proofs.Names.{inputs_of, outputs_of, FILE_LIMIT, Role}
 use Rattle.std.proofs.lemmas.List.{length-take}
 use Rattle.link_account.specs.Account.{fresh}
-use Rattle.line_world.specs.Station.{file_at}
-use Rattle.line_world.specs.OneEnd.Peer.{setup_of}
-use Rattle.line_world.specs.OneEnd.Turn.{GoesOnBy}
+use Rattle.stations.specs.Station.{file_at}
+use Rattle.stations.specs.OneEnd.Peer.{setup_of}
+use Rattle.stations.specs.OneEnd.Turn.{GoesOnBy}
 use Rattle.command_base.specs.Inputs.{IsNotWithin}
 use Rattle.outside_calls.specs.Outputs.{IsNoneOf}
 use Rattle.command_base.proofs.Reading.{ReadTo-none, longer-earlier}

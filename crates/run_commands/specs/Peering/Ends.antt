@@ -17,7 +17,7 @@ use Rattle.command_base.specs.Lines.{done_line}
 use Rattle.command_base.specs.Stops.{ReadFails}
 use Rattle.outside_calls.specs.Outputs.{KeepsAll, CreatesPart, SaysNothing}
 use Rattle.outside_calls.specs.Outputs.{HoldEach, HoldPart, joined}
-use Rattle.line_world.specs.OneEnd.Peer.{Past, Outcome, turn_line}
+use Rattle.stations.specs.OneEnd.Peer.{Past, Outcome, turn_line}
 use Rattle.run_commands.specs.Peering.Words.{Names, inputs_of, outputs_of}
 use Rattle.run_commands.specs.Peering.Runs.{Left, PeerEnd, IsDone, GivesUp, IsPast, MakesTurn, RunsTo, left_of}
 

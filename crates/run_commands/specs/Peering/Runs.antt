@@ -4,8 +4,8 @@ use Rattle.std.specs.List.{concat}
 use Rattle.shared_terms.specs.declared.role.Role.{Role}
 use Rattle.shared_terms.specs.declared.fault.LinkFault.{LinkFault}
 use Rattle.link_run.specs.Alone.{LoneTurn}
-use Rattle.line_world.specs.OneEnd.Heard.{slot_octets}
-use Rattle.line_world.specs.OneEnd.Peer.{Past, PeerRun, PeerTurn, Outcome, Closed, Broken, trace_of, turn_line}
+use Rattle.stations.specs.OneEnd.Heard.{slot_octets}
+use Rattle.stations.specs.OneEnd.Peer.{Past, PeerRun, PeerTurn, Outcome, Closed, Broken, trace_of, turn_line}
 
 -- the slot of that number: 232 octets of the peer's bits, fewer at their end
 abbrev pub slot_at : List ℕ → ℕ → List ℕ

@@ -7,12 +7,12 @@ use Rattle.shared_terms.specs.declared.limits.TheConstants.{FILE_LIMIT}
 use Rattle.command_base.specs.declared.stop.Stop.{Stop}
 use Rattle.command_base.specs.declared.stop.Stop.TheVariants.{Own, Read, Write}
 use Rattle.command_base.specs.Inputs.{IsWithin, ReadTo}
-use Rattle.line_world.specs.declared.one_end.single.Single.{Single}
-use Rattle.line_world.specs.declared.one_end.step.SingleFault.{SingleFault}
-use Rattle.line_world.specs.declared.one_end.step.SingleFault.TheVariants as faults
-use Rattle.line_world.specs.OneEnd.Heard.{slot_octets}
-use Rattle.line_world.specs.OneEnd.Peer.{Past}
-use Rattle.line_world.specs.OneEnd.Single.{KnowsFile, SingleAfter, role_of}
+use Rattle.stations.specs.declared.one_end.single.Single.{Single}
+use Rattle.stations.specs.declared.one_end.step.SingleFault.{SingleFault}
+use Rattle.stations.specs.declared.one_end.step.SingleFault.TheVariants as faults
+use Rattle.stations.specs.OneEnd.Heard.{slot_octets}
+use Rattle.stations.specs.OneEnd.Peer.{Past}
+use Rattle.stations.specs.OneEnd.Single.{KnowsFile, SingleAfter, role_of}
 use Rattle.run_commands.specs.Peering.Words.{Names}
 use Rattle.run_commands.specs.Peering.Runs.{left_of, slots_before}
 use Rattle.run_commands.specs.Peering.Ends.{HoldLeft, status_of}

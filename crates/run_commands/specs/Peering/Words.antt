@@ -4,7 +4,7 @@ use Rattle.std.specs.Option.{option_map}
 use Rattle.shared_terms.specs.declared.role.Role.{Role}
 use Rattle.shared_terms.specs.Role.{role_named}
 use Rattle.command_base.specs.Apart.{are_apart}
-use Rattle.line_world.specs.OneEnd.Single.{PeerNames}
+use Rattle.stations.specs.OneEnd.Single.{PeerNames}
 use Rattle.run_commands.specs.declared.peer.words.PeerWords.{PeerWords}
 
 -- the end's role and the names

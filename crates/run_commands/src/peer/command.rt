@@ -7,8 +7,8 @@ ghost use Rattle.outside_calls.specs.Outputs.{OnlyPuts};
 ghost use Rattle.command_base.specs.Stops.{EndCounts};
 ghost use Rattle.command_base.specs.Apart.{are_apart};
 ghost use Rattle.link_account.specs.Account.{fresh};
-ghost use Rattle.line_world.specs.OneEnd.Peer.{setup_of};
-ghost use Rattle.line_world.specs.OneEnd.Single.{IsReady, SingleAfter, role_of, turn_of};
+ghost use Rattle.stations.specs.OneEnd.Peer.{setup_of};
+ghost use Rattle.stations.specs.OneEnd.Single.{IsReady, SingleAfter, role_of, turn_of};
 ghost use Rattle.run_commands.specs.Peering.Words.{named, inputs_of, outputs_of};
 ghost use Rattle.run_commands.specs.Peering.Ends.{Ends, peer_job};
 ghost use Rattle.run_commands.specs.Peering.Turns.{IsBegun};
@@ -21,9 +21,9 @@ use crate::peer::words::PeerWords;
 use command_base::{
     Status, Stop, apart_names_differ, create_outputs, done_line, tell, tell_stop, within_limit,
 };
-use line_world::one_end::Single;
 use outside_calls::Folder;
 use shared_terms::FILE_LIMIT;
+use stations::Single;
 use std::alloc::Global;
 
 /// The places of the inputs' names among the words.

@@ -2,7 +2,7 @@
 //! contract.
 ghost use Rattle.run_commands.specs.Peering.Laws.{OneResult};
 
-use line_world::one_end::laws::one_peer_run;
+use stations::one_end::laws::one_peer_run;
 
 /// A role, a file and octets have one result at most: how the run ends, and what it leaves.
 pub fn one_result()

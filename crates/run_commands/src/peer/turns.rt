@@ -5,8 +5,8 @@ ghost use Rattle.shared_terms.specs.declared.limits.TheConstants.{FILE_LIMIT};
 ghost use Rattle.outside_calls.specs.Outputs.{OnlyPuts};
 ghost use Rattle.command_base.specs.Stops.{EndCounts};
 ghost use Rattle.command_base.specs.Apart.{are_apart};
-ghost use Rattle.line_world.specs.OneEnd.Heard.{slot_octets};
-ghost use Rattle.line_world.specs.OneEnd.Single.{IsReady, turn_of};
+ghost use Rattle.stations.specs.OneEnd.Heard.{slot_octets};
+ghost use Rattle.stations.specs.OneEnd.Single.{IsReady, turn_of};
 ghost use Rattle.run_commands.specs.Peering.Words.{named, inputs_of, outputs_of};
 ghost use Rattle.run_commands.specs.Peering.Ends.{Ends, EndsBy, RanTo};
 ghost use Rattle.run_commands.specs.Peering.Runs.{IsDone};
@@ -14,10 +14,10 @@ ghost use Rattle.run_commands.specs.Peering.Turns.{Reached, fault_stop};
 
 use crate::peer::words::PeerWords;
 use command_base::{LinkFault, Status, Stop, apart_names_differ, read_piece};
-use line_world::one_end::{SLOT_OCTETS, Single, SingleFault, SingleStep};
 use link_run::laws::lone_turns_deliver_what_came;
 use outside_calls::{Folder, FolderFault};
 use shared_terms::{FILE_LIMIT, Role};
+use stations::{SLOT_OCTETS, Single, SingleFault, SingleStep};
 
 /// The answer of an end that gives its link up in this turn.
 fn status_of(role: Role, fault: LinkFault, turn: u64) -> Status

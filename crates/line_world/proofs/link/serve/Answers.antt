@@ -1,5 +1,6 @@
-use Rattle.line_world.proofs.Cited.{◌+◌, subst, Stands, Account, after_busy}
-use Rattle.line_world.proofs.Linking.{asks-so, asks-none, counted-later}
+use Rattle.line_world.proofs.Cited.{◌+◌, subst, Account, after_busy, Stands}
+use Rattle.stations.proofs.Standing.{counted-later}
+use Rattle.line_world.proofs.Linking.{asks-so, asks-none}
 use Rattle.line_world.proofs.link.serve.Goals as goal
 
 pub ask-requires-clause-counted : goal.ask-requires-clause-counted

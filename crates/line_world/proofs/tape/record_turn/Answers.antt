@@ -1,4 +1,4 @@
-use Rattle.line_world.proofs.Cited.{[], subst, sym, wire_of, KeepTapes, tape_names, script_of, FolderState, OnlyPuts, tapes_of}
+use Rattle.line_world.proofs.Cited.{[], subst, sym, tapes_of, wire_of, KeepTapes, tape_names, script_of, FolderState, OnlyPuts}
 use Rattle.line_world.specs.Turn.{CountsOver}
 use Rattle.line_world.proofs.tape.record_turn.Goals as goal
 

@@ -1,12 +1,12 @@
 use Rattle.line_tap.proofs.Cited.{refl, sym, ◌∙◌, ap, subst, Taking, StandsIn, delivered, EndListener, CountsStand-refl, CountsStand-trans}
 use Rattle.line_tap.proofs.Cited.{FolderState, Appended, PartlyAppended}
 use Rattle.outside_calls.proofs.Steps.{FaultsStand-trans}
-use Rattle.line_world.proofs.Handing.{writes-on, writes-none}
+use Rattle.stations.proofs.Handing.{writes-on, writes-none}
 use Rattle.line_tap.proofs.Causes.{cause-earlier}
 use Rattle.line_tap.proofs.Listening.{listens-on, idle-again}
 use Rattle.line_tap.proofs.Handing.{fewer-ready, handing-starts, next-is, handing-next, handing-ends, handing-stops}
 use Rattle.line_tap.proofs.listener.EndListener.deliver.Goals as goal
-use Rattle.line_world.proofs.Offering.{no-fault}
+use Rattle.stations.proofs.Offering.{no-fault}
 
 pub loop-segment-init : goal.loop-segment-init
 loop-segment-init g c = record {

@@ -1,8 +1,7 @@
 use Rattle.line_world.proofs.Cited.{[], ◌∷◌, inl, inr, subst, rules, concat, outputs_of, written, deliveries, OnlyPuts-one, OnlyPuts-trans}
 use Rattle.line_world.proofs.Cited.{KeepsEach-refl, AddEach-next, AddPart-longer, AddPart-next, GoesOn-refl, CountsStand-trans}
-use Rattle.line_world.proofs.Cited.{FaultsStand-trans, Rose}
-use Rattle.line_world.proofs.Standing.{counted-on}
-use Rattle.line_world.proofs.Offering.{no-fault}
+use Rattle.line_world.proofs.Cited.{FaultsStand-trans, Rose, no-fault}
+use Rattle.stations.proofs.Standing.{counted-on}
 use Rattle.line_world.proofs.link.Link.deliver.Goals as goal
 
 pub returns-in-Err-clause-err : goal.returns-in-Err-clause-err

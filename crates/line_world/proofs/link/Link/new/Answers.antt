@@ -1,4 +1,4 @@
-use Rattle.line_world.proofs.Cited.{subst, Stands, fresh, Setup}
+use Rattle.line_world.proofs.Cited.{subst, fresh, Setup, Stands}
 use Rattle.line_world.proofs.link.Link.new.Goals as goal
 
 pub returns-clause-stands : goal.returns-clause-stands

@@ -1,5 +1,5 @@
-use Rattle.line_world.proofs.Cited.{◌≡◌, Bool, ap, subst, ◌∙◌, breaks_of, busy_of, Stands, after_busy, asked, is_busy, is_released}
-use Rattle.line_world.proofs.Cited.{Originator, Answerer}
+use Rattle.line_world.proofs.Cited.{◌≡◌, Bool, ap, subst, ◌∙◌, breaks_of, busy_of, after_busy, asked, is_busy, is_released, Originator}
+use Rattle.line_world.proofs.Cited.{Answerer, Stands}
 use Rattle.line_world.proofs.link.Link.serve.Goals as goal
 
 pub returns-clause-stands : goal.returns-clause-stands

@@ -1,6 +1,7 @@
 use Rattle.line_world.proofs.Cited.{◌≡◌, Bool, false, is_ok, ap, sym, ◌∙◌, link_of, speak}
 use Rattle.link_run.specs.Run.{both_finished}
-use Rattle.line_world.proofs.Linking.{Says, broken-so, said-so}
+use Rattle.stations.proofs.Standing.{broken-so}
+use Rattle.line_world.proofs.Linking.{Says, said-so}
 use Rattle.line_world.proofs.link.Link.speak.Goals as goal
 
 pub returns-in-Ok-speak-clause-speaks : goal.returns-in-Ok-speak-clause-speaks

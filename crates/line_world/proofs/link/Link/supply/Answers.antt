@@ -1,7 +1,6 @@
-use Rattle.line_world.proofs.Cited.{inl, inr, subst, rules, arith, written, Supplies, OnlyReads-trans, CountsStand-trans, FaultsStand-trans}
-use Rattle.line_world.proofs.Cited.{Rose, file_limit}
+use Rattle.line_world.proofs.Cited.{inl, inr, subst, rules, arith, written, OnlyReads-trans, CountsStand-trans, FaultsStand-trans, Rose}
+use Rattle.line_world.proofs.Cited.{no-fault, Supplies, file_limit}
 use Rattle.line_world.proofs.Linking.{reads-later}
-use Rattle.line_world.proofs.Offering.{no-fault}
 use Rattle.line_world.proofs.link.Link.supply.Goals as goal
 
 pub returns-in-Err-clause-counted : goal.returns-in-Err-clause-counted

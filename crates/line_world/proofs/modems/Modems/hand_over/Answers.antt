@@ -1,6 +1,7 @@
 use Rattle.line_world.proofs.Cited.{◌∙◌, written, delivered}
 use Rattle.line_world.specs.Link.{both_ends}
-use Rattle.line_world.proofs.Serving.{given-delivered, writing-fault, writing-counts}
+use Rattle.stations.proofs.Standing.{given-delivered}
+use Rattle.line_world.proofs.Serving.{writing-fault, writing-counts}
 use Rattle.line_world.proofs.modems.Modems.hand_over.Goals as goal
 
 pub returns-in-Ok-clause-hands : goal.returns-in-Ok-clause-hands

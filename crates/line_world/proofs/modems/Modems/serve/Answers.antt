@@ -1,5 +1,5 @@
-use Rattle.line_world.proofs.Cited.{◌+◌, length, sym, subst, written, LinkStands, ReadsBoth, served, IsInLimits}
-use Rattle.line_world.specs.Mid.{supplied, handed}
+use Rattle.line_world.proofs.Cited.{◌+◌, length, sym, subst, written, LinkStands, ReadsBoth, served, handed, IsInLimits}
+use Rattle.line_world.specs.Mid.{supplied}
 use Rattle.line_world.proofs.Serving.{over-others, reading-fault, reading-counts}
 use Rattle.line_world.proofs.modems.Modems.serve.Goals as goal
 

@@ -1,6 +1,5 @@
 use Rattle.line_world.proofs.Cited.{◌+◌, refl, sym, ◌∙◌, ap, subst, Some, None, arith, rules, written, longest_of, slot_symbols, ArePut}
-use Rattle.line_world.proofs.Cited.{turn_in, IsInLimits, Appended, PartlyAppended, Originator, Answerer}
-use Rattle.link_run.specs.Outcomes.{Going, Broken}
+use Rattle.line_world.proofs.Cited.{turn_in, Going, Broken, IsInLimits, Appended, PartlyAppended, Originator, Answerer}
 use Rattle.line_world.proofs.Hearing.{none-sent}
 use Rattle.line_world.proofs.Speaking.{GoingLaws, spoken_by, ends_of, spoken-turn, broken-turn, text-is, all-codable, put_by}
 use Rattle.line_world.proofs.Speaking.{are-put, goes-on, ends-so, counts-so, stops-so, adds-part}

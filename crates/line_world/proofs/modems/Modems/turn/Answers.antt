@@ -1,7 +1,7 @@
 use Rattle.line_world.proofs.Cited.{◌≡◌, ◌+◌, ◌<◌, length, refl, sym, ◌∙◌, ap, subst, outputs_of, written, EndsLine, wire_at, end_of}
-use Rattle.line_world.proofs.Cited.{HaveArrived, AreCounted, octets_of, served, LineEnd, is_closed, Done, OnlyPuts-trans, OnlyPuts-reads}
-use Rattle.line_world.proofs.Cited.{KeepsEach-refl, KeepsEach-reads, AddEach-kept, OnlyPuts-refl, CountsStand-trans, CountsStand-refl}
-use Rattle.line_world.specs.Mid.{handed}
+use Rattle.line_world.proofs.Cited.{HaveArrived, AreCounted, octets_of, served, handed, LineEnd, is_closed, Done, OnlyPuts-trans}
+use Rattle.line_world.proofs.Cited.{OnlyPuts-reads, KeepsEach-refl, KeepsEach-reads, AddEach-kept, OnlyPuts-refl, CountsStand-trans}
+use Rattle.line_world.proofs.Cited.{CountsStand-refl}
 use Rattle.line_world.proofs.Hearing.{early-turns}
 use Rattle.line_world.proofs.Serving.{phase-delivered}
 use Rattle.line_world.proofs.Folders.{lines-only, counts-later, stay-known, others-known}

@@ -1,6 +1,5 @@
-use Rattle.line_world.proofs.Cited.{subst, wire_of, HasSent, mode_of}
+use Rattle.line_world.proofs.Cited.{subst, bits_of, wire_of, HasSent, mode_of}
 use Rattle.std.proofs.Common.{option_copied}
-use Rattle.line_run.specs.Sampled.{bits_of}
 use Rattle.line_world.proofs.Taping.{slot-recorded}
 use Rattle.line_world.proofs.tape.Tape.make.Goals as goal
 

@@ -3,7 +3,7 @@ use Rattle.run_commands.proofs.Names.{Option, Some, None, Result, Ok, Err, rules
 use Rattle.run_commands.proofs.Names.{turn_of, Makes, OnlyPuts-reads, CountsStand-trans, FolderState, octets_at, Reached, Names, named}
 use Rattle.run_commands.proofs.Names.{turn_names, inputs_of, outputs_of, FILE_LIMIT, Role}
 use Rattle.std.proofs.lemmas.List.{length-take-le}
-use Rattle.line_world.specs.OneEnd.Turn.{EndsBy as TurnEndsBy}
+use Rattle.stations.specs.OneEnd.Turn.{EndsBy as TurnEndsBy}
 use Rattle.run_commands.specs.Peering.Ends.{EndsBy}
 use Rattle.run_commands.proofs.Peering.Starting.{goes-by, ends-short-by}
 use Rattle.run_commands.proofs.Peering.Reaching.{fails-later, Around, around-slot, fault-ends, closed-ends, ends-whole, not-read}

@@ -1,7 +1,7 @@
 use Rattle.run_commands.proofs.Names.{◌*◌, ◌≤◌, slot_octets, turn_of, FolderState, CountsStand, OnlyPuts, Reached, named, outputs_of}
 use Rattle.run_commands.proofs.Names.{FILE_LIMIT}
 use Rattle.std.proofs.Common.{◌-◌}
-use Rattle.line_world.specs.OneEnd.Single.{IsReady}
+use Rattle.stations.specs.OneEnd.Single.{IsReady}
 use Rattle.run_commands.proofs.peer.turns.run_turns.Given as goal
 
 abbrev pub invariant-loop-turns : goal.invariant-loop-turns

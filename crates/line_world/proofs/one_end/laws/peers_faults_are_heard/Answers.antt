@@ -1,5 +1,0 @@
-use Rattle.line_world.proofs.OneEnd.Once.{hearing-breaks, peers-heard, others-wants}
-use Rattle.line_world.proofs.one_end.laws.peers_faults_are_heard.Goals as goal
-
-pub returns : goal.returns
-returns c = record { hearing = hearing-breaks; peers = peers-heard; wants = others-wants }

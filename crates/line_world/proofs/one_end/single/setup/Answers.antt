@@ -1,4 +1,0 @@
-use Rattle.line_world.proofs.one_end.single.setup.Goals as goal
-
-pub returns-clause-value : goal.returns-clause-value
-returns-clause-value c = rw c.default_offer.ensures
