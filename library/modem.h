@@ -32,8 +32,9 @@ extern "C" {
 /* ---- codes ---- */
 
 /* What a call returns: 0 it is done, above 0 something to look at, below 0 a mistake of the caller's, or no memory. A call that returns a code below 0
- * leaves the handle and the room as they were. Where more than one would do, that of the handle comes first, then that of the arguments, then that of the room.
- * MODEM_ORDER comes behind these; MODEM_LATE of a deframer behind that of the room, of a decoder before all but that of the handle.
+ * leaves the handle and the room as they were. Where more than one would do, that of the handle comes first, then that of the arguments, then that of the
+ * room; but modem_deframer_octets looks for octets before it looks at the room. MODEM_ORDER comes behind these. MODEM_LATE of a deframer comes behind that
+ * of the room, of a decoder before all but that of the handle, of a link behind MODEM_ORDER, and in modem_link_ask_break before MODEM_NOTHING.
  * Whatever a call returns, what it has nothing to say of is 0; but modem_link_standing, modem_xid_read and modem_xid_agree leave a struct as it was that they
  * can't fill. */
 enum modem_code {
@@ -92,12 +93,13 @@ int32_t modem_decoder_new(modem_decoder *decoder, uint8_t line, uint8_t mode) MO
 /* Samples more: `parts` has real and imaginary parts by turns, and `count` says how many parts; 2048 is one unit of the map of V.32, so that coordinates of
  * points go from -8192 to 8192. An odd part at the end isn't read. Bits come as they are decided, with a delay of up to 128 symbols: none to 516 of them a sample.
  * MODEM_DONE: all samples are read, and no bit waits. MODEM_FULL: bits wait, and fewer than four places are left; call again with the samples behind
- * progress->read. MODEM_LOST: all that was decided before is given, and no more samples are read, now and later. */
+ * progress->read, which tells truly how far the call came; how far that is depends on how the samples were divided. Of MODEM_9600_MIDDLE the first six symbols
+ * give no bits, and want the four places all the same. MODEM_LOST: all that was decided before is given, and no more samples are read, now and later. */
 int32_t modem_decoder_push(modem_decoder *decoder, const int16_t *parts, size_t count, uint8_t *bits, size_t room, modem_progress *progress) MODEM_CALL;
 
-/* The bits that still waited, at the line's end; of a line from its middle there are none. MODEM_FULL where bits wait that `push` is to give first, or the
- * room is less than MODEM_LAST_BITS; MODEM_LOST where the line is lost. Bits are written with MODEM_DONE alone: once it returned that, the decoder is
- * finished. */
+/* The bits that still waited, at the line's end; of a line from its middle there are none. MODEM_FULL where bits wait that `push` is to give first; else
+ * MODEM_LOST where the line is lost; else MODEM_FULL where the room is less than MODEM_LAST_BITS. Bits are written with MODEM_DONE alone: once it returned
+ * that, the decoder is finished. */
 #define MODEM_LAST_BITS 512
 int32_t modem_decoder_finish(modem_decoder *decoder, uint8_t *bits, size_t room, modem_progress *progress) MODEM_CALL;
 
@@ -180,8 +182,8 @@ int32_t modem_deframer_octets(modem_deframer *deframer, uint8_t *octets, size_t 
 int32_t modem_detector_new(modem_detector *detector) MODEM_CALL;
 int32_t modem_detector_push(modem_detector *detector, const uint8_t *bits, size_t count, size_t *read, uint32_t *kind) MODEM_CALL;
 
-/* A frame's octets with its check. MODEM_FULL where the room is too small; MODEM_WHOLE is always enough. MODEM_BAD_ARGUMENT where no frame has these fields and
- * this information. */
+/* A frame's octets with its check. MODEM_FULL where the room is less than MODEM_WHOLE, however short the frame is. MODEM_BAD_ARGUMENT where no frame has these
+ * fields and this information, or sender or check32 is neither 0 nor 1. */
 int32_t modem_frame_write(const modem_frame *frame, const uint8_t *info, size_t info_count, uint8_t sender, uint8_t check32,
                           uint8_t *octets, size_t room, size_t *count) MODEM_CALL;
 
@@ -236,8 +238,10 @@ typedef struct modem_xid_fault {
 int32_t modem_xid_read(const uint8_t *info, size_t count, modem_offer *offer, modem_xid_fault *fault) MODEM_CALL;
 
 #define MODEM_XID_OCTETS 23 /* what modem_xid_write writes */
-/* Lengths and windows are taken as they are; MODEM_BAD_ARGUMENT where srej or check32 is neither 0 nor 1. */
+/* MODEM_BAD_ARGUMENT where a length isn't 1 to 1024, a window isn't 1 to 127, or srej or check32 is neither 0 nor 1; MODEM_FULL where the room is less than
+ * MODEM_XID_OCTETS. */
 int32_t modem_xid_write(const modem_offer *offer, uint8_t *info, size_t room, size_t *count) MODEM_CALL;
+/* Lengths and windows are taken as they are; MODEM_BAD_ARGUMENT where srej or check32 is neither 0 nor 1. */
 int32_t modem_xid_agree(const modem_offer *originator, const modem_offer *answerer, modem_terms *terms) MODEM_CALL;
 
 /* ---- an end of the link, turn by turn ---- */

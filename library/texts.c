@@ -34,7 +34,7 @@ const char *modem_text(int32_t code)
     case MODEM_ORDER:
         return "not its turn";
     case MODEM_LATE:
-        return "line or link too long";
+        return "line, link or stream of bits too long";
     default:
         return "unknown code";
     }

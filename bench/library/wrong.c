@@ -253,6 +253,21 @@ static void slots(void)
     modem_free(&framer);
 }
 
+/* One place less than what the header names is too little room. */
+static void sizes(void)
+{
+    const modem_frame frame = {.control = 0x6f, .command = 1, .pf = 1, .ns = MODEM_NO_NUMBER, .nr = MODEM_NO_NUMBER};
+    const modem_offer usual_offer = usual.offer;
+    spoil();
+    assert(modem_xid_write(&usual_offer, room, MODEM_XID_OCTETS - 1, &count) == MODEM_FULL && count == 0 && is_unwritten());
+    assert(modem_xid_write(&usual_offer, room, MODEM_XID_OCTETS, &count) == MODEM_DONE && count == MODEM_XID_OCTETS);
+    spoil();
+    assert(modem_frame_write(&frame, room, 0, MODEM_ORIGINATOR, 0, bits, MODEM_WHOLE - 1, &count) == MODEM_FULL && count == 0 && is_unwritten());
+    assert(modem_frame_write(&frame, room, 0, MODEM_ORIGINATOR, 0, room, MODEM_WHOLE, &count) == MODEM_DONE && count == 4);
+    assert(modem_frame_bits(room, 4, bits, MODEM_FRAME_BITS - 1, &count) == MODEM_FULL && count == 0);
+    assert(modem_frame_bits(room, 4, bits, MODEM_FRAME_BITS, &count) == MODEM_DONE && count == 74);
+}
+
 /* The pattern of a slot is seen once, at the eighth one behind two whole ones. */
 static void patterns(void)
 {
@@ -367,6 +382,7 @@ int main(int argc, char **argv)
     turns();
     frames();
     slots();
+    sizes();
     patterns();
     random_calls(argc > 1 ? atol(argv[1]) : 300000);
     puts("all as wanted");

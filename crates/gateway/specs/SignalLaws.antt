@@ -86,7 +86,8 @@ abbrev pub AllBitsComeBack : Type 0
 AllBitsComeBack = (mode : Mode) (e : SampleEncoder) (sent given last : List Bool) (samples : List Sample)
     → HasEncoded lines.Begun mode e sent samples → Ends lines.Begun mode samples given last → given ++ last ≡ sent
 
--- Bits that cost so little against samples that a meter is sure are those that a decoder gives of these samples, and no others are.
+-- What a decoder gives of samples begins the bits that cost so little against these that a meter is sure, at most 126 samples behind, but for
+-- labels that wait.
 abbrev pub SureBitsAreGiven : Type 0
 SureBitsAreGiven = (mode : Mode) (d : SampleDecoder) (bits given : List Bool) (samples : List Sample) (price : ℕ)
     → BitsCost mode bits samples price → price < sure → HasDecoded lines.Begun mode d samples given

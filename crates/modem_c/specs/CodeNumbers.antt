@@ -1,4 +1,4 @@
--- The numbers that calls answer, as C knows them.
+-- The numbers that calls return, and those of octets and bits for which they want room, as C knows them.
 use Rattle.std.specs.Prelude.{ℕ, ℤ, pos, negsuc}
 
 abbrev pub done : ℤ

@@ -40,7 +40,7 @@ MiddleBitsComeBack = (mode : Mode) (e d : Option Machine) (sent given : List Boo
     → Encodes lines.Begun mode e sent samples → IsHeardBehind count samples heard → Decodes lines.Middle mode d heard given
     → IsSomeAnd (decoder_in d) (λ it. FollowsMiddle 116 (decoding_of it.reader) (drop (4 * count) sent) given heard)
 
--- bits of which a meter is sure are given by a decoder of the samples
+-- what a decoder gives of samples begins the bits of which a meter of these is sure, at most 126 samples behind, but for labels that wait
 abbrev pub SureBitsAreGiven : Type 0
 SureBitsAreGiven = (mode : Mode) (d : Option Machine) (bits given : List Bool) (samples : List Sample) (price : ℕ)
     → BitsCost mode bits samples price → price < sure → Decodes lines.Begun mode d samples given → Follows 4 126 d bits given samples

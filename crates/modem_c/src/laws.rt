@@ -12,7 +12,7 @@ use crate::frame::NO_NUMBER;
 use frame_check::{INFO, WHOLE};
 use gateway::FRAME_BITS;
 
-/// Stands in place of a number that a frame hasn't, and the octets and bits that calls want room for: the numbers that `modem.h` gives them.
+/// What stands in place of a number that a frame hasn't, and the octets and bits that calls want room for: the numbers that `modem.h` gives them.
 pub fn sizes_by_number()
     ensures no_number { NO_NUMBER ≡ numbers.no_number }
     ensures information { INFO ≡ numbers.most_information }

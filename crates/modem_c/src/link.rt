@@ -44,7 +44,7 @@ pub struct SetupFields {
 #[derive(Clone, Copy)]
 pub struct Broke {
     /// 0 it didn't, 1 the other end answered no pattern, 2 all tries are spent, 3 an acknowledgement of a number that wasn't sent, 4 the other
-    /// end began anew, 5 it refused or hung up.
+    /// end began anew, or sent FRMR, 5 it refused or hung up.
     pub cause: u32,
     /// The number of a bad acknowledgement, below 128.
     pub nr: u8,
