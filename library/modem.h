@@ -93,7 +93,7 @@ int32_t modem_decoder_new(modem_decoder *decoder, uint8_t line, uint8_t mode) MO
 /* Samples more: `parts` has real and imaginary parts by turns, and `count` says how many parts; 2048 is one unit of the map of V.32, so that coordinates of
  * points go from -8192 to 8192. An odd part at the end isn't read. Bits come as they are decided, with a delay of up to 128 symbols: none to 516 of them a sample.
  * MODEM_DONE: all samples are read, and no bit waits. MODEM_FULL: bits wait, and fewer than four places are left; call again with the samples behind
- * progress->read, which tells truly how far the call came; how far that is depends on how the samples were divided. Of MODEM_9600_MIDDLE the first six symbols
+ * progress->read. How many these are depends on how the samples were divided. Of MODEM_9600_MIDDLE the first six symbols
  * give no bits, and want the four places all the same. MODEM_LOST: all that was decided before is given, and no more samples are read, now and later. */
 int32_t modem_decoder_push(modem_decoder *decoder, const int16_t *parts, size_t count, uint8_t *bits, size_t room, modem_progress *progress) MODEM_CALL;
 
