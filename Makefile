@@ -23,11 +23,11 @@ LIBRARY_NAME = libmodem-$(VERSION)-$(MACHINE)-linux
 # When the text was made that is packed: so the same text makes the same archive, octet for octet.
 MADE = $(shell git log -1 --format=%ct 2>/dev/null || date +%s)
 
-# Pages for who has no repository: parts that are marked as the repository's go, and what is marked as the archive's stands.
-OWN = sed -i -e '/^<!-- repository -->$$/,/^<!-- end -->$$/d' -e '/^<!-- archive$$/d' -e '/^end -->$$/d'
+# Pages for who has no repository: parts that are marked as the repository's go, and what is marked as the archive's stands, or what is marked as installed.
+OWN = sed -i -e '/^<!-- repository -->$$/,/^<!-- end -->$$/d' -e '/^<!-- $(1)$$/,/^end -->$$/d' -e '/^<!-- $(2)$$/d' -e '/^end -->$$/d'
 
-# Links to the crates, where these aren't in place, leave their words.
-UNLINKED = sed -i -E 's,\[([^]]*)\]\((\.\./)?crates/[^)]*\),\1,g; s,``::,::,g'
+# Links to what isn't in place, as the crates, leave their words.
+UNLINKED = sed -i -E 's,\[([^]]*)\]\((\.\./)?(crates|library|python)/[^)]*\),\1,g; s,``::,::,g'
 
 .PHONY: all proved library install uninstall dist dist-library deb pictures refused check
 
@@ -64,10 +64,10 @@ install: proved library
 	install -m 644 VERSION "$(SHARE)"
 	install -D -m 644 python/modem.py "$(SHARE)/python/modem.py"
 	install -m 644 python/pyproject.toml "$(SHARE)/python"
-	install -m 644 README.md CHANGELOG.md VERSION "$(DOCS)"
+	install -m 644 README.md CHANGELOG.md CONTRIBUTING.md VERSION "$(DOCS)"
 	install -m 644 docs/*.md docs/modem.txt docs/modem.ipynb "$(DOCS)/docs"
 	install -m 644 docs/pictures/* "$(DOCS)/docs/pictures"
-	$(OWN) "$(DOCS)"/*.md
+	$(call OWN,archive,installed) "$(DOCS)"/*.md
 	$(UNLINKED) "$(DOCS)"/*.md "$(DOCS)"/docs/*.md
 
 uninstall:
@@ -81,7 +81,7 @@ dist: proved library
 	cp -r CHANGELOG.md CONTRIBUTING.md Makefile README.md VERSION docs example library python out/$(NAME)
 	cp -P $(MADE_LIBRARY)/libmodem.* out/$(NAME)/lib
 	cp library/modem.h out/$(NAME)/include
-	$(OWN) out/$(NAME)/*.md
+	$(call OWN,installed,archive) out/$(NAME)/*.md
 	for it in crates/*/src crates/*/specs; do mkdir -p "out/$(NAME)/$$it" && cp -r "$$it" "out/$(NAME)/$$(dirname "$$it")" || exit 1; done
 	install $(PROGRAM) out/$(NAME)/modem
 	cd out/$(NAME) && sha256sum modem lib/libmodem.a lib/libmodem.so.$(VERSION)
@@ -107,7 +107,7 @@ deb:
 	echo 'activate-noawait ldconfig' >out/deb/DEBIAN/triggers
 	echo 'libmodem 1 modem (>= 1.0.2)' >out/deb/DEBIAN/shlibs
 	printf '%s\n' 'Package: modem' 'Version: $(VERSION)' 'Architecture: amd64' 'Section: comm' 'Priority: optional' 'Depends: libc6 (>= 2.34)' \
-		'Recommends: python3' "Installed-Size: $$(du -sk out/deb/usr | cut -f1)" 'Maintainer: the owner of this project <owner@example.invalid>' \
+		'Recommends: python3 (>= 3.9)' 'Suggests: parallel' "Installed-Size: $$(du -sk out/deb/usr | cut -f1)" 'Maintainer: the owner of this project <owner@example.invalid>' \
 		'Description: data mode of an error-correcting telephone modem pair, proved' \
 		' V.42 LAPM over the trellis-coded 9600 bit/s signal of V.32, symbol by symbol:' \
 		' it decodes recordings, explains captures, and runs two modems over a line that' \

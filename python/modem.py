@@ -40,9 +40,17 @@ INFO, WHOLE, LAST_BITS, FRAME_BITS = 1024, 1031, 512, 10460
 DONE, NOTHING, FULL, LOST, BROKEN = range(5)
 NO_MEMORY, EMPTY, WRONG_KIND, BAD_ARGUMENT, ORDER, LATE = range(-1, -7, -1)
 
-LINES = {"9600": 0, "9600 middle": 1, "4800": 2}
-MODES = {"call": 0, "answer": 1}
-ROLES = {"orig": 0, "answ": 1}
+
+class _Words(dict):
+    """The numbers of words."""
+
+    def __missing__(self, word):
+        raise ValueError(f"{word!r}: not one of {', '.join(map(repr, self))}")
+
+
+LINES = _Words({"9600": 0, "9600 middle": 1, "4800": 2})
+MODES = _Words({"call": 0, "answer": 1})
+ROLES = _Words({"orig": 0, "answ": 1})
 SLOTS = ("ones", "odp", "adp", "octets", "flags")
 PIECES = ("none", "frame", "ragged", "aborted", "too long", "too short", "bad check", "refused")
 REFUSALS = ("", "address", "control", "short", "long")
@@ -251,6 +259,10 @@ def _parts(samples):
         data = numpy.ascontiguousarray(samples).reshape(-1)
         _even(data)
         return data.ctypes.data_as(_PARTS), len(data), data
+    if isinstance(samples, memoryview) and samples.format == "h":
+        samples = array("h", samples)
+    if isinstance(samples, (bytes, bytearray, memoryview)):
+        raise TypeError("octets are no samples: array('h', ..) or numpy.frombuffer(.., '<i2') makes their parts of a recording's")
     if isinstance(samples, array) and samples.typecode == "h":
         data = samples
         _even(data)

@@ -30,6 +30,10 @@ POWER = 10  # the mean of the squared distances of either map's points from the 
 
 signal.signal(signal.SIGPIPE, signal.SIG_DFL)  # so that `| head` ends a tool quietly
 
+if sys.argv[1:] == ["--help"]:
+    print((sys.modules["__main__"].__doc__ or "").strip())
+    sys.exit()
+
 
 def fail(why, status=3):
     """Ends the tool: wrong words are status 2, wrong input 3."""

@@ -9,7 +9,7 @@ pub enum LinkFault {
     Spent { segment: u64, since: u64 },
     /// An acknowledgement of a number that wasn't sent, modulo 128 as its bounds.
     BadAck { nr: u8, va: u8, high: u8 },
-    /// The other end begins anew: segments acknowledged, and segments taken.
+    /// The other end begins anew, or sent FRMR: segments acknowledged, and segments taken.
     PeerReset { va: u64, vr: u64 },
     /// The other end refuses, or hangs up.
     PeerRefused,
