@@ -48,7 +48,9 @@ def usage(doc):
 
 
 def number(word, least, most, kind=int):
-    """A word as a number in its range."""
+    """A word as a number in its range: a whole one is spelled as the program's are, without a sign or zeros in front."""
+    if kind is int and not re.fullmatch("0|[1-9][0-9]*", word, re.ASCII):
+        fail(f"{word}: no number", 2)
     try:
         value = kind(word)
     except ValueError:
@@ -89,6 +91,16 @@ def modem(*words):
     """Runs the program: its status and what it said."""
     ran = subprocess.run([program(), *words], capture_output=True, text=True, check=False)
     return ran.returncode, ran.stdout.strip()
+
+
+def fail_as(status, said, *names):
+    """Ends the tool with what the program said of these inputs. Its `read fault` names none: the first that can't be read is named."""
+    for name in names:
+        try:
+            Path(name).open("rb").close()
+        except OSError as error:
+            fail(f"{name}: {error.strerror}")
+    fail(said or f"status {status}")
 
 
 def beside(name):
