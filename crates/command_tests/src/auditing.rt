@@ -1,8 +1,7 @@
 // Traces that are audited: those that runs leave, and others.
-use crate::stage::play;
 
 /// Traces and whether they are true.
-const SCENARIOS: &str = r##"
+pub(crate) const SCENARIOS: &str = r##"
 scenario the trace of a run is true
 file o "a"
 file a "b"
@@ -469,8 +468,3 @@ exit 13
 says "false line 1: spelling\n"
 ends calls "read t 16777216 1\nread t 0 162\nread a 0 128\nread o 0 128\nsay - 0 23\n"
 "##;
-
-#[test]
-fn traces_are_audited(rt: HostRuntime) {
-    play(&rt, rt.alloc(), "auditing.rt", SCENARIOS);
-}

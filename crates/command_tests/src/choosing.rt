@@ -1,8 +1,7 @@
 // Each command over a folder in memory, and words that are no command's.
-use crate::stage::play;
 
 /// Words and what comes of them.
-const SCENARIOS: &str = r##"
+pub(crate) const SCENARIOS: &str = r##"
 scenario each command is done and other words are told the usage
 # Five small files, of which one is the recording of an octet of zeros, as the end that calls sends it.
 file o "a"
@@ -82,8 +81,3 @@ exit 7
 says "line lost: answ symbol 128\n"
 leaves f ""
 "##;
-
-#[test]
-fn words_are_done_or_told_the_usage(rt: HostRuntime) {
-    play(&rt, rt.alloc(), "choosing.rt", SCENARIOS);
-}

@@ -1,8 +1,7 @@
 // A recording and a stream of bits that are cut at each length, and a folder that fails at each call while they are read.
-use crate::stage::play;
 
 /// What is cut, and what fails.
-const SCENARIOS: &str = r##"
+pub(crate) const SCENARIOS: &str = r##"
 scenario recordings
 # A call recording of the octet 0: a header and two samples. A header that is cut is refused at its end, a sample where it begins.
 file whole "V32R\0\0\0\0\x00\xe0\x00\x08\x00\xe0\x00\x08"
@@ -150,8 +149,3 @@ ask decode r f
 exit 6
 none f
 "##;
-
-#[test]
-fn inputs_are_cut_at_each_length(rt: HostRuntime) {
-    play(&rt, rt.alloc(), "cutting.rt", SCENARIOS);
-}

@@ -1,8 +1,7 @@
 // Recordings, and what is decoded of them.
-use crate::stage::play;
 
 /// Recordings and what each gives.
-const SCENARIOS: &str = r##"
+pub(crate) const SCENARIOS: &str = r##"
 scenario recordings are decoded or refused at their place
 file r "V32R\0\0\0\0"
 ask decode r f
@@ -298,8 +297,3 @@ exit 0
 says "octets 1\n"
 leaves calls asked
 "##;
-
-#[test]
-fn recordings_are_decoded_or_refused(rt: HostRuntime) {
-    play(&rt, rt.alloc(), "decoding.rt", SCENARIOS);
-}

@@ -1,8 +1,7 @@
 // Files that become recordings, with what each command prints and leaves.
-use crate::stage::play;
 
 /// Files and their recordings.
-const SCENARIOS: &str = r##"
+pub(crate) const SCENARIOS: &str = r##"
 scenario files become recordings at both rates
 file f ""
 ask encode call f r
@@ -127,8 +126,3 @@ exit 4
 says "too long: f\n"
 none r
 "##;
-
-#[test]
-fn files_become_recordings(rt: HostRuntime) {
-    play(&rt, rt.alloc(), "encoding.rt", SCENARIOS);
-}

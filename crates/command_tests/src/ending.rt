@@ -1,8 +1,7 @@
 // Pairs of which not both links are done, and words that are no pair's.
-use crate::stage::play;
 
 /// How pairs end.
-const SCENARIOS: &str = r##"
+pub(crate) const SCENARIOS: &str = r##"
 scenario the first link that is not done is the answer
 # Both links leave what their runs alone leave.
 file a "a"
@@ -164,8 +163,3 @@ usage pair o1 a1 o2 a2 s go1 ga1 go2 ga2 t1 go2
 usage pair o1 a1 o2 a2 s go1 ga1 go2 ga2 t1 ga2
 usage pair o1 a1 o2 a2 s go1 ga1 go2 ga2 t1 t1
 "##;
-
-#[test]
-fn the_first_link_that_is_not_done_is_the_answer(rt: HostRuntime) {
-    play(&rt, rt.alloc(), "ending.rt", SCENARIOS);
-}

@@ -1,8 +1,7 @@
 // Fields in digits, and what is printed of them.
-use crate::stage::play;
 
 /// Digits and what they spell.
-const SCENARIOS: &str = r##"
+pub(crate) const SCENARIOS: &str = r##"
 scenario fields are explained
 ask xid 8280001303038A8900050204000602040007010F08010FF0000F000356343201010302020800030120
 exit 0
@@ -41,8 +40,3 @@ ask xid 8
 exit 3
 leaves calls "say - 0 14\n"
 "##;
-
-#[test]
-fn fields_are_explained(rt: HostRuntime) {
-    play(&rt, rt.alloc(), "explaining.rt", SCENARIOS);
-}

@@ -1,8 +1,7 @@
 // Runs over a folder that fails at a call, and what runs ask of it.
-use crate::stage::{Stage, play, stage_behind};
 
 /// Calls of the folder.
-const SCENARIOS: &str = r##"
+pub(crate) const SCENARIOS: &str = r##"
 scenario each call that fails is the answer
 # What was received begins the files.
 file o "a"
@@ -145,40 +144,3 @@ exit 6
 says "too long: o"
 leaves calls "read s 65536 1\nread s 0 1024\nread o 16777216 1\nsay - 0 10\nsay - 0 1\nsay - 0 1\n"
 "##;
-
-#[test]
-fn calls_of_runs_fail(rt: HostRuntime) {
-    play(&rt, rt.alloc(), "failing.rt", SCENARIOS);
-}
-
-/// A small run without a fault.
-const SMALL: &str = "\
-file o \"a\"
-file a \"b\"
-file s \"\"
-ask run o a s go ga t
-exit 0";
-
-/// Calls that it doesn't make, and words that mean none.
-const UNMADE: &[&str] = &[
-    "fails read o 3",
-    "fails append go 2",
-    "fails create o",
-    "fails say 2",
-    "fails say 0",
-    "fails say",
-    "fails 3",
-];
-
-/// Whether the small run isn't played where such a call is to fail.
-fn is_refused(stage: &mut Stage, call: &str) -> bool {
-    stage.step(call) == Some(true) && stage.step("ask run o a s go ga t") == None
-}
-
-#[test]
-fn calls_that_are_not_made_can_t_fail(rt: HostRuntime) {
-    for call in UNMADE {
-        let mut stage = stage_behind(&rt, rt.alloc(), "failing.rt, SMALL", 1, SMALL);
-        assert!(rt; is_refused(&mut stage, call), "{call}");
-    }
-}

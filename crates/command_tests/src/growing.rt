@@ -1,8 +1,7 @@
 // Inputs that grow behind the look at their length.
-use crate::stage::play;
 
 /// Inputs, how they grow, and what each command makes of them.
-const SCENARIOS: &str = r##"
+pub(crate) const SCENARIOS: &str = r##"
 scenario an input that grows is read as it is then
 # Of each input there is less at first.
 file f "ab"
@@ -77,8 +76,3 @@ ask audit o a s t
 exit 13
 says "false line 27: beyond\n"
 "##;
-
-#[test]
-fn inputs_that_grow_are_read_as_they_are_then(rt: HostRuntime) {
-    play(&rt, rt.alloc(), "growing.rt", SCENARIOS);
-}

@@ -1,8 +1,7 @@
 // Offsets that turn a slot into another, or into nothing.
-use crate::stage::play;
 
 /// Offsets and what is heard.
-const SCENARIOS: &str = r##"
+pub(crate) const SCENARIOS: &str = r##"
 scenario samples that say nothing lose the line
 # What the answerer sends first is ones. As many of its samples as lose a line are moved to the origin.
 file o "a"
@@ -156,8 +155,3 @@ exit 0
 says "done 12\n"
 leaves t plain
 "##;
-
-#[test]
-fn offsets_turn_slots(rt: HostRuntime) {
-    play(&rt, rt.alloc(), "hits.rt", SCENARIOS);
-}

@@ -1,8 +1,7 @@
 // What comes of a link's slots once it has ended, while the other link goes on.
-use crate::stage::play;
 
 /// Slots of a link that has ended.
-const SCENARIOS: &str = r##"
+pub(crate) const SCENARIOS: &str = r##"
 scenario a line can be lost in a slot of a link that has ended
 # The small link alone is done in turn 12. The slot is its link's of round 14, and arrives in round 15. Its symbols are counted with those of the
 # second link.
@@ -65,8 +64,3 @@ ask pair a b large empty s go1 ga1 go2 ga2 t1 t2
 exit 0
 sweep go1 ga1 go2 ga2 t1 t2
 "##;
-
-#[test]
-fn a_link_idles_once_it_has_ended(rt: HostRuntime) {
-    play(&rt, rt.alloc(), "idling.rt", SCENARIOS);
-}

@@ -1,11 +1,12 @@
 //! Worked runs of each command, over files in memory: scenarios, which `stage` plays line by line.
 //!
-//! It has no call of its own. In their own crates these tests would prove each crate's whole code once more. Each test plays a file of
-//! scenarios: what one costs to prove doesn't grow with them.
+//! It has no call of its own. In their own crates these tests would prove each crate's whole code once more. Each test of `playing` plays files of
+//! scenarios: what one costs to prove hardly grows with them.
 //!
 //! A line of a scenario is a word and what belongs to it. PIECES are octets: texts between quotes, in which `\n`, `\r`, `\0` and `\x1f` are one
 //! octet each, `"ab"*3` for `ababab`, and NAMES of files as they were left last, or parts of them, as `r[8..12]`, `r[..8]` and `r[8..]`. `said` is
-//! the name of all that the last command printed, `calls` that of the calls of the folder that it made.
+//! the name of all that the last command printed, `calls` that of the calls of the folder that it made. FILL, OLD, PIECE, BEGIN and END are one text
+//! between quotes each; in the last three nothing is named behind a backslash.
 //!
 //! | Line | What it does |
 //! |---|---|
@@ -77,6 +78,8 @@ mod order;
 mod pairing;
 #[cfg(test)]
 mod picking;
+#[cfg(test)]
+mod playing;
 #[cfg(test)]
 mod recorded;
 #[cfg(test)]

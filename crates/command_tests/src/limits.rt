@@ -1,8 +1,7 @@
 // Inputs of exactly their limits, some of which grow, and of one octet more.
-use crate::stage::play;
 
 /// Inputs and whether they are taken.
-const SCENARIOS: &str = r##"
+pub(crate) const SCENARIOS: &str = r##"
 scenario files of the limit are recorded and decoded and picked up and measured
 # An input that grows behind the look at its length ends at its limit: the last read there asks for no octet.
 file f "\x07"*1048576
@@ -101,8 +100,3 @@ ask run o a s go ga t
 exit 4
 says "too long: s\n"
 "##;
-
-#[test]
-fn inputs_of_the_limit_are_taken(rt: HostRuntime) {
-    play(&rt, rt.alloc(), "limits.rt", SCENARIOS);
-}

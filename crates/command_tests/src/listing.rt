@@ -1,8 +1,7 @@
 // Streams of bits, and the pieces that are listed of them.
-use crate::stage::play;
 
 /// Bits and their pieces.
-const SCENARIOS: &str = r##"
+pub(crate) const SCENARIOS: &str = r##"
 scenario pieces are listed
 # A flag, the frame SABME with its poll bit and its check, as bits with zeros put in, and a flag.
 file b "~\x03\xdf\x3e\xb9\xfa\xf9"
@@ -86,8 +85,3 @@ ask frames orig b
 exit 0
 says "too long\npieces 1\n"
 "##;
-
-#[test]
-fn pieces_are_listed(rt: HostRuntime) {
-    play(&rt, rt.alloc(), "listing.rt", SCENARIOS);
-}

@@ -1,8 +1,7 @@
 // Runs that losses end.
-use crate::stage::play;
 
 /// Losses and how runs end by them.
-const SCENARIOS: &str = r##"
+pub(crate) const SCENARIOS: &str = r##"
 scenario a line that stays silent ends the link
 # Both ends send one file, until the link ends.
 ramp f 12800
@@ -49,8 +48,3 @@ ask run o a s go ga t
 exit 9
 says "link lost: orig segment 1 turn 130\n"
 "##;
-
-#[test]
-fn losses_end_runs(rt: HostRuntime) {
-    play(&rt, rt.alloc(), "losses.rt", SCENARIOS);
-}

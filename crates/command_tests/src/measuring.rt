@@ -1,8 +1,7 @@
 // Recordings that are held against what was sent.
-use crate::stage::play;
 
 /// Recordings, their files and the cost.
-const SCENARIOS: &str = r##"
+pub(crate) const SCENARIOS: &str = r##"
 scenario recordings are measured or refused
 # Both files stay as they were.
 # The cost is sure below the bound. The first coordinate of the first sample is raised by 3238, and by 3239.
@@ -177,8 +176,3 @@ ask decode r g
 exit 0
 leaves g "\xb1\x94\x21\xd7\x15ggh" f[8..]
 "##;
-
-#[test]
-fn recordings_are_measured_or_refused(rt: HostRuntime) {
-    play(&rt, rt.alloc(), "measuring.rt", SCENARIOS);
-}

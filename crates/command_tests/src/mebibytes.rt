@@ -1,8 +1,7 @@
 // Files of a mebibyte, which cross in some nine thousand turns.
-use crate::stage::play;
 
 /// Files and whether they cross.
-const SCENARIOS: &str = r##"
+pub(crate) const SCENARIOS: &str = r##"
 scenario files of a mebibyte cross
 file o "\x07"*1048576
 file a "\x08"*1048576
@@ -13,8 +12,3 @@ ends said "\n"
 leaves go a
 leaves ga o
 "##;
-
-#[test]
-fn files_of_a_mebibyte_cross(rt: HostRuntime) {
-    play(&rt, rt.alloc(), "mebibytes.rt", SCENARIOS);
-}

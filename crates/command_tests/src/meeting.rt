@@ -1,8 +1,7 @@
 // Ends that meet recorded bits of a peer, with what each run prints and leaves.
-use crate::stage::play;
 
 /// The bits of peers, and what comes of them.
-const SCENARIOS: &str = r##"
+pub(crate) const SCENARIOS: &str = r##"
 scenario frames of the peer are answered and its faults are named
 # Frames of a peer with their checks, as bits with zeros put in, between flags, and three times the answerer's pattern.
 file sabme "~\x03\xdf\x3e\xb9\xfa\xf9"
@@ -241,8 +240,3 @@ exit 0
 says "done 1\n"
 leaves calls asked
 "##;
-
-#[test]
-fn ends_meet_recorded_bits(rt: HostRuntime) {
-    play(&rt, rt.alloc(), "meeting.rt", SCENARIOS);
-}

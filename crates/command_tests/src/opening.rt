@@ -1,8 +1,7 @@
 // The inputs of a run, which are taken in order.
-use crate::stage::play;
 
 /// Inputs and what is read of them.
-const SCENARIOS: &str = r##"
+pub(crate) const SCENARIOS: &str = r##"
 scenario a script is read and two lengths are looked at
 # An octet of the script, the script, its end, and an octet of each file: no other octet of the files is read before the outputs are made.
 file o "abc"
@@ -67,8 +66,3 @@ exit 5
 says "read fault\n"
 leaves calls "read s 65536 1\n" "read s 0 1024\n" "read s 10 1024\n" "read o 16777216 1\n" "read a 16777216 1\n" "say - 0 11\n"
 "##;
-
-#[test]
-fn inputs_are_taken_in_order(rt: HostRuntime) {
-    play(&rt, rt.alloc(), "opening.rt", SCENARIOS);
-}

@@ -20,34 +20,36 @@ exit 0";
 /// A slot's octets in a recording.
 const SLOT: usize = 1856;
 
-/// Whether an output isn't written where this call fails, and how many lines the first trace of the pair is ahead of the second one then.
-fn ahead(stage: &Stage, number: u64) -> Option<(bool, usize)> {
-    let ran = stage.run_failing(number)?;
-    let lines = ran.count_lines("t1").checked_sub(ran.count_lines("t2"))?;
-    Some((ran.code == 6, lines))
+/// Whether both traces of the pair have the lines of all turns that were made where this call fails: those of this round too, where its link is the
+/// first. Of each such call that fails so that an output isn't written it is counted how far the first one is ahead.
+fn stops_both(stage: &Stage, number: u64, even: &mut u32, ahead: &mut u32) -> Option<bool> {
+    let ran = stage.run_over(&stage.words, &[number])?;
+    let unwritten = u32::from(ran.code == 6);
+    let lines = ran.count_lines("t1").wrapping_sub(ran.count_lines("t2"));
+    if lines == 0 {
+        *even = even.saturating_add(unwritten);
+    } else {
+        *ahead = ahead.saturating_add(unwritten);
+    }
+    Some(lines == 0 || lines == 2)
 }
 
-/// Where a trace isn't written in a round, the other one has the lines of the turns that were made: those of this round too, where its link is
-/// the first.
+/// Where a trace isn't written in a round, the other one has the lines of the turns that were made.
 #[test]
 fn a_trace_that_is_not_written_stops_both_links(rt: HostRuntime) {
     let stage = stage_behind(&rt, rt.alloc(), "order.rt, PAIR", 1, PAIR);
-    let mut first = 0u32;
-    let mut second = 0u32;
-    for number in 1..stage.calls() {
-        match ahead(&stage, number) {
-            Some((true, 0)) => first = first.saturating_add(1),
-            Some((true, 2)) => second = second.saturating_add(1),
-            Some((false, 0 | 2)) => {}
-            _ => panic!(rt; "{number}"),
-        }
+    let mut even = 0u32;
+    let mut ahead = 0u32;
+    for number in 1..stage.ran.folder.calls() {
+        let holds = stops_both(&stage, number, &mut even, &mut ahead) == Some(true);
+        assert!(rt; holds, "{number}");
     }
-    assert!(rt; first > 13 && second > 13);
+    assert!(rt; even > 13 && ahead > 13);
 }
 
 /// Whether both recordings are so long as each other where this call fails, or the originator's up to a slot longer.
 fn is_in_order(stage: &Stage, number: u64) -> Option<bool> {
-    let ran = stage.run_failing(number)?;
+    let ran = stage.run_over(&stage.words, &[number])?;
     let orig = ran.left("ro").unwrap_or_default().len();
     let answ = ran.left("ra").unwrap_or_default().len();
     Some(answ <= orig && orig <= answ.saturating_add(SLOT))
@@ -57,7 +59,7 @@ fn is_in_order(stage: &Stage, number: u64) -> Option<bool> {
 #[test]
 fn the_originator_s_recording_comes_first(rt: HostRuntime) {
     let stage = stage_behind(&rt, rt.alloc(), "order.rt, RECORDED", 1, RECORDED);
-    for number in 1..=stage.calls() {
+    for number in 1..=stage.ran.folder.calls() {
         assert!(rt; is_in_order(&stage, number) == Some(true), "{number}");
     }
 }

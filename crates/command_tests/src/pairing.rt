@@ -1,8 +1,7 @@
 // Two links over one line, with what each pair prints and leaves.
-use crate::stage::play;
 
 /// Pairs of links.
-const SCENARIOS: &str = r##"
+pub(crate) const SCENARIOS: &str = r##"
 scenario both links cross as each does alone
 # Each link leaves what its run alone leaves, whatever the other one sends. Small files have one octet, large ones fifteen segments.
 file a "a"
@@ -242,8 +241,3 @@ says "done 12 14\n"
 leaves ga2 o2
 leaves calls asked
 "##;
-
-#[test]
-fn both_links_cross_as_each_does_alone(rt: HostRuntime) {
-    play(&rt, rt.alloc(), "pairing.rt", SCENARIOS);
-}

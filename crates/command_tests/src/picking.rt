@@ -1,8 +1,7 @@
 // Recordings that begin anywhere, picked up.
-use super::stage::play;
 
 /// What is picked up.
-const SCENARIOS: &str = r##"
+pub(crate) const SCENARIOS: &str = r##"
 scenario recordings are picked up
 # A slot of flags and one with the frame SABME, as an originator sends it, and its check.
 slot sent "~"
@@ -117,8 +116,3 @@ ask pickup r
 exit 0
 says "pieces 0\n"
 "##;
-
-#[test]
-fn recordings_are_picked_up(rt: HostRuntime) {
-    play(&rt, rt.alloc(), "picking.rt", SCENARIOS);
-}

@@ -1,8 +1,7 @@
 // Runs that are recorded and then tapped or picked up.
-use crate::stage::play;
 
 /// Runs, and what their recordings show.
-const SCENARIOS: &str = r##"
+pub(crate) const SCENARIOS: &str = r##"
 scenario a tap leaves what the run left
 # However the run ended.
 file a "a"
@@ -207,8 +206,3 @@ ask pickup m
 exit 0
 says "frame rr cmd r=0 p=1\nframe i s=0 r=0 p=0 n=1\nframe rr rsp r=1 p=0\nframe disc cmd p=1\npieces 4\n"
 "##;
-
-#[test]
-fn a_tap_leaves_what_the_run_left(rt: HostRuntime) {
-    play(&rt, rt.alloc(), "recorded.rt", SCENARIOS);
-}

@@ -1,8 +1,7 @@
 // Runs that are recorded: what both ends sent stands in two recordings.
-use crate::stage::play;
 
 /// Runs and what is recorded of them.
-const SCENARIOS: &str = r##"
+pub(crate) const SCENARIOS: &str = r##"
 scenario two files are recorded
 file o "a"
 file a "b"
@@ -156,8 +155,3 @@ exit 0
 says "done 12\n"
 leaves calls asked
 "##;
-
-#[test]
-fn runs_are_recorded(rt: HostRuntime) {
-    play(&rt, rt.alloc(), "recording.rt", SCENARIOS);
-}

@@ -1,8 +1,7 @@
 // Runs, with what each prints and leaves.
-use crate::stage::play;
 
 /// Runs and their traces.
-const SCENARIOS: &str = r##"
+pub(crate) const SCENARIOS: &str = r##"
 scenario whole traces are written
 file o ""
 file a ""
@@ -271,8 +270,3 @@ ask run o a s go ga t
 exit 3
 says "bad script: line 150: word\n"
 "##;
-
-#[test]
-fn files_cross(rt: HostRuntime) {
-    play(&rt, rt.alloc(), "running.rt", SCENARIOS);
-}

@@ -1,4 +1,5 @@
 // What no run of a command shows alone: the lines of all answers, single steps over a folder, and the texts of faults.
+use crate::stage::stage_behind;
 use command_base::{
     LinkFault, Status, Stop, append_output, are_apart, create_output, done_line, octets_line,
     pieces_line, read_file, read_piece, samples_line, say_line, tell_stop, usage_line,
@@ -125,69 +126,46 @@ const LINES: &[(Status, u8, &str)] = &[
 ];
 
 /// Stops by faults of the folder, the answers, the program's statuses, and their lines.
-const STOPS: &[(Stop, Status, u8, &str)] = &[
+const STOPS: &[(Stop, (Status, u8, &str))] = &[
     (
         Stop::Read(FolderFault::Failed),
-        Status::ReadFault,
-        5,
-        "read fault\n",
+        (Status::ReadFault, 5, "read fault\n"),
     ),
     (
         Stop::Write(FolderFault::Failed),
-        Status::WriteFault,
-        6,
-        "write fault\n",
+        (Status::WriteFault, 6, "write fault\n"),
     ),
-    (Stop::Say(FolderFault::Failed), Status::WriteFault, 6, ""),
+    (Stop::Say(FolderFault::Failed), (Status::WriteFault, 6, "")),
     (
         Stop::Read(FolderFault::NoMemory),
-        Status::NoMemory,
-        11,
-        "no memory\n",
+        (Status::NoMemory, 11, "no memory\n"),
     ),
     (
         Stop::Write(FolderFault::NoMemory),
-        Status::NoMemory,
-        11,
-        "no memory\n",
+        (Status::NoMemory, 11, "no memory\n"),
     ),
-    (Stop::Say(FolderFault::NoMemory), Status::NoMemory, 11, ""),
-    (Stop::NoMemory, Status::NoMemory, 11, "no memory\n"),
+    (Stop::Say(FolderFault::NoMemory), (Status::NoMemory, 11, "")),
+    (Stop::NoMemory, (Status::NoMemory, 11, "no memory\n")),
 ];
 
-/// The words of the command that stops.
-fn words(alloc: Global) -> Option<Vec<String>> {
-    let mut words = Vec::new(alloc);
-    words.push(String::from_str(alloc, "run").ok()?).ok()?;
-    words.push(String::from_str(alloc, "o").ok()?).ok()?;
-    Some(words)
-}
-
-/// Whether a stop has this answer, with its code, and prints this line.
-fn tells(alloc: Global, words: &[String], stop: Stop, answer: (Status, u8, &str)) -> bool {
+/// Whether a stop of the command of these words has this answer, with its code, and prints its line.
+fn tells(alloc: Global, words: &[String], stop: Stop, answer: &(Status, u8, &str)) -> bool {
     let (status, code, line) = answer;
     let mut folder = MemoryFolder::new(alloc);
     let told = tell_stop(&mut folder, words, stop);
-    told == status && status.code() == code && folder.said() == line.as_bytes()
+    told == *status && status.code() == *code && folder.said() == line.as_bytes()
 }
 
 #[test]
 fn each_answer_says_its_line(rt: HostRuntime) {
-    let Some(words) = words(rt.alloc()) else {
-        panic!(rt; "no memory")
-    };
-    for &(status, code, line) in LINES {
-        let stop = Stop::Own(status);
-        assert!(rt;
-            tells(rt.alloc(), &words, stop, (status, code, line)),
-            "{line}"
-        );
+    let stage = stage_behind(&rt, rt.alloc(), "saying.rt", 1, "ask run o");
+    for answer in LINES {
+        let holds = tells(rt.alloc(), &stage.words, Stop::Own(answer.0), answer);
+        assert!(rt; holds, "{}", answer.2);
     }
-    for &(stop, status, code, line) in STOPS {
-        assert!(rt;
-            tells(rt.alloc(), &words, stop, (status, code, line)),
-            "{line}"
-        );
+    for (stop, answer) in STOPS {
+        let holds = tells(rt.alloc(), &stage.words, *stop, answer);
+        assert!(rt; holds, "{}", answer.2);
     }
     assert!(rt; Status::Done.code() == 0 && Status::Usage.code() == 2);
 }
@@ -207,44 +185,41 @@ fn done_lines_have_their_numbers(rt: HostRuntime) {
     is_line(&rt, usage.as_slice(), "usage: modem run, xid\n");
 }
 
-fn inputs_end_at_their_limit(folder: &mut MemoryFolder) -> bool {
+/// Whether inputs end at their limit, and a piece is read at its place.
+fn inputs_are_read(folder: &mut MemoryFolder) -> bool {
     let long = Stop::Own(Status::TooLong { word: 1 });
-    within_limit(folder, "f", 5, 1) == Ok(()) && within_limit(folder, "f", 4, 1) == Err(long)
-}
-
-fn pieces_are_read_at_their_place(folder: &mut MemoryFolder) -> bool {
+    let ends = within_limit(folder, "f", 5, 1) == Ok(());
+    let is_long = within_limit(folder, "f", 4, 1) == Err(long);
     let mut piece = [0u8; 3];
-    let read = read_piece(folder, "f", 4, 2, &mut piece);
-    let is_read = read == Ok(2) && piece == [b'c', b'd', 0];
-    is_read && read_piece(folder, "g", 4, 2, &mut piece) == Err(FolderFault::Failed)
+    let is_read = read_piece(folder, "f", 4, 2, &mut piece) == Ok(2);
+    let no_file = read_piece(folder, "g", 4, 2, &mut [0u8; 3]) == Err(FolderFault::Failed);
+    ends && is_long && is_read && piece == [b'c', b'd', 0] && no_file
 }
 
-fn files_are_read_to_their_limit(alloc: Global, folder: &mut MemoryFolder) -> bool {
+/// Whether a file is read to its limit.
+fn files_are_read(alloc: Global, folder: &mut MemoryFolder) -> bool {
     match read_file(alloc, folder, "f", 4) {
         Ok(file) => file.as_slice() == b"abcd".as_slice(),
         Err(_) => false,
     }
 }
 
-fn outputs_are_made_empty_and_grow(folder: &mut MemoryFolder) -> bool {
+/// Whether an output is made empty and grows, and a line is said.
+fn outputs_are_written(folder: &mut MemoryFolder) -> bool {
     let is_made = create_output(folder, "f") == Ok(());
     let is_written = append_output(folder, "f", b"xy") == Ok(());
-    is_made && is_written && folder.get("f") == Some(b"xy".as_slice())
-}
-
-fn a_line_is_said(folder: &mut MemoryFolder) -> bool {
-    say_line(folder, b"xy") == Ok(()) && folder.said() == b"xy".as_slice()
+    let is_said = say_line(folder, b"xy") == Ok(());
+    let holds = folder.get("f") == Some(b"xy".as_slice()) && folder.said() == b"xy".as_slice();
+    is_made && is_written && is_said && holds
 }
 
 #[test]
 fn a_file_of_five_octets_is_read_and_written(rt: HostRuntime) {
     let mut folder = MemoryFolder::new(rt.alloc());
-    assert!(rt; folder.put("f", b"abcde").is_ok());
-    assert!(rt; inputs_end_at_their_limit(&mut folder));
-    assert!(rt; pieces_are_read_at_their_place(&mut folder));
-    assert!(rt; files_are_read_to_their_limit(rt.alloc(), &mut folder));
-    assert!(rt; outputs_are_made_empty_and_grow(&mut folder));
-    assert!(rt; a_line_is_said(&mut folder));
+    let is_put = folder.put("f", b"abcde").is_ok();
+    assert!(rt; is_put && inputs_are_read(&mut folder));
+    assert!(rt; files_are_read(rt.alloc(), &mut folder));
+    assert!(rt; outputs_are_written(&mut folder));
 }
 
 /// Names of files, names of outputs, and whether they are apart.
@@ -259,9 +234,9 @@ fn names_of_outputs_are_apart_and_ends_have_their_words(rt: HostRuntime) {
     for (files, outputs, apart) in NAMES {
         assert!(rt; are_apart(files, outputs) == *apart);
     }
-    assert!(rt; Role::of_word(b"orig") == Some(Role::Originator));
-    assert!(rt; Role::of_word(b"answ") == Some(Role::Answerer));
-    assert!(rt; Role::of_word(b"origin") == None);
+    let orig = Role::of_word(b"orig") == Some(Role::Originator);
+    let answ = Role::of_word(b"answ") == Some(Role::Answerer);
+    assert!(rt; orig && answ && Role::of_word(b"origin") == None);
 }
 
 /// Whether a script has these delays, tries and first break of the originator.
@@ -295,67 +270,47 @@ fn scripts_say_what_the_line_does(rt: HostRuntime) {
     assert!(rt; noise_moves_a_sample(rt.alloc()));
 }
 
-/// Whether a fault has both these texts.
-fn shows<T: Display + Debug>(alloc: Global, fault: &T, display: &str, debug: &str) -> Option<bool> {
-    let shown = format!(in alloc; "{fault}").ok()?;
-    let other = format!(in alloc; "{fault:?}").ok()?;
-    Some(shown.as_str() == display && other.as_str() == debug)
-}
-
-/// Looks at both texts of each fault.
-fn show<T: Display + Debug>(rt: &impl Abort, alloc: Global, faults: &[(T, &str, &str)]) {
-    for (fault, display, debug) in faults {
-        assert!(rt;
-            shows(alloc, fault, display, debug) == Some(true),
-            "{debug}"
-        );
+/// Looks at both texts of each fault, which stand one behind the other.
+fn show<T: Display + Debug>(rt: &impl Abort, alloc: Global, faults: &[(T, &str)]) {
+    for (fault, texts) in faults {
+        let mut shown = String::new(alloc);
+        let _ = write!(shown, "{fault}, {fault:?}");
+        assert!(rt; shown.as_str() == *texts, "{texts}");
     }
 }
 
 /// Faults of fields and their texts.
-const FIELD_FAULTS: &[(XidFault, &str, &str)] = &[
-    (XidFault::Format, "format", "Format"),
-    (XidFault::Group { at: 3 }, "group at 3", "Group { at: 3 }"),
-    (
-        XidFault::Length { at: 4 },
-        "length at 4",
-        "Length { at: 4 }",
-    ),
-    (XidFault::Value { at: 5 }, "value at 5", "Value { at: 5 }"),
+const FIELD_FAULTS: &[(XidFault, &str)] = &[
+    (XidFault::Format, "format, Format"),
+    (XidFault::Group { at: 3 }, "group at 3, Group { at: 3 }"),
+    (XidFault::Length { at: 4 }, "length at 4, Length { at: 4 }"),
+    (XidFault::Value { at: 5 }, "value at 5, Value { at: 5 }"),
     (
         XidFault::Repeated { at: 16 },
-        "repeated at 16",
-        "Repeated { at: 16 }",
+        "repeated at 16, Repeated { at: 16 }",
     ),
 ];
 
 /// Faults of frames and their texts.
-const FRAME_FAULTS: &[(FrameFault, &str, &str)] = &[
+const FRAME_FAULTS: &[(FrameFault, &str)] = &[
     (
         FrameFault::Address { octet: 0x0a },
-        "address 0a",
-        "Address { octet: 10 }",
+        "address 0a, Address { octet: 10 }",
     ),
     (
         FrameFault::Control { octet: 0x7f },
-        "control 7f",
-        "Control { octet: 127 }",
+        "control 7f, Control { octet: 127 }",
     ),
-    (FrameFault::Short, "short", "Short"),
-    (
-        FrameFault::Long { len: 131 },
-        "long 131",
-        "Long { len: 131 }",
-    ),
+    (FrameFault::Short, "short, Short"),
+    (FrameFault::Long { len: 131 }, "long 131, Long { len: 131 }"),
 ];
 
 /// Faults of folders and their texts.
-const FOLDER_FAULTS: &[(FolderFault, &str, &str)] = &[
-    (FolderFault::Failed, "the folder failed", "Failed"),
+const FOLDER_FAULTS: &[(FolderFault, &str)] = &[
+    (FolderFault::Failed, "the folder failed, Failed"),
     (
         FolderFault::NoMemory,
-        "the folder found no memory",
-        "NoMemory",
+        "the folder found no memory, NoMemory",
     ),
 ];
 
@@ -364,5 +319,5 @@ fn faults_have_their_texts(rt: HostRuntime) {
     show(&rt, rt.alloc(), FIELD_FAULTS);
     show(&rt, rt.alloc(), FRAME_FAULTS);
     show(&rt, rt.alloc(), FOLDER_FAULTS);
-    show(&rt, rt.alloc(), &[(NoMemory, "no memory", "NoMemory")]);
+    show(&rt, rt.alloc(), &[(NoMemory, "no memory, NoMemory")]);
 }

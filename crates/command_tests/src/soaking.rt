@@ -1,5 +1,4 @@
 // Soaks, and words that spell no seed.
-use crate::stage::play;
 
 /// Seeds and what comes of them.
 const SCENARIOS: &str = r##"
@@ -31,5 +30,5 @@ begins said "soak 9 done "
 
 #[test]
 fn seeds_are_soaked(rt: HostRuntime) {
-    play(&rt, rt.alloc(), "soaking.rt", SCENARIOS);
+    crate::stage::play(&rt, rt.alloc(), "soaking.rt", SCENARIOS);
 }

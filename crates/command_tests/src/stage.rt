@@ -1,69 +1,48 @@
 // What plays scenarios: it goes over their lines, keeps the files and what the last command left, and names the line that doesn't hold.
 //
 // A step that can't be played answers `None`: a word is missing or wrong in its line, or memory wasn't found.
-use growing::Growing;
-use noting::NotingFolder;
+use looking::{agree, is_number};
+use noting::Ran;
 use outside_core::MemoryFolder;
 use std::alloc::Global;
 use std::process::Abort;
+use verb::{Verb, verb_of};
 
 mod asking;
-mod faults;
-mod growing;
 mod looking;
 mod making;
 mod noting;
 mod octets;
+mod verb;
 
 /// The line of a file of scenarios in which their text begins.
-const FIRST_LINE: usize = 5;
-
-/// How a command ended, and the folder as it left it.
-pub(crate) struct Ran {
-    /// The exit status.
-    pub(crate) code: u8,
-    /// The folder.
-    folder: NotingFolder,
-    /// The calls of it that were to fail.
-    fails: Vec<u64>,
-}
-
-impl Drop for Ran {
-    // for the prover: so it is dropped by a call, and its fields are not dropped anew wherever one is.
-    fn drop(self) {
-        let Ran {
-            code: _,
-            folder: _,
-            fails: _,
-        } = self;
-    }
-}
+const FIRST_LINE: u64 = 4;
 
 /// A scenario as far as it was played.
 pub(crate) struct Stage {
-    /// The names of the files that a command finds.
-    names: Vec<String>,
+    /// The names of the files that a command finds, with a space behind each.
+    names: String,
     /// What these files have.
     files: MemoryFolder,
-    /// The calls of the folder that fail while the next command runs.
-    fails: Vec<String>,
-    /// The file that grows while it runs.
-    growing: Growing,
+    /// What the file has that grows while the next command runs.
+    later: MemoryFolder,
+    /// The calls of the folder that fail while it runs, a line each.
+    fails: String,
     /// The words of the last command.
-    words: Vec<String>,
-    /// How it ended.
-    ran: Ran,
+    pub(crate) words: Vec<String>,
+    /// What it left.
+    pub(crate) ran: Ran,
     alloc: Global,
 }
 
 impl Drop for Stage {
-    // for the prover, as above
+    // for the prover, as that of what it left
     fn drop(self) {
         let Stage {
             names: _,
             files: _,
+            later: _,
             fails: _,
-            growing: _,
             words: _,
             ran: _,
             alloc: _,
@@ -75,10 +54,10 @@ impl Stage {
     /// The beginning of a scenario, without files.
     fn new(alloc: Global) -> Stage {
         Stage {
-            names: Vec::new(alloc),
+            names: String::new(alloc),
             files: MemoryFolder::new(alloc),
-            fails: Vec::new(alloc),
-            growing: Growing::new(alloc),
+            later: MemoryFolder::new(alloc),
+            fails: String::new(alloc),
             words: Vec::new(alloc),
             ran: Ran::new(alloc),
             alloc,
@@ -91,55 +70,46 @@ impl Stage {
         Some(true)
     }
 
+    /// Lets one call more fail while the next command runs. Where there is no memory for that, it doesn't.
+    fn fail_at(&mut self, call: &str) -> Option<bool> {
+        let _ = write!(self.fails, "{call}\n");
+        Some(true)
+    }
+
     /// Plays a line: whether what it says holds.
     pub(crate) fn step(&mut self, line: &str) -> Option<bool> {
         let line = line.trim();
-        let (verb, rest) = line.split_once(' ').unwrap_or((line, ""));
+        let (word, rest) = line.split_once(' ').unwrap_or((line, ""));
+        let verb = verb_of(word)?;
         match verb {
-            "" | "#" => Some(true),
-            "scenario" => self.begin(),
-            "fails" => self.fail_at(rest),
-            "ask" => self.ask(rest),
-            "keep" => self.keep(rest),
-            "usage" => self.is_no_command(rest),
-            "alike" => self.is_left_alike(rest),
-            "sweep" => self.is_cut_at_each_call(rest),
-            _ => self.look_or_make(verb, rest),
+            Verb::Nothing => Some(true),
+            Verb::Scenario => self.begin(),
+            Verb::Fails => self.fail_at(rest),
+            Verb::Ask => self.ask(rest),
+            Verb::Keep => self.keep(rest),
+            Verb::Usage => self.is_no_command(rest),
+            Verb::Alike => self.is_left_alike(rest),
+            Verb::Sweep => self.is_cut_at_each_call(rest),
+            Verb::Exit => is_number(usize::from(self.ran.code), rest),
+            Verb::Says => self.compares(Verb::Leaves, "said", rest),
+            Verb::IsNone | Verb::Kept => Some(agree(verb, &self.ran.folder, &self.files, rest)),
+            _ => self.step_of(verb, rest),
         }
     }
 
-    /// Plays a line that looks at what was left, or makes a file, or lets one grow.
-    fn look_or_make(&mut self, verb: &str, rest: &str) -> Option<bool> {
-        let (name, text) = rest.split_once(' ').unwrap_or((rest, ""));
+    /// Plays a line whose second word is the name of a file.
+    fn step_of(&mut self, verb: Verb, rest: &str) -> Option<bool> {
+        let (name, text) = rest.split_once(' ')?;
         match verb {
-            "grows" => self.grow(name, text),
-            "exit" => self.has_number(verb, name, rest),
-            "lines" | "length" => self.has_number(verb, name, text),
-            "says" => self.compares("leaves", "said", rest),
-            "leaves" | "begins" | "ends" | "holds" => self.compares(verb, name, text),
-            "none" | "kept" => Some(self.has_all(verb, rest)),
-            "line" => self.has_line(name, text, true),
-            "lacks" => self.has_line(name, text, false),
+            Verb::Lines => is_number(self.ran.count_lines(name), text),
+            Verb::Length => is_number(self.ran.octets(name)?.len(), text),
+            Verb::Leaves | Verb::Begins | Verb::Ends | Verb::Holds => {
+                self.compares(verb, name, text)
+            }
+            Verb::Line => self.has_line(name, text, true),
+            Verb::Lacks => self.has_line(name, text, false),
             _ => self.make(verb, name, text),
         }
-    }
-
-    /// Plays a line that makes a file.
-    fn make(&mut self, verb: &str, name: &str, text: &str) -> Option<bool> {
-        let mut octets = Vec::new(self.alloc);
-        self.write(&mut octets, verb, name, text)?;
-        self.put(name, &octets)
-    }
-
-    /// Lets a file have these octets, before the next command and now.
-    fn put(&mut self, name: &str, octets: &[u8]) -> Option<bool> {
-        if self.files.get(name).is_none() {
-            let name = String::from_str(self.alloc, name).ok()?;
-            self.names.push(name).ok()?;
-        }
-        self.files.put(name, octets).ok()?;
-        self.ran.folder.folder.put(name, octets).ok()?;
-        Some(true)
     }
 }
 
@@ -148,18 +118,19 @@ pub(crate) fn stage_behind(
     rt: &impl Abort,
     alloc: Global,
     file: &str,
-    first: usize,
+    first: u64,
     lines: &str,
 ) -> Stage {
     let mut stage = Stage::new(alloc);
-    for (place, line) in lines.lines().enumerate() {
-        let number = first.saturating_add(place);
+    let mut number = first;
+    for line in lines.lines() {
         let holds = stage.step(line);
+        let said = stage.ran.text("said").unwrap_or("no text");
         assert!(rt;
             holds == Some(true),
-            "{file}:{number}: {line}\nholds: {holds:?}, {}",
-            stage.ran
+            "{file}:{number}: {line}\n{holds:?}, and it said {said}"
         );
+        number = number.saturating_add(1);
     }
     stage
 }

@@ -1,8 +1,7 @@
 // Recordings of both ways of a line, tapped beside its script.
-use crate::stage::play;
 
 /// Recordings and what is tapped. Octets of a slot are put on the line as they are, so those of frames have no five ones in a row.
-const SCENARIOS: &str = r##"
+pub(crate) const SCENARIOS: &str = r##"
 scenario recordings are tapped
 # The originator's first segment, one octet, with its check of 16 bits and with one of 32 bits.
 file segment "\x03\x00\x00\x61\x9c\xab"
@@ -338,8 +337,3 @@ add trace "1 orig ua rsp p=1 > flags\n1 answ - > ui cmd p=0 brk 0 30\n"
 add trace "2 orig ui cmd p=0 brk 0 30 > none break=30\n2 answ - > none\n"
 leaves t trace
 "##;
-
-#[test]
-fn recordings_are_tapped(rt: HostRuntime) {
-    play(&rt, rt.alloc(), "tapping.rt", SCENARIOS);
-}

@@ -1,12 +1,10 @@
 // Ties, losses and the states of small codes.
 ghost use Rattle.std.specs.Prelude.{◌≡◌, ◌+◌, ◌≤◌, ◌<◌, [], None, IfOk, IsTrue, All};
 
-use super::assert_row;
+use super::{Row, assert_rows};
 use exact_decoder::{Decoder, Lost, ViterbiStep};
 use rate_4800::Rate4800;
-use shared_terms::NoMemory;
 use std::alloc::Global;
-use std::process::Abort;
 use symbol_map::{Sample, distance};
 use trellis_tables::{LabelReader, TrellisCode, V32Code, Way};
 
@@ -31,26 +29,20 @@ fn gives<
     decoder.take() == None && decoder.pending() == 0
 }
 
-// A sample is taken, and then this label alone is released, or none.
+// Whether a sample is taken, and then this label alone is released, or none.
 fn releases<
     const STATES: usize,
     const LABELS: usize,
     const DEPTH: usize,
     C: ViterbiStep<STATES, LABELS> + Drop,
->(
-    rt: &impl Abort,
-    decoder: &mut Decoder<C, STATES, LABELS, DEPTH>,
-    sample: Sample,
-    label: Option<u8>,
-)
+>(decoder: &mut Decoder<C, STATES, LABELS, DEPTH>, sample: Sample, label: Option<u8>) -> bool
     requires taken { decoder.old.pending ≡ [] }
     requires few { decoder.old.count ≤ 128 }
-    ensures taken { decoder.new.pending ≡ [] }
+    ensures taken { IsTrue result → decoder.new.pending ≡ [] }
     ensures count { decoder.new.count ≤ decoder.old.count + 1 }
-    ensures lost { decoder.new.lost ≡ None }
+    ensures lost { IsTrue result → decoder.new.lost ≡ None }
 {
-    assert!(rt; decoder.push(sample).is_ok());
-    assert!(rt; gives(decoder, label));
+    decoder.push(sample).is_ok() && gives(decoder, label)
 }
 
 // The label of the nearest of four points, of equally near ones the least, by all distances.
@@ -67,40 +59,66 @@ fn nearest_of_four(sample: Sample) -> u8
     least.1 % 4
 }
 
-// One row of samples, half a unit of the map or less apart: each is read at once as the nearest point.
-fn check_row(rt: &impl Abort, alloc: Global, im: i16) -> Result<(), NoMemory> {
-    let mut decoder: Decoder<Rate4800, 1, 4, 128> = Decoder::new(alloc, Rate4800, 0)?;
+// Whether a row of samples, half a unit of the map or less apart, is read at once, each as the nearest point.
+fn reads_row(decoder: &mut Decoder<Rate4800, 1, 4, 128>, im: i16) -> bool
+    requires count { decoder.old.count ≡ 0 }
+    requires taken { decoder.old.pending ≡ [] }
+    requires lost { decoder.old.lost ≡ None }
+    ensures taken { IsTrue result → decoder.new.pending ≡ [] }
+    ensures lost { IsTrue result → decoder.new.lost ≡ None }
+{
     for place in 0..128u32 {
         let re = (512 * place as i32 - 32768) as i16;
         let sample = Sample { re, im };
-        releases(rt, &mut decoder, sample, Some(nearest_of_four(sample)));
+        if !releases(decoder, sample, Some(nearest_of_four(sample))) {
+            return false;
+        }
     }
-    ends_with(rt, decoder, &[]);
-    Ok(())
+    true
 }
+
+/// The im of a row of samples that are read by the nearest of four points.
+struct ByFour(i16);
+
+impl Row for ByFour {
+    fn holds(&self, alloc: Global) -> bool {
+        match Decoder::new(alloc, Rate4800, 0) {
+            Ok(mut decoder) => reads_row(&mut decoder, self.0) && ends_with(decoder, &[]),
+            Err(_) => false,
+        }
+    }
+}
+
+const ROWS: &[(&str, ByFour)] = &[
+    ("-32768", ByFour(-32768)),
+    ("-6144", ByFour(-6144)),
+    ("-2049", ByFour(-2049)),
+    ("-2048", ByFour(-2048)),
+    ("-1", ByFour(-1)),
+    ("0", ByFour(0)),
+    ("1", ByFour(1)),
+    ("1024", ByFour(1024)),
+    ("2048", ByFour(2048)),
+    ("6145", ByFour(6145)),
+    ("32767", ByFour(32767)),
+];
 
 #[test]
-fn four_points_are_read_by_the_nearest(rt: HostRuntime) -> Result<(), NoMemory> {
-    for im in [
-        -32768i16, -6144, -2049, -2048, -1, 0, 1, 1024, 2048, 6145, 32767,
-    ] {
-        check_row(&rt, rt.alloc(), im)?;
-    }
-    Ok(())
+fn four_points_are_read_by_the_nearest(rt: HostRuntime) {
+    assert_rows(&rt, rt.alloc(), ROWS);
 }
 
-// The labels of a nearest sequence that were not released.
+// Whether these are the labels of a nearest sequence that were not released.
 fn ends_with<
     const STATES: usize,
     const LABELS: usize,
     const DEPTH: usize,
     C: ViterbiStep<STATES, LABELS> + Drop,
->(rt: &impl Abort, decoder: Decoder<C, STATES, LABELS, DEPTH>, labels: &[u8])
+>(decoder: Decoder<C, STATES, LABELS, DEPTH>, labels: &[u8]) -> bool
     requires taken { decoder.pending ≡ [] }
     requires lost { decoder.lost ≡ None }
 {
-    let tail = decoder.finish();
-    assert!(rt; tail.as_slice() == labels);
+    decoder.finish().as_slice() == labels
 }
 
 // Whether the labels carry these quads.
@@ -108,79 +126,139 @@ fn carry(labels: &[u8], quads: &[u8]) -> bool
     requires { All (λ label. label < 32) labels.now }
 {
     let mut reader = LabelReader::new();
-    for (label, quad) in labels.iter().zip(quads) {
+    let mut left = quads;
+    for label in labels {
+        let Some((quad, behind)) = left.split_first() else {
+            return false;
+        };
         if reader.push(*label) != *quad {
             return false;
         }
+        left = behind;
     }
-    labels.len() == quads.len()
+    left.is_empty()
+}
+
+// Whether what isn't released yet carries these quads.
+fn ends_carrying(decoder: Line, quads: &[u8]) -> bool
+    requires taken { decoder.pending ≡ [] }
+    requires lost { decoder.lost ≡ None }
+{
+    carry(decoder.finish().as_slice(), quads)
 }
 
 /// Two points, and the quads that their labels carry.
-const POINTS: &[(&str, (i16, i16), (i16, i16), [u8; 2])] = &[
-    ("the quads 0 and 4", (-8192, 2048), (0, 2048), [0, 4]),
-    ("an octet of zeros", (-8192, 2048), (-8192, 2048), [0, 0]),
-    ("the octet one", (-4096, 6144), (-4096, 6144), [1, 0]),
+struct Points((i16, i16), (i16, i16), [u8; 2]);
+
+impl Points {
+    fn are_heard(&self, mut decoder: Line) -> bool
+        requires count { decoder.count ≡ 0 }
+        requires taken { decoder.pending ≡ [] }
+    {
+        let (re, im) = self.0;
+        let first = Sample { re, im };
+        let (re, im) = self.1;
+        releases(&mut decoder, first, None)
+            && releases(&mut decoder, Sample { re, im }, None)
+            && ends_carrying(decoder, &self.2)
+    }
+}
+
+impl Row for Points {
+    fn holds(&self, alloc: Global) -> bool {
+        match Decoder::new(alloc, V32Code, 0) {
+            Ok(decoder) => self.are_heard(decoder),
+            Err(_) => false,
+        }
+    }
+}
+
+const POINTS: &[(&str, Points)] = &[
+    (
+        "the quads 0 and 4",
+        Points((-8192, 2048), (0, 2048), [0, 4]),
+    ),
+    (
+        "an octet of zeros",
+        Points((-8192, 2048), (-8192, 2048), [0, 0]),
+    ),
+    (
+        "the octet one",
+        Points((-4096, 6144), (-4096, 6144), [1, 0]),
+    ),
     (
         "the octet one, scrambled",
-        (-4096, 6144),
-        (4096, -6144),
-        [1, 2],
+        Points((-4096, 6144), (4096, -6144), [1, 2]),
     ),
 ];
 
 #[test]
-fn two_points(rt: HostRuntime) -> Result<(), NoMemory> {
-    for &(name, first, second, quads) in POINTS {
-        let mut decoder: Line = Decoder::new(rt.alloc(), V32Code, 0)?;
-        let (re, im) = first;
-        releases(&rt, &mut decoder, Sample { re, im }, None);
-        let (re, im) = second;
-        releases(&rt, &mut decoder, Sample { re, im }, None);
-        assert_row(&rt, name, carry(decoder.finish().as_slice(), &quads));
-    }
-    Ok(())
+fn two_points(rt: HostRuntime) {
+    assert_rows(&rt, rt.alloc(), POINTS);
 }
 
-// After 128 samples in the middle of the map all survivors tie.
-fn after_ties(rt: &impl Abort, alloc: Global) -> Result<Line, NoMemory>
-    ensures count { IfOk result (λ d. d.count ≤ 128) }
-    ensures pending { IfOk result (λ d. d.pending ≡ []) }
-    ensures lost { IfOk result (λ d. d.lost ≡ None) }
+// Whether nothing is released of 128 samples in the middle of the map. After these all survivors tie.
+fn ties(decoder: &mut Line) -> bool
+    requires count { decoder.old.count ≡ 0 }
+    requires taken { decoder.old.pending ≡ [] }
+    requires lost { decoder.old.lost ≡ None }
+    ensures count { decoder.new.count ≤ 128 }
+    ensures taken { IsTrue result → decoder.new.pending ≡ [] }
+    ensures lost { IsTrue result → decoder.new.lost ≡ None }
 {
-    let mut decoder: Line = Decoder::new(alloc, V32Code, 0)?;
     for symbol in 0..128u32 {
-        releases(rt, &mut decoder, MIDDLE, None);
+        if !releases(decoder, MIDDLE, None) {
+            return false;
+        }
     }
-    Ok(decoder)
+    true
+}
+
+/// The least of the tied survivors is that of the smallest state.
+fn smallest_is_least(mut decoder: Line) -> bool
+    requires count { decoder.count ≡ 0 }
+    requires taken { decoder.pending ≡ [] }
+    requires lost { decoder.lost ≡ None }
+{
+    ties(&mut decoder) && ends_carrying(decoder, &[4; 128])
 }
 
 #[test]
-fn of_ties_the_smallest_end_state(rt: HostRuntime) -> Result<(), NoMemory> {
-    let tail = after_ties(&rt, rt.alloc())?.finish();
-    assert!(&rt; carry(tail.as_slice(), &[4; 128]));
-    Ok(())
+fn of_ties_the_smallest_end_state(rt: HostRuntime) {
+    let holds = match Decoder::new(rt.alloc(), V32Code, 0) {
+        Ok(decoder) => smallest_is_least(decoder),
+        Err(_) => false,
+    };
+    assert!(rt; holds);
 }
 
-// The line is lost with this symbol, as often as a sample is pushed.
-fn loses(rt: &impl Abort, decoder: &mut Line, symbol: u64)
+// Whether the line is lost with this symbol, as often as a sample is pushed.
+fn loses(decoder: &mut Line, symbol: u64) -> bool
     requires taken { decoder.old.pending ≡ [] }
     requires few { decoder.old.count ≤ 129 }
-    ensures taken { decoder.new.pending ≡ [] }
+    ensures taken { IsTrue result → decoder.new.pending ≡ [] }
     ensures count { decoder.new.count ≤ decoder.old.count + 1 }
 {
     let lost = Lost { symbol };
-    let pushed = decoder.push(MIDDLE);
-    assert!(rt; pushed == Err(lost) && decoder.pending() == 0 && decoder.lost() == Some(lost));
+    decoder.push(MIDDLE) == Err(lost) && decoder.pending() == 0 && decoder.lost() == Some(lost)
+}
+
+// Whether a line of ties is lost with the symbol after the depth.
+fn is_lost(decoder: &mut Line) -> bool
+    requires count { decoder.old.count ≡ 0 }
+    requires taken { decoder.old.pending ≡ [] }
+    requires lost { decoder.old.lost ≡ None }
+{
+    ties(decoder) && decoder.lost() == None && loses(decoder, 128) && loses(decoder, 128)
 }
 
 #[test]
-fn lost_with_the_symbol_after_the_depth(rt: HostRuntime) -> Result<(), NoMemory> {
-    let mut decoder = after_ties(&rt, rt.alloc())?;
-    assert!(&rt; decoder.lost() == None);
-    loses(&rt, &mut decoder, 128);
-    loses(&rt, &mut decoder, 128);
-    Ok(())
+fn lost_with_the_symbol_after_the_depth(rt: HostRuntime) {
+    let holds = match Decoder::new(rt.alloc(), V32Code, 0) {
+        Ok(mut decoder) => is_lost(&mut decoder),
+        Err(_) => false,
+    };
+    assert!(rt; holds);
 }
 
 /// A code of two states, one of whose two labels changes the state.
@@ -273,18 +351,43 @@ impl TrellisCode<2, 2> for Flips {
 
 impl ViterbiStep<2, 2> for Flips {}
 
-// Survivors of both starts have the same labels and never meet in a state. Those of one start part with the first label.
+const LEFT: Sample = Sample { re: -900, im: 0 };
+
+const RIGHT: Sample = Sample { re: 900, im: 0 };
+
+// Survivors of both starts have the same labels and never meet in a state.
+fn of_any_start(any: &mut Decoder<Flips, 2, 2, 3>) -> bool
+    requires count { any.old.count ≡ 0 }
+    requires taken { any.old.pending ≡ [] }
+{
+    releases(any, LEFT, Some(0)) && releases(any, RIGHT, Some(1))
+}
+
+// Those of one start part with the first label.
+fn of_one_start(mut one: Decoder<Flips, 2, 2, 3>) -> bool
+    requires count { one.count ≡ 0 }
+    requires taken { one.pending ≡ [] }
+{
+    releases(&mut one, RIGHT, None) && ends_with(one, &[1])
+}
+
+// Whether labels are released so of decoders of any start and of one.
+fn starts_differ(alloc: Global) -> bool {
+    let Ok(mut any) = Decoder::new_any(alloc, Flips) else {
+        return false;
+    };
+    if !of_any_start(&mut any) {
+        return false;
+    }
+    match Decoder::new(alloc, Flips, 1) {
+        Ok(one) => of_one_start(one),
+        Err(_) => false,
+    }
+}
+
 #[test]
-fn labels_of_two_starts_are_released(rt: HostRuntime) -> Result<(), NoMemory> {
-    let left = Sample { re: -900, im: 0 };
-    let right = Sample { re: 900, im: 0 };
-    let mut any: Decoder<Flips, 2, 2, 3> = Decoder::new_any(rt.alloc(), Flips)?;
-    releases(&rt, &mut any, left, Some(0));
-    releases(&rt, &mut any, right, Some(1));
-    let mut one: Decoder<Flips, 2, 2, 3> = Decoder::new(rt.alloc(), Flips, 1)?;
-    releases(&rt, &mut one, right, None);
-    ends_with(&rt, one, &[1]);
-    Ok(())
+fn labels_of_two_starts_are_released(rt: HostRuntime) {
+    assert!(rt; starts_differ(rt.alloc()));
 }
 
 /// A code of 80 states in a circle. Each of its 80 labels leads as many states on.
@@ -378,15 +481,24 @@ impl TrellisCode<80, 80> for Laps {
 
 impl ViterbiStep<80, 80> for Laps {}
 
-// More states than a word has bits. Each end state but one has one label that was not sent, and of equal costs that is the last one; so all
-// labels but the last are released.
-#[test]
-fn codes_may_have_many_states(rt: HostRuntime) -> Result<(), NoMemory> {
+// Each end state but one has one label that was not sent, and of equal costs that is the last one; so all labels but the last are released.
+fn releases_all_but_one(mut decoder: Decoder<Laps, 80, 80, 2>) -> bool
+    requires count { decoder.count ≡ 0 }
+    requires taken { decoder.pending ≡ [] }
+{
     let sent = Sample { re: 10_000, im: 0 };
-    let mut decoder: Decoder<Laps, 80, 80, 2> = Decoder::new(rt.alloc(), Laps, 70)?;
-    releases(&rt, &mut decoder, sent, None);
-    releases(&rt, &mut decoder, sent, Some(79));
-    releases(&rt, &mut decoder, sent, Some(79));
-    ends_with(&rt, decoder, &[79]);
-    Ok(())
+    releases(&mut decoder, sent, None)
+        && releases(&mut decoder, sent, Some(79))
+        && releases(&mut decoder, sent, Some(79))
+        && ends_with(decoder, &[79])
+}
+
+// More states than a word has bits.
+#[test]
+fn codes_may_have_many_states(rt: HostRuntime) {
+    let holds = match Decoder::new(rt.alloc(), Laps, 70) {
+        Ok(decoder) => releases_all_but_one(decoder),
+        Err(_) => false,
+    };
+    assert!(rt; holds);
 }

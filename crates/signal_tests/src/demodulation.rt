@@ -1,13 +1,28 @@
 // The bits of the labels that octets are coded as.
+use super::{Row, assert_rows};
 use line_coding::{Demodulate, Demodulator};
 use scramblers::Mode;
+use std::alloc::Global;
+
+/// A mode, and two labels that give the octet 01.
+struct OctetOne(Mode, u8, u8);
+
+impl Row for OctetOne {
+    fn holds(&self, _alloc: Global) -> bool {
+        let mut demodulator = Demodulator::new(self.0);
+        demodulator.push(self.1 % 32) == 1 && demodulator.push(self.2 % 32) == 0
+    }
+}
+
+const LABELS: &[(&str, OctetOne)] = &[
+    ("in call mode (-2, 3) twice", OctetOne(Mode::Call, 8, 8)),
+    (
+        "in answer mode (-2, 3) and (2, -3)",
+        OctetOne(Mode::Answer, 8, 12),
+    ),
+];
 
 #[test]
 fn labels_give_the_octet_one_back(rt: HostRuntime) {
-    // The octet 01 in call mode is the label of (-2, 3) twice.
-    let mut call = Demodulator::new(Mode::Call);
-    assert!(&rt; [call.push(8), call.push(8)] == [1, 0]);
-    // In answer mode it is those of (-2, 3) and (2, -3).
-    let mut answer = Demodulator::new(Mode::Answer);
-    assert!(&rt; [answer.push(8), answer.push(12)] == [1, 0]);
+    assert_rows(&rt, rt.alloc(), LABELS);
 }

@@ -1,11 +1,9 @@
 // The decoder beside survivors as whole lists, which is the definition as plainly as can be.
-ghost use Rattle.std.specs.Prelude.{◌≡◌, ◌<◌, ◌≤◌, ◌^◌, [], length};
+ghost use Rattle.std.specs.Prelude.{◌≡◌, ◌<◌, ◌≤◌, ◌^◌, [], length, None, IsTrue};
 
-use super::assert_row;
+use super::{Row, assert_rows};
 use exact_decoder::{Decoder, Lost};
-use shared_terms::NoMemory;
 use std::alloc::Global;
-use std::process::Abort;
 use symbol_map::{Sample, distance};
 use trellis_tables::{Encoder, TrellisCode, V32Code};
 
@@ -228,16 +226,19 @@ impl Stream {
     }
 }
 
-fn take_all(rt: &impl Abort, decoder: &mut Line, taken: &mut Labels)
-    ensures pending { decoder.new.pending ≡ [] }
+// Takes all labels that are released, where there is room for them.
+fn take_all(decoder: &mut Line, taken: &mut Labels) -> bool
+    ensures pending { IsTrue result → decoder.new.pending ≡ [] }
     ensures count { decoder.new.count ≡ decoder.old.count }
 {
     for _ in 0..decoder.pending() {
         if let Some(label) = decoder.take() {
-            assert!(rt; taken.push(label));
+            if !taken.push(label) {
+                return false;
+            }
         }
     }
-    assert!(rt; decoder.pending() == 0);
+    decoder.pending() == 0
 }
 
 // Whether what all survivors begin with was taken, and the line is lost with this symbol where they have too much behind it.
@@ -253,143 +254,166 @@ fn agree(survivors: &Survivors, taken: &Labels, pushed: &Result<(), Lost>, symbo
     taken.as_slice() == released && *pushed == expected
 }
 
-// With which symbol the line is lost. Where it isn't, what was taken, and the labels behind it, are the least survivor.
-fn ends_alike(rt: &impl Abort, decoder: Line, survivors: &Survivors, taken: &Labels) -> Option<u64>
-    requires { decoder.pending ≡ [] }
+// Whether what was taken, and the labels behind it, are the least survivor.
+fn ends_alike(decoder: Line, survivors: &Survivors, taken: &Labels) -> bool
+    requires taken { decoder.pending ≡ [] }
+    requires not_lost { decoder.lost ≡ None }
 {
-    if let Some(lost) = decoder.lost() {
-        return Some(lost.symbol);
-    }
     let tail = decoder.finish();
     let mut whole = *taken;
     for label in tail.as_slice() {
-        assert!(rt; whole.push(*label));
+        if !whole.push(*label) {
+            return false;
+        }
     }
-    assert!(rt; whole.as_slice() == survivors.least());
-    None
+    whole.as_slice() == survivors.least()
 }
 
-// What a decoder gives that is handed at most so many samples at once, and with which symbol it loses
-// the line. As many calls as there are samples are enough.
-fn batched(
-    rt: &impl Abort,
-    alloc: Global,
+// Whether a decoder that is handed at most so many samples at once gives these labels, and loses the line with this symbol. As many
+// calls as there are samples are enough.
+fn is_batched(
+    decoder: &mut Line,
     samples: &[Sample],
     batch: usize,
-) -> Result<(Labels, Option<u64>), NoMemory>
-    requires { length samples.now ≤ 400 }
+    labels: &Labels,
+    lost: Option<u64>,
+) -> bool
+    requires few { length samples.now ≤ 400 }
+    requires count { decoder.old.count ≡ 0 }
+    requires pending { decoder.old.pending ≡ [] }
 {
-    let mut decoder: Line = Decoder::new(alloc, V32Code, 0)?;
     let mut taken = Labels::new();
     let mut at = 0usize;
+    let mut ended = None;
     for _ in 0..samples.len() {
         let end = samples.len().min(at.saturating_add(batch));
         let pushed = decoder.push_some(&samples[at..end]);
-        take_all(rt, &mut decoder, &mut taken);
+        if !take_all(decoder, &mut taken) {
+            return false;
+        }
         match pushed {
             Ok(heard) => at += heard,
-            Err(lost) => return Ok((taken, Some(lost.symbol))),
+            Err(lost) => {
+                ended = Some(lost.symbol);
+                break;
+            }
         }
     }
-    Ok((taken, None))
+    ended == lost && taken.as_slice() == labels.as_slice()
 }
 
 /// How many samples a decoder is handed at once.
 const BATCHES: &[usize] = &[2, 7, 128, 400];
 
-// Decoders that hear several samples at once give these labels, and lose the line with this symbol.
-fn batches_alike(
-    rt: &impl Abort,
-    alloc: Global,
-    samples: &[Sample],
-    taken: &Labels,
-    lost: Option<u64>,
-) -> Result<(), NoMemory>
+// Whether decoders that hear several samples at once give these labels, and lose the line with this symbol.
+fn batches_alike(alloc: Global, samples: &[Sample], labels: &Labels, lost: Option<u64>) -> bool
     requires { length samples.now ≤ 400 }
 {
     for &batch in BATCHES {
-        let (labels, ended) = batched(rt, alloc, samples, batch)?;
-        assert!(rt; ended == lost);
-        assert!(rt; labels.as_slice() == taken.as_slice());
+        let is_alike = match Decoder::new(alloc, V32Code, 0) {
+            Ok(mut decoder) => is_batched(&mut decoder, samples, batch, labels, lost),
+            Err(_) => false,
+        };
+        if !is_alike {
+            return false;
+        }
     }
-    Ok(())
+    true
 }
 
-// The samples of a stream, up to the one that loses the line: from the symbol `middle` on all lie in the
-// middle of the map. After each the decoder has released what all survivors begin with.
-fn samples_heard(
-    rt: &impl Abort,
+// Whether the decoder releases after each sample of a stream what all survivors begin with, up to the one that loses the line: from the
+// symbol `middle` on all lie in the middle of the map.
+fn hear_alike(
     decoder: &mut Line,
     survivors: &mut Survivors,
     taken: &mut Labels,
+    samples: &mut [Sample; SYMBOLS],
     spread: u32,
     middle: u32,
-) -> [Sample; SYMBOLS]
+) -> bool
     requires spread { spread < 2 ^ 12 }
     requires count { decoder.old.count ≡ 0 }
     requires pending { decoder.old.pending ≡ [] }
-    ensures { decoder.new.pending ≡ [] }
+    ensures { IsTrue result → decoder.new.pending ≡ [] }
 {
     let mut stream = Stream {
         encoder: Encoder::new(),
         word: 1,
     };
-    let mut samples = [Sample { re: 0, im: 0 }; SYMBOLS];
     for symbol in 0..400u32 {
         let sample = stream.sample_at(symbol, middle, spread);
         samples[symbol as usize] = sample;
         survivors.push(sample);
         let pushed = decoder.push(sample);
-        take_all(rt, decoder, taken);
-        assert!(rt; agree(survivors, taken, &pushed, symbol));
+        if !take_all(decoder, taken) || !agree(survivors, taken, &pushed, symbol) {
+            return false;
+        }
         if pushed.is_err() {
             break;
         }
     }
-    samples
+    true
 }
 
-// With which symbol the line is lost. Decoders that hear several samples at once give the same.
-fn lost_with(
-    rt: &impl Abort,
-    alloc: Global,
-    spread: u32,
-    middle: u32,
-) -> Result<Option<u64>, NoMemory>
-    requires { spread < 2 ^ 12 }
-{
-    let mut decoder: Line = Decoder::new(alloc, V32Code, 0)?;
-    let mut survivors = Survivors::new();
-    let mut taken = Labels::new();
-    let samples = samples_heard(rt, &mut decoder, &mut survivors, &mut taken, spread, middle);
-    let lost = ends_alike(rt, decoder, &survivors, &taken);
-    batches_alike(rt, alloc, &samples, &taken, lost)?;
-    Ok(lost)
+/// A spread, the symbol from which on all samples lie in the middle, and whether the line is lost, where that is known beforehand.
+struct Heard(u32, u32, Option<bool>);
+
+impl Heard {
+    /// Whether a decoder releases the same as the survivors, one sample by one and in batches, and loses the line as it is known beforehand.
+    fn is_alike(&self, alloc: Global, mut decoder: Line) -> bool
+        requires count { decoder.count ≡ 0 }
+        requires pending { decoder.pending ≡ [] }
+    {
+        let mut survivors = Survivors::new();
+        let mut taken = Labels::new();
+        let mut samples = [Sample { re: 0, im: 0 }; SYMBOLS];
+        let (spread, middle) = (self.0 % 4096, self.1);
+        if !hear_alike(
+            &mut decoder,
+            &mut survivors,
+            &mut taken,
+            &mut samples,
+            spread,
+            middle,
+        ) {
+            return false;
+        }
+        let lost = match decoder.lost() {
+            Some(lost) => Some(lost.symbol),
+            None => None,
+        };
+        let is_known = match self.2 {
+            Some(known) => known == lost.is_some(),
+            None => true,
+        };
+        is_known
+            && batches_alike(alloc, &samples, &taken, lost)
+            && (decoder.lost().is_some() || ends_alike(decoder, &survivors, &taken))
+    }
 }
 
-/// Spreads, the symbol from which on all samples lie in the middle, and whether the line is lost, where that is known beforehand.
-const STREAMS: &[(&str, u32, u32, Option<bool>)] = &[
-    ("points themselves", 1, 400, Some(false)),
-    ("a spread of 1001", 1001, 400, Some(false)),
-    ("a spread of 3001", 3001, 400, Some(false)),
-    ("a spread of 1001, and the middle", 1001, 40, Some(true)),
-    ("the middle", 1, 0, Some(true)),
-    ("half units", 0, 400, None),
+impl Row for Heard {
+    fn holds(&self, alloc: Global) -> bool {
+        match Decoder::new(alloc, V32Code, 0) {
+            Ok(decoder) => self.is_alike(alloc, decoder),
+            Err(_) => false,
+        }
+    }
+}
+
+const STREAMS: &[(&str, Heard)] = &[
+    ("points themselves", Heard(1, 400, Some(false))),
+    ("a spread of 1001", Heard(1001, 400, Some(false))),
+    ("a spread of 3001", Heard(3001, 400, Some(false))),
+    (
+        "a spread of 1001, and the middle",
+        Heard(1001, 40, Some(true)),
+    ),
+    ("the middle", Heard(1, 0, Some(true))),
+    ("half units", Heard(0, 400, None)),
 ];
 
-/// Whether the line is lost or not, as it is known beforehand.
-fn is_as_known(symbol: Option<u64>, lost: Option<bool>) -> bool {
-    match lost {
-        Some(known) => known == symbol.is_some(),
-        None => true,
-    }
-}
-
 #[test]
-fn both_release_the_same(rt: HostRuntime) -> Result<(), NoMemory> {
-    for &(name, spread, middle, lost) in STREAMS {
-        let symbol = lost_with(&rt, rt.alloc(), spread % 4096, middle)?;
-        assert_row(&rt, name, is_as_known(symbol, lost));
-    }
-    Ok(())
+fn both_release_the_same(rt: HostRuntime) {
+    assert_rows(&rt, rt.alloc(), STREAMS);
 }

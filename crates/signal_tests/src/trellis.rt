@@ -1,60 +1,57 @@
 // Quads coded and read again, and the code's states.
 ghost use Rattle.std.specs.Prelude.{◌≡◌, length};
 
-use super::assert_row;
+use super::{Row, assert_rows};
+use std::alloc::Global;
 use symbol_map::Sample;
 use trellis_tables::{Encoder, LabelReader, TrellisCode, V32Code, rotate_state};
 
-/// Quads, and the points that they are coded as.
-const CODED: &[(&str, &[u8], &[(i16, i16)])] = &[
+/// Quads, each with the point that it is coded as.
+struct Coded(&'static [(u8, (i16, i16))]);
+
+impl Row for Coded {
+    /// The quads are read back from their labels.
+    fn holds(&self, _alloc: Global) -> bool {
+        let mut encoder = Encoder::new();
+        let mut reader = LabelReader::new();
+        for &(quad, (re, im)) in self.0 {
+            let label = encoder.push(quad % 16);
+            if V32Code.point(label) != (Sample { re, im }) || reader.push(label) != quad {
+                return false;
+            }
+        }
+        true
+    }
+}
+
+const CODED: &[(&str, Coded)] = &[
     (
         "the octet 00 in call mode",
-        &[0x0, 0x0],
-        &[(-8192, 2048), (-8192, 2048)],
+        Coded(&[(0x0, (-8192, 2048)), (0x0, (-8192, 2048))]),
     ),
     (
         "the octet 01 in call mode",
-        &[0x1, 0x0],
-        &[(-4096, 6144), (-4096, 6144)],
+        Coded(&[(0x1, (-4096, 6144)), (0x0, (-4096, 6144))]),
     ),
     (
         "the octet 01 in answer mode, scrambled",
-        &[0x1, 0x2],
-        &[(-4096, 6144), (4096, -6144)],
+        Coded(&[(0x1, (-4096, 6144)), (0x2, (4096, -6144))]),
     ),
     (
         "the first symbol of a detection pattern",
-        &[0x2],
-        &[(8192, -2048)],
+        Coded(&[(0x2, (8192, -2048))]),
     ),
 ];
 
-// Whether quads become these points, and are read back from their labels.
-fn are_coded(quads: &[u8], points: &[(i16, i16)]) -> bool {
-    let mut encoder = Encoder::new();
-    let mut reader = LabelReader::new();
-    for (quad, (re, im)) in quads.iter().zip(points) {
-        let label = encoder.push(*quad % 16);
-        let point = Sample { re: *re, im: *im };
-        if V32Code.point(label) != point || reader.push(label) != *quad {
-            return false;
-        }
-    }
-    true
-}
-
 #[test]
 fn quads_become_points(rt: HostRuntime) {
-    for &(name, quads, points) in CODED {
-        assert_row(&rt, name, are_coded(quads, points));
-    }
+    assert_rows(&rt, rt.alloc(), CODED);
 }
 
 #[test]
 fn uncoded_bits_are_read(rt: HostRuntime) {
     let mut reader = LabelReader::new();
-    assert!(rt; reader.push(0) == 0x0);
-    assert!(rt; reader.push(2) == 0x4);
+    assert!(rt; reader.push(0) == 0x0 && reader.push(2) == 0x4);
 }
 
 // Whether each branch is found again from its end, whatever the code.
@@ -81,23 +78,28 @@ fn lead_on() -> bool {
         && V32Code.next(3, 8) == None
 }
 
-/// States, and what they are after a clockwise quarter turn of all points.
-const ROTATED: &[(u8, u8)] = &[
-    (0, 5),
-    (1, 6),
-    (2, 7),
-    (3, 4),
-    (4, 1),
-    (5, 2),
-    (6, 3),
-    (7, 0),
+/// A state, and what it is after a clockwise quarter turn of all points.
+struct Rotated(u8, u8);
+
+impl Row for Rotated {
+    fn holds(&self, _alloc: Global) -> bool {
+        rotate_state(self.0 % 8) == self.1
+    }
+}
+
+const ROTATED: &[(&str, Rotated)] = &[
+    ("state 0", Rotated(0, 5)),
+    ("state 1", Rotated(1, 6)),
+    ("state 2", Rotated(2, 7)),
+    ("state 3", Rotated(3, 4)),
+    ("state 4", Rotated(4, 1)),
+    ("state 5", Rotated(5, 2)),
+    ("state 6", Rotated(6, 3)),
+    ("state 7", Rotated(7, 0)),
 ];
 
 #[test]
 fn states_and_branches(rt: HostRuntime) {
-    assert!(rt; lead_on());
-    for &(state, rotated) in ROTATED {
-        assert!(rt; rotate_state(state % 8) == rotated, "{state}");
-    }
-    assert!(rt; are_found(&V32Code) && <V32Code as TrellisCode<8, 32>>::REACH == 2);
+    assert_rows(&rt, rt.alloc(), ROTATED);
+    assert!(rt; lead_on() && are_found(&V32Code) && <V32Code as TrellisCode<8, 32>>::REACH == 2);
 }

@@ -7,12 +7,3 @@ mod cut;
 mod reactions;
 #[cfg(test)]
 mod sizes;
-
-#[cfg(test)]
-use std::process::Abort;
-
-/// Stops at a row of a table that doesn't hold, and prints its name.
-#[cfg(test)]
-fn assert_row(rt: &impl Abort, name: &str, holds: bool) {
-    assert!(rt; holds, "{name}");
-}

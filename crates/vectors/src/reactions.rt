@@ -1,7 +1,5 @@
 // What an end does in its next turn, for each state that it can be in and each thing that it can hear.
 use std::alloc::Global;
-use std::process::Abort;
-use std::test::Fail;
 
 mod answerer;
 mod checks;
@@ -13,6 +11,7 @@ mod two_ends;
 
 use end::{Observed, Standing};
 use lapm_link::{LinkFault, Phase, Setup};
+use shared_terms::Role;
 use slot::{ARRIVALS, Slot};
 use stage::{STAGES, Stage};
 use xid_params::Offer;
@@ -70,47 +69,44 @@ fn closed(heard: Slot) -> Reaction {
 
 /// Whether an end does in this state at what it hears what the rules ask for.
 fn is_as_expected(alloc: Global, stage: Stage, heard: Slot) -> bool {
-    let Ok(standing) = Standing::at(alloc, stage) else {
+    let Some(standing) = Standing::at(alloc, stage) else {
         return false;
     };
     // where its user asks for a pause on the way to the state, it still does
-    let is_busy = stage.busy_from().is_some();
+    let is_busy = matches!(stage, Stage::Busy | Stage::BusyUntold);
     standing.react(heard, is_busy) == Observed::of(expected(stage, heard))
-}
-
-/// Stops where an end doesn't do in this state what the rules ask for.
-fn assert_reactions(rt: &impl Abort, alloc: Global, state: &str, stage: Stage) {
-    for &(arrival, heard) in ARRIVALS {
-        let holds = is_as_expected(alloc, stage, heard);
-        assert!(rt; holds, "{state} at {arrival}");
-    }
 }
 
 #[test]
 fn each_state_at_each_arrival(rt: HostRuntime) {
     for &(state, stage) in STAGES {
-        assert_reactions(&rt, rt.alloc(), state, stage);
+        for &(arrival, heard) in ARRIVALS {
+            let holds = is_as_expected(rt.alloc(), stage, heard);
+            assert!(rt; holds, "{state} at {arrival}");
+        }
     }
 }
 
-/// The widest windows are set up where there is memory for them.
+/// Whether there is memory for an end's widest windows.
+fn has_widest_windows(alloc: Global, role: Role) -> bool {
+    let setup = Setup {
+        role,
+        offer: Offer {
+            tx_window: 127,
+            rx_window: 127,
+            tx_len: 128,
+            rx_len: 128,
+            srej: false,
+            check32: false,
+        },
+        tries: 5,
+        period: 60,
+    };
+    Standing::new(alloc, setup).is_ok()
+}
+
 #[test]
-fn ends_have_windows_of_127_segments(rt: HostRuntime) -> Result<(), Fail> {
-    for stage in [Stage::OriginatorDetecting, Stage::AnswererDetecting] {
-        let setup = Setup {
-            role: stage.role(),
-            offer: Offer {
-                tx_window: 127,
-                rx_window: 127,
-                tx_len: 128,
-                rx_len: 128,
-                srej: false,
-                check32: false,
-            },
-            tries: 5,
-            period: 60,
-        };
-        Standing::new(rt.alloc(), setup)?;
-    }
-    Ok(())
+fn ends_have_windows_of_127_segments(rt: HostRuntime) {
+    assert!(rt; has_widest_windows(rt.alloc(), Role::Originator));
+    assert!(rt; has_widest_windows(rt.alloc(), Role::Answerer));
 }

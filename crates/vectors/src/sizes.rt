@@ -1,5 +1,4 @@
 // The sizes and limits of all crates.
-use super::assert_row;
 use bit_stuffing::{HEAD, SHORTEST, TAIL};
 use command_base::{HEX_LIMIT, RECORDING_LIMIT};
 use frame_check::{INFO, SLOT, WHOLE};
@@ -35,6 +34,6 @@ const SIZES: &[(&str, u64, u64)] = &[
 #[test]
 fn sizes_and_limits(rt: HostRuntime) {
     for &(name, size, number) in SIZES {
-        assert_row(&rt, name, size == number);
+        assert!(rt; size == number, "{name}");
     }
 }

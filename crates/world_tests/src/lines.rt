@@ -6,22 +6,45 @@ ghost use Rattle.lapm_frames.specs.Sendable.{IsSendable};
 ghost use Rattle.sample_line.specs.Line.{LineStands, sender_of};
 ghost use Rattle.sample_line.specs.Coder.{CoderStands};
 
+use super::{Row, assert_rows};
 use bit_stuffing::BitSlot;
 use exact_decoder::Lost;
 use frame_check::{Check, SLOT};
 use lapm_frames::Sent;
-use noise_script::{Script, read_script};
+use noise_script::{SCRIPT_OCTETS, Script, read_script};
 use sample_line::{Coder, Heard, LabelSlot, Line, laws};
-use shared_terms::Role;
+use shared_terms::{NoMemory, Role};
 use std::alloc::Global;
-use std::test::Fail;
 
 mod chance;
 mod forged;
 mod frames;
-mod losses;
 mod noise;
 mod zero;
+
+use frames::{Message, sent};
+
+/// What is heard of a slot, beside what was sent.
+#[derive(Clone, Copy, PartialEq, Eq)]
+enum Outcome {
+    /// What was sent passes; of ones and of flags nothing is heard.
+    AsSent,
+    /// What was sent is lost.
+    Lost,
+    Chance,
+    Other,
+}
+
+fn outcome_of(heard: &Heard, sent: &Sent) -> Outcome {
+    let is_quiet = matches!(sent, Sent::Mark | Sent::Flags);
+    match heard {
+        Heard::Nothing if is_quiet => Outcome::AsSent,
+        Heard::Passed(passed) if !is_quiet && passed == sent => Outcome::AsSent,
+        Heard::Lost(lost) if lost == sent => Outcome::Lost,
+        Heard::Chance => Outcome::Chance,
+        _ => Outcome::Other,
+    }
+}
 
 /// Codes the next slot by one check, passes it, and judges it by the other check.
 fn through(
@@ -31,6 +54,7 @@ fn through(
     sent: &Sent,
     coded: Check,
     judged: Check,
+    loses: bool,
 ) -> Result<Heard, Lost>
     requires symbols { line.old.symbols ≡ SLOT }
     requires coded { coder.old.writer.symbols ≡ SLOT }
@@ -48,55 +72,59 @@ fn through(
     let mut bits = BitSlot::new();
     let mut labels = LabelSlot::new();
     coder.code(sent, coded, 0, &mut bits, &mut labels);
-    line.pass(script, &labels, sent, false, judged, 0)
+    line.pass(script, &labels, sent, loses, judged, 0)
 }
 
-/// What is heard of a line's first slot of so many symbols, where flags are sent and may be lost.
-fn flags_heard(
-    alloc: Global,
-    sender: Role,
-    symbols: u16,
+/// What becomes of a message so.
+fn message_through(
+    coder: &mut Coder,
+    line: &mut Line,
     script: &Script,
+    message: &Message,
+    coded: Check,
+    judged: Check,
     loses: bool,
-) -> Result<Result<Heard, Lost>, Fail>
-    requires some { 464 ≤ symbols }
-    requires few { symbols ≤ SLOT }
+) -> Result<Outcome, Lost>
+    requires symbols { line.old.symbols ≡ SLOT }
+    requires coded { coder.old.writer.symbols ≡ SLOT }
+    requires sender { sender_of line.old ≡ coder.old.sender }
+    requires few { line.old.passed < 2 ^ 40 }
+    requires stands { (passed : List Signal) × LineStands line.old script.now passed × CoderStands coder.old passed }
+    ensures symbols { line.new.symbols ≡ SLOT }
+    ensures coded { coder.new.writer.symbols ≡ SLOT }
+    ensures sender { sender_of line.new ≡ coder.new.sender }
+    ensures passed { line.new.passed ≡ line.old.passed + 1 }
+    ensures stands { OnOk result ((passed : List Signal) × LineStands line.new script.now passed × CoderStands coder.new passed) }
 {
-    let mut line = Line::new(alloc, sender, symbols)?;
-    let mut bits = BitSlot::new();
-    let mut labels = LabelSlot::new();
-    Coder::new(sender, symbols).code(&Sent::Flags, Check::Sixteen, 0, &mut bits, &mut labels);
-    Ok(line.pass(script, &labels, &Sent::Flags, loses, Check::Sixteen, 0))
-}
-
-/// Whether a slot is heard as it was sent.
-fn is_as_sent(heard: &Heard, sent: &Sent) -> bool {
-    match heard {
-        Heard::Nothing => matches!(sent, Sent::Mark | Sent::Flags),
-        Heard::Passed(passed) => passed == sent,
-        Heard::Lost(_) | Heard::Chance => false,
+    let sent = sent(message);
+    match through(coder, line, script, &sent, coded, judged, loses) {
+        Ok(heard) => Ok(outcome_of(&heard, &sent)),
+        Err(lost) => Err(lost),
     }
 }
 
-/// What is heard over a line that isn't lost.
-fn kept(heard: Result<Heard, Lost>) -> Result<Heard, Fail> {
-    Ok(heard.map_err(|_| "the line is lost")?)
-}
+/// The symbols of the shortest slots here.
+const SYMBOLS: u16 = 464;
 
-/// What is heard of a line's first slot.
-fn first_slot(
-    alloc: Global,
-    sender: Role,
-    script: &Script,
-    sent: &Sent,
-    coded: Check,
-    judged: Check,
-) -> Result<Heard, Fail>
-    requires { IsSendable sent.now }
-{
-    let mut coder = Coder::new(sender, SLOT as u16);
-    let mut line = Line::new(alloc, sender, SLOT as u16)?;
-    kept(through(&mut coder, &mut line, script, sent, coded, judged))
+/// What becomes of an originator's flags in a first slot of 464 symbols, where there is memory.
+fn flags_through(alloc: Global, text: &[u8]) -> Option<Result<Outcome, Lost>> {
+    if text.len() > SCRIPT_OCTETS {
+        return None;
+    }
+    let Ok(script) = read_script(alloc, text) else {
+        return None;
+    };
+    let Ok(mut line) = Line::new(alloc, Role::Originator, SYMBOLS) else {
+        return None;
+    };
+    let mut bits = BitSlot::new();
+    let mut labels = LabelSlot::new();
+    let mut coder = Coder::new(Role::Originator, SYMBOLS);
+    coder.code(&Sent::Flags, Check::Sixteen, 0, &mut bits, &mut labels);
+    match line.pass(&script, &labels, &Sent::Flags, false, Check::Sixteen, 0) {
+        Ok(heard) => Some(Ok(outcome_of(&heard, &Sent::Flags))),
+        Err(lost) => Some(Err(lost)),
+    }
 }
 
 /// The label with which a place is tried: each label stands at each of eight places that follow one another.
@@ -106,21 +134,25 @@ fn tried_at(i: usize) -> u8
     ((i % 32 + i / 8 % 32 * 5) % 32) as u8
 }
 
-#[test]
-fn a_full_slot_keeps_its_labels(rt: HostRuntime) {
-    let mut labels = LabelSlot::new();
+/// Whether a slot keeps as many labels as it has room for, and one once it is cleared.
+fn keeps_labels(labels: &mut LabelSlot) -> bool {
     for i in 0..SLOT {
         if labels.len() < SLOT {
             labels.push(tried_at(i));
         }
     }
-    assert!(rt; labels.len() == SLOT);
-    let mut same = true;
-    for i in 0..labels.len() {
-        same = same && labels.label(i) == tried_at(i);
+    let count = labels.len();
+    for i in 0..count {
+        if labels.label(i) != tried_at(i) {
+            return false;
+        }
     }
-    assert!(rt; same);
     labels.clear();
     labels.push(tried_at(9));
-    assert!(rt; labels.len() == 1 && labels.label(0) == tried_at(9));
+    count == SLOT && labels.len() == 1 && labels.label(0) == tried_at(9)
+}
+
+#[test]
+fn a_full_slot_keeps_its_labels(rt: HostRuntime) {
+    assert!(rt; keeps_labels(&mut LabelSlot::new()));
 }

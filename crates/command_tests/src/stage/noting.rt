@@ -2,40 +2,47 @@
 ghost use Rattle.std.specs.Prelude.{◌≡◌, false};
 ghost use Rattle.outside_core.specs.Memory.{memory_folder};
 
-use super::growing::Growing;
 use outside_calls::{Folder, FolderFault};
 use outside_core::MemoryFolder;
 use std::alloc::Global;
 
-/// A folder in memory that notes each call in a line: its kind, its name, the place that it reads from, and how many octets it reads at most,
-/// or puts. No name is known of it, since a file of it may grow between two calls.
-pub(crate) struct NotingFolder {
+/// What a command ran over and left. Each call of the folder is noted in a line: its kind, its name, the place that it reads from, and how many octets
+/// it reads at most, or puts. No name is known of it, since a file of it may grow between two calls.
+pub(crate) struct Ran {
     /// The files.
     pub(crate) folder: MemoryFolder,
+    /// What the file that grows has from the second read of its name on: the first one looks at its length.
+    pub(super) later: MemoryFolder,
+    /// How many reads of it were made.
+    reads: u64,
     /// The lines.
-    pub(crate) notes: String,
-    /// The file that grows.
-    pub(super) growing: Growing,
+    pub(super) notes: String,
+    /// The exit status.
+    pub(crate) code: u8,
 }
 
-impl Drop for NotingFolder {
+impl Drop for Ran {
     // for the prover: so it is dropped by a call, and its fields are not dropped anew wherever one is.
     fn drop(self) {
-        let NotingFolder {
+        let Ran {
             folder: _,
+            later: _,
+            reads: _,
             notes: _,
-            growing: _,
+            code: _,
         } = self;
     }
 }
 
-impl NotingFolder {
-    /// A folder without files, of which nothing was asked.
-    pub(crate) fn new(alloc: Global) -> NotingFolder {
-        NotingFolder {
+impl Ran {
+    /// What there is before the first command: a folder without files, of which nothing was asked.
+    pub(super) fn new(alloc: Global) -> Ran {
+        Ran {
             folder: MemoryFolder::new(alloc),
+            later: MemoryFolder::new(alloc),
+            reads: 0,
             notes: String::new(alloc),
-            growing: Growing::new(alloc),
+            code: 0,
         }
     }
 
@@ -53,13 +60,16 @@ impl NotingFolder {
         ensures writes { self.new.folder.write_faults ≡ self.old.folder.write_faults }
         ensures refusals { self.new.folder.refusals ≡ self.old.folder.refusals }
     {
-        if self.growing.is_due(name) {
-            let _ = self.folder.put(name, &self.growing.octets);
+        if let Some(octets) = self.later.get(name) {
+            self.reads = self.reads.saturating_add(1);
+            if self.reads == 2 {
+                let _ = self.folder.put(name, octets);
+            }
         }
     }
 }
 
-impl Folder for NotingFolder {
+impl Folder for Ran {
     ghost state = { λ f. record (memory_folder f.folder) { tells = λ _. false } };
 
     ghost came = { λ a b. Unit {0} };

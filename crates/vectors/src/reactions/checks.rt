@@ -1,7 +1,6 @@
 // The check that an end's frames with numbers have, turn by turn.
 use super::end::Standing;
 use super::slot::{Kind, Says, Slot, Supervisory, offer};
-use crate::assert_row;
 use frame_check::Check;
 use lapm_link::Setup;
 use shared_terms::Role;
@@ -120,26 +119,7 @@ const AGREEMENTS: &[Agreement] = &[
     },
 ];
 
-/// The end behind a turn in which it hears this, where it then has this check.
-fn checked(standing: Standing, heard: Slot, check: Check) -> Option<Standing> {
-    match standing.behind(heard, b"", false, false) {
-        Ok(next) if next.check() == check => Some(next),
-        _ => None,
-    }
-}
-
-/// Whether an end has the checks of these turns.
-fn goes_through(mut standing: Standing, turns: &[(Slot, Check)]) -> bool {
-    for &(heard, check) in turns {
-        let Some(next) = checked(standing, heard, check) else {
-            return false;
-        };
-        standing = next;
-    }
-    true
-}
-
-/// Whether an end has the checks of this agreement.
+/// Whether an end has the checks of this agreement, turn by turn.
 fn has_checks(alloc: Global, agreement: &Agreement) -> bool {
     let setup = Setup {
         role: agreement.role,
@@ -147,15 +127,25 @@ fn has_checks(alloc: Global, agreement: &Agreement) -> bool {
         tries: 5,
         period: 60,
     };
-    match Standing::new(alloc, setup) {
-        Ok(standing) => goes_through(standing, agreement.turns),
-        Err(_) => false,
+    let Ok(mut standing) = Standing::new(alloc, setup) else {
+        return false;
+    };
+    for &(heard, check) in agreement.turns {
+        match standing.behind(heard, b"", false, false) {
+            Some(next) => standing = next,
+            None => return false,
+        }
+        if standing.end.check() != check {
+            return false;
+        }
     }
+    true
 }
 
 #[test]
 fn the_check_changes_with_the_agreement(rt: HostRuntime) {
     for agreement in AGREEMENTS {
-        assert_row(&rt, agreement.name, has_checks(rt.alloc(), agreement));
+        let holds = has_checks(rt.alloc(), agreement);
+        assert!(rt; holds, "{}", agreement.name);
     }
 }

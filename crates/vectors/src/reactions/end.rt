@@ -1,5 +1,5 @@
 // An end that is taken to a state, and what it then does.
-ghost use Rattle.std.specs.Prelude.{◌≡◌, ◌+◌, ◌*◌, ◌≤◌, None, IfOk};
+ghost use Rattle.std.specs.Prelude.{◌≡◌, ◌+◌, ◌*◌, ◌≤◌, None, IfOk, IfSome};
 ghost use Rattle.lapm_link.specs.Fits.{IsSetUp};
 ghost use Rattle.lapm_link.specs.Stands.{TakesNothing, taken_of, undelivered_of, waiting_of};
 ghost use Rattle.link_account.specs.Numbers.{IsNumbered};
@@ -8,7 +8,7 @@ ghost use Rattle.vectors.specs.declared.reactions.end.TheConstants.{LATEST};
 use super::Reaction;
 use super::slot::Slot;
 use super::stage::Stage;
-use frame_check::{Check, Info};
+use frame_check::Info;
 use lapm_link::{AnyEnd, Arrived, Broken, Detecting, LinkFault, Phase, Sent, Setup};
 use shared_terms::NoMemory;
 use std::alloc::Global;
@@ -35,7 +35,7 @@ const LATEST: u64 = 16;
 /// An end that has spoken in the turn before this one.
 #[derive(Drop)]
 pub(super) struct Standing {
-    end: AnyEnd,
+    pub(super) end: AnyEnd,
     turn: u64,
     ghost early: { turn ≤ LATEST },
     ghost counted: { taken_of end ≤ 128 * turn },
@@ -44,17 +44,17 @@ pub(super) struct Standing {
 }
 
 /// Takes what is delivered, which is one segment at the most.
-fn take(end: &mut AnyEnd, got: &mut Info) -> Result<(), &'static str>
+fn take(end: &mut AnyEnd, got: &mut Info) -> Option<()>
     ensures takes_nothing { TakesNothing end.old end.new }
-    ensures delivered { IfOk result (λ _. undelivered_of end.new ≡ 0) }
+    ensures delivered { IfSome result (λ _. undelivered_of end.new ≡ 0) }
 {
     if !end.deliver(got) {
-        return Ok(());
+        return Some(());
     }
     if !end.deliver(got) {
-        return Ok(());
+        return Some(());
     }
-    Err("two segments in one turn")
+    None
 }
 
 /// Offers the file, where it is wanted.
@@ -98,14 +98,6 @@ fn speak(end: AnyEnd, turn: u64, release: bool, sent: &mut Sent) -> Result<AnyEn
     end.speak(turn, release, sent)
 }
 
-/// Whether a turn that may be none has come.
-fn is_reached(from: Option<u64>, turn: u64) -> bool {
-    match from {
-        Some(from) => from <= turn,
-        None => false,
-    }
-}
-
 impl Standing {
     pub(super) fn new(alloc: Global, setup: Setup) -> Result<Standing, NoMemory>
         requires { IsSetUp setup }
@@ -117,20 +109,13 @@ impl Standing {
     }
 
     /// An end that has spoken in each turn in which it heard what leads to this state.
-    pub(super) fn at(alloc: Global, stage: Stage) -> Result<Standing, &'static str> {
-        let Ok(mut standing) = Standing::new(alloc, stage.setup()) else {
-            return Err("no memory");
-        };
+    pub(super) fn at(alloc: Global, stage: Stage) -> Option<Standing> {
+        let mut standing = Standing::new(alloc, stage.setup()).ok()?;
         for heard in stage.heard() {
-            standing = standing.on_the_way(stage, *heard)?;
+            let busy = stage.busy_from() <= standing.turn;
+            standing = standing.behind(*heard, stage.file(), stage.releases(), busy)?;
         }
-        Ok(standing)
-    }
-
-    /// The end behind one turn more of those that lead to this state.
-    fn on_the_way(self, stage: Stage, heard: Slot) -> Result<Standing, &'static str> {
-        let busy = is_reached(stage.busy_from(), self.turn);
-        self.behind(heard, stage.file(), stage.releases(), busy)
+        Some(standing)
     }
 
     /// The end behind a turn in which it hears this, whatever it gets and sends then.
@@ -140,10 +125,17 @@ impl Standing {
         file: &[u8],
         release: bool,
         busy: bool,
-    ) -> Result<Standing, &'static str> {
+    ) -> Option<Standing> {
         let mut got = Info::new();
         let mut sent = Sent::Mark;
-        self.turn(&heard.arrived(), file, release, busy, &mut got, &mut sent)
+        self.turn(
+            &heard.arrived(b'h'),
+            file,
+            release,
+            busy,
+            &mut got,
+            &mut sent,
+        )
     }
 
     /// Hears, takes what is delivered and given, is offered its file where it wants that, and speaks.
@@ -155,52 +147,36 @@ impl Standing {
         busy: bool,
         got: &mut Info,
         sent: &mut Sent,
-    ) -> Result<Standing, &'static str>
+    ) -> Option<Standing>
         requires { IsNumbered arrived.now }
     {
         let Standing { end, turn } = self;
         let Ok(mut end) = hear(end, turn, arrived) else {
-            return Err("the link broke at hearing");
+            return None;
         };
         take(&mut end, got)?;
         serve(&mut end, file, busy);
         let Ok(end) = speak(end, turn, release, sent) else {
-            return Err("the link broke at speaking");
+            return None;
         };
         if turn >= LATEST {
-            return Err("too many turns");
+            return None;
         }
-        Ok(Standing {
+        Some(Standing {
             end,
             turn: turn + 1,
         })
     }
 
-    pub(super) fn phase(&self) -> Phase {
-        self.end.phase()
-    }
-
-    /// The check of the end's frames with numbers.
-    pub(super) fn check(&self) -> Check {
-        self.end.check()
-    }
-
-    pub(super) fn end(self) -> AnyEnd {
-        self.end
-    }
-
     /// How the link breaks by what the end hears in this turn.
-    pub(super) fn broken_by(self, heard: Slot) -> Result<Broken, &'static str> {
-        match hear(self.end, self.turn, &heard.arrived()) {
-            Ok(_) => Err("the link goes on"),
-            Err(broken) => Ok(broken),
-        }
+    pub(super) fn broken_by(self, heard: Slot) -> Option<Broken> {
+        hear(self.end, self.turn, &heard.arrived(b'h')).err()
     }
 
     /// What the end does in this turn.
     pub(super) fn react(self, heard: Slot, busy: bool) -> Observed {
         let Standing { end, turn } = self;
-        let mut end = match hear(end, turn, &heard.arrived()) {
+        let mut end = match hear(end, turn, &heard.arrived(b'h')) {
             Ok(end) => end,
             Err(broken) => return Observed::Broke(broken.fault),
         };

@@ -362,14 +362,14 @@ impl Slot {
         }
     }
 
-    /// The slot as an end hears it.
-    pub(super) fn arrived(self) -> Arrived
+    /// The slot as an end hears it. The information of an I frame is this octet.
+    pub(super) fn arrived(self, octet: u8) -> Arrived
         ensures { IsNumbered result }
     {
         match self {
             Slot::Odp => Arrived::Pattern(Seen::Odp),
             Slot::Adp => Arrived::Pattern(Seen::Adp),
-            _ => match self.frame(b'h') {
+            _ => match self.frame(octet) {
                 None => Arrived::Nothing,
                 Some(frame) => Arrived::Frame(frame),
             },

@@ -157,12 +157,12 @@ impl Stage {
         }
     }
 
-    /// The turn from which on the end's user asks for a pause, where it does.
-    pub(super) fn busy_from(self) -> Option<u64> {
+    /// The turn from which on the end's user asks for a pause, or none that comes.
+    pub(super) fn busy_from(self) -> u64 {
         match self {
-            Stage::Busy => Some(0),
-            Stage::BusyUntold => Some(self.heard().len() as u64),
-            _ => None,
+            Stage::Busy => 0,
+            Stage::BusyUntold => self.heard().len() as u64,
+            _ => u64::MAX,
         }
     }
 

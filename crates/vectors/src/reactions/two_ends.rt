@@ -1,7 +1,5 @@
-// Two ends over two lines of one turn's delay, and an end by itself.
-ghost use Rattle.std.specs.Prelude.{IsTrue};
+// Both ends of two lines of one turn's delay, each against what the other one sends, and an end by itself.
 ghost use Rattle.lapm_link.specs.Fits.{IsSetUp};
-ghost use Rattle.link_account.specs.Numbers.{HasNumbers, IsNumbered};
 
 use super::end::Standing;
 use super::slot::Kind::{Command, Response};
@@ -11,11 +9,9 @@ use super::slot::Supervisory::Rr;
 use super::slot::offer;
 use super::stage::Stage;
 use frame_check::Info;
-use lapm_frames::{Frame, Seen};
-use lapm_link::{AnyEnd, Arrived, Closed, LinkFault, Phase, Sent, Setup};
-use shared_terms::{NoMemory, Role};
+use lapm_link::{AnyEnd, Closed, LinkFault, Phase, Sent, Setup};
+use shared_terms::Role;
 use std::alloc::Global;
-use std::test::Fail;
 
 /// What the originator and the answerer send in each turn, where each has a file of one octet.
 const LINES: &[(Slot, Slot)] = &[
@@ -48,139 +44,65 @@ fn setup(role: Role) -> Setup
     }
 }
 
-fn is_numbered(frame: &Frame) -> bool
-    ensures { IsTrue result → HasNumbers frame.now }
-{
-    match frame {
-        Frame::I { ns, nr, .. } => *ns < 128 && *nr < 128,
-        Frame::Rr { nr, .. }
-        | Frame::Rnr { nr, .. }
-        | Frame::Rej { nr, .. }
-        | Frame::Srej { nr, .. } => *nr < 128,
-        _ => true,
-    }
-}
-
-/// What the other end hears of what was sent.
-fn arrival(sent: &Sent) -> Arrived
-    ensures { IsNumbered result }
-{
-    match sent {
-        Sent::Mark | Sent::Flags => Arrived::Nothing,
-        Sent::Odp => Arrived::Pattern(Seen::Odp),
-        Sent::Adp => Arrived::Pattern(Seen::Adp),
-        Sent::Frame(frame) => {
-            if is_numbered(frame) {
-                Arrived::Frame(frame.copy())
-            } else {
-                Arrived::Nothing
-            }
-        }
-    }
-}
-
-/// An end, its file, what it got, and what it sent last.
-#[derive(Drop)]
-struct Station {
+/// An end behind a turn in which it hears this of the other one, if it then sends its line.
+fn behind(
     standing: Standing,
-    file: u8,
-    got: Info,
-    sent: Sent,
-}
-
-impl Station {
-    fn new(alloc: Global, role: Role, file: u8) -> Result<Station, NoMemory> {
-        Ok(Station {
-            standing: Standing::new(alloc, setup(role))?,
-            file,
-            got: Info::new(),
-            sent: Sent::Mark,
-        })
-    }
-
-    /// Hears and then speaks.
-    fn turn(self, arrived: Arrived, release: bool) -> Result<Station, &'static str>
-        requires { IsNumbered arrived }
-    {
-        let Station {
-            standing,
-            file,
-            mut got,
-            mut sent,
-        } = self;
-        let standing = standing.turn(&arrived, &[file], release, false, &mut got, &mut sent)?;
-        Ok(Station {
-            standing,
-            file,
-            got,
-            sent,
-        })
-    }
-}
-
-/// Two ends, and what each sent last on its way to the other.
-#[derive(Drop)]
-struct Pair {
-    originator: Station,
-    answerer: Station,
-}
-
-impl Pair {
-    fn new(alloc: Global) -> Result<Pair, NoMemory> {
-        Ok(Pair {
-            originator: Station::new(alloc, Role::Originator, b'a')?,
-            answerer: Station::new(alloc, Role::Answerer, b'b')?,
-        })
-    }
-
-    /// Both hear what the other one sent last, and then speak.
-    fn turn(self, release: bool) -> Result<Pair, &'static str> {
-        let at_originator = arrival(&self.answerer.sent);
-        let at_answerer = arrival(&self.originator.sent);
-        Ok(Pair {
-            originator: self.originator.turn(at_originator, release)?,
-            answerer: self.answerer.turn(at_answerer, false)?,
-        })
-    }
-
-    fn has_sent(&self, line_o: &Slot, line_a: &Slot) -> bool {
-        self.originator.sent == line_o.sent(b'a') && self.answerer.sent == line_a.sent(b'b')
-    }
-
-    /// Whether the originator is Closed, and each got the other one's file.
-    fn is_done(&self) -> bool {
-        self.originator.standing.phase() == Phase::Closed
-            && self.originator.got.as_slice() == b"b".as_slice()
-            && self.answerer.got.as_slice() == b"a".as_slice()
-    }
-}
-
-/// The first turn in which the two ends don't send their line, or the one behind all lines, where they aren't done then.
-fn first_wrong_turn(alloc: Global) -> Option<usize> {
-    let Ok(mut pair) = Pair::new(alloc) else {
-        return Some(0);
-    };
-    for (number, (line_o, line_a)) in LINES.iter().enumerate() {
-        let Ok(next) = pair.turn(number >= RELEASE) else {
-            return Some(number);
-        };
-        if !next.has_sent(line_o, line_a) {
-            return Some(number);
-        }
-        pair = next;
-    }
-    if pair.is_done() {
-        None
+    release: bool,
+    (heard, other): (Slot, u8),
+    (sends, file): (Slot, u8),
+    got: &mut Info,
+) -> Option<Standing> {
+    let mut sent = Sent::Mark;
+    let heard = heard.arrived(other);
+    let next = standing.turn(&heard, &[file], release, false, got, &mut sent)?;
+    if sent == sends.sent(file) {
+        Some(next)
     } else {
-        Some(LINES.len())
+        None
+    }
+}
+
+/// How many lines an end of this file sends where it hears those of the other one, each in the turn behind it; and one more if it then has the other
+/// one's file, and is Closed where it was told to release.
+fn right_turns(alloc: Global, role: Role, file: u8, other: u8) -> usize {
+    let Ok(mut standing) = Standing::new(alloc, setup(role)) else {
+        return 0;
+    };
+    let is_originator = matches!(role, Role::Originator);
+    let mut got = Info::new();
+    let mut heard = Mark;
+    let mut turn = 0usize;
+    for &(line_o, line_a) in LINES {
+        let (sends, next) = if is_originator {
+            (line_o, line_a)
+        } else {
+            (line_a, line_o)
+        };
+        let release = is_originator && turn >= RELEASE;
+        match behind(standing, release, (heard, other), (sends, file), &mut got) {
+            Some(it) => standing = it,
+            None => return turn,
+        }
+        heard = next;
+        turn = turn.saturating_add(1);
+    }
+    let is_over = !is_originator || standing.end.phase() == Phase::Closed;
+    if is_over && got.as_slice() == [other].as_slice() {
+        turn.saturating_add(1)
+    } else {
+        turn
     }
 }
 
 #[test]
 fn two_files_of_one_octet(rt: HostRuntime) {
-    if let Some(number) = first_wrong_turn(rt.alloc()) {
-        panic!(&rt; "turn {number}");
-    }
+    let originator = right_turns(rt.alloc(), Role::Originator, b'a', b'b');
+    assert!(rt;
+        originator == LINES.len() + 1,
+        "originator, turn {originator}"
+    );
+    let answerer = right_turns(rt.alloc(), Role::Answerer, b'b', b'a');
+    assert!(rt; answerer == LINES.len() + 1, "answerer, turn {answerer}");
 }
 
 /// Whether a closed end stays Closed, and sends flags.
@@ -193,34 +115,28 @@ fn stays_closed(end: Closed) -> bool {
 }
 
 /// Whether an end that has sent no segment breaks its link by the acknowledgement of one.
-fn is_broken_by_acknowledgement(standing: Standing) -> bool {
+fn is_broken_by_acknowledgement(alloc: Global) -> Option<bool> {
     let fault = LinkFault::BadAck {
         nr: 5,
         va: 0,
         high: 0,
     };
-    match standing.broken_by(I(0, 5, false)) {
-        Ok(broken) => broken.fault == fault && stays_closed(broken.end),
-        Err(_) => false,
-    }
+    let broken = Standing::at(alloc, Stage::PollSent)?.broken_by(I(0, 5, false))?;
+    Some(broken.fault == fault && stays_closed(broken.end))
 }
 
 #[test]
-fn an_acknowledgement_of_what_was_not_sent_breaks_the_link(rt: HostRuntime) -> Result<(), Fail> {
-    let standing = Standing::at(rt.alloc(), Stage::PollSent)?;
-    assert!(rt; is_broken_by_acknowledgement(standing));
-    Ok(())
+fn an_acknowledgement_of_what_was_not_sent_breaks_the_link(rt: HostRuntime) {
+    assert!(rt; is_broken_by_acknowledgement(rt.alloc()) == Some(true));
 }
 
 /// Whether an end takes on one break, and no second one while it waits.
-fn takes_one_break(standing: Standing) -> bool {
-    let mut end = standing.end();
-    end.ask_break(3, 30) && end.break_waiting() && !end.ask_break(4, 31)
+fn takes_one_break(alloc: Global) -> Option<bool> {
+    let mut end = Standing::at(alloc, Stage::PollSent)?.end;
+    Some(end.ask_break(3, 30) && end.break_waiting() && !end.ask_break(4, 31))
 }
 
 #[test]
-fn one_break_waits_at_a_time(rt: HostRuntime) -> Result<(), Fail> {
-    let standing = Standing::at(rt.alloc(), Stage::PollSent)?;
-    assert!(rt; takes_one_break(standing));
-    Ok(())
+fn one_break_waits_at_a_time(rt: HostRuntime) {
+    assert!(rt; takes_one_break(rt.alloc()) == Some(true));
 }

@@ -1,12 +1,11 @@
 // Two ends that carry a file each over a line that loses what it carries.
 
+use crate::{Row, assert_rows};
 use frame_check::{Info, Octets};
 use gateway::{Carried, Endpoint, Told};
 use lapm_link::Setup;
 use shared_terms::Role;
 use std::alloc::Global;
-use std::process::Abort;
-use std::test::Fail;
 use xid_params::default_offer;
 
 /// More turns than both files need.
@@ -22,17 +21,15 @@ const ORIG: [u8; 300] = [b'o'; 300];
 
 const ANSW: [u8; 128] = [b'a'; 128];
 
-fn end_of(alloc: Global, role: Role) -> Result<Endpoint, Fail> {
+/// An end that is set up by the defaults.
+fn end_of(alloc: Global, role: Role) -> Option<Endpoint> {
     let setup = Setup {
         role,
         offer: default_offer(),
         tries: 8,
         period: 20,
     };
-    match Endpoint::new(alloc, setup)? {
-        Some(end) => Ok(end),
-        None => Err(Fail::new("an end isn't set up by the defaults")),
-    }
+    Endpoint::new(alloc, setup).ok().flatten()
 }
 
 /// What arrives of what was sent: nothing where it is lost.
@@ -44,19 +41,19 @@ fn carried(told: &Told, is_lost: bool) -> Carried<'_> {
     }
 }
 
-/// The user takes what came.
-fn deliver(end: &mut Endpoint, taken: &mut Taken) -> Result<(), Fail> {
+/// The user takes what came. Whether it is no more than was sent, and than a window.
+fn deliver(end: &mut Endpoint, taken: &mut Taken) -> bool {
     let mut segment = Info::new();
     for _ in 0..MOST_A_TURN {
         if !end.deliver(&mut segment) {
-            return Ok(());
+            return true;
         }
         if 4096 - taken.len() < segment.len() {
-            return Err(Fail::new("more came than was sent"));
+            return false;
         }
         taken.extend(segment.as_slice());
     }
-    Err(Fail::new("a turn delivers more than a window"))
+    false
 }
 
 /// The user offers what the end wants of what is left of the file.
@@ -69,62 +66,117 @@ fn offer<'a>(end: &mut Endpoint, file: &'a [u8]) -> &'a [u8] {
     rest
 }
 
-/// A turn of an end: what it sends.
-fn turn(end: Endpoint, came: &Carried<'_>, taken: &mut Taken) -> Result<(Endpoint, Told), Fail> {
-    let (mut end, heard) = end.hear(came);
-    if heard.is_err() {
-        return Err(Fail::new("an end breaks as it receives"));
+/// An end with its user.
+#[derive(Drop)]
+struct Side {
+    end: Endpoint,
+    /// What is left of its file.
+    left: &'static [u8],
+    taken: Taken,
+    /// Whether nothing has gone wrong.
+    goes_well: bool,
+}
+
+impl Side {
+    fn new(end: Endpoint, file: &'static [u8]) -> Side {
+        Side {
+            end,
+            left: file,
+            taken: Taken::new(),
+            goes_well: true,
+        }
     }
-    deliver(&mut end, taken)?;
-    let (end, told) = end.speak(false);
-    match told {
-        Ok(told) => Ok((end, told)),
-        Err(_) => Err(Fail::new("an end breaks as it transmits")),
+
+    /// A turn: what it sends.
+    fn turn(self, came: Told, is_lost: bool) -> (Side, Told) {
+        let Side {
+            end,
+            left,
+            mut taken,
+            goes_well,
+        } = self;
+        let (mut end, heard) = end.hear(&carried(&came, is_lost));
+        let delivers = deliver(&mut end, &mut taken);
+        let (mut end, told) = end.speak(false);
+        let left = offer(&mut end, left);
+        let goes_well = goes_well && heard.is_ok() && delivers && told.is_ok();
+        let side = Side {
+            end,
+            left,
+            taken,
+            goes_well,
+        };
+        (side, told.unwrap_or(Told::Mark))
     }
 }
 
-/// Both files cross, though what is sent in these turns is lost.
-fn assert_crosses(alloc: Global, rt: &impl Abort, lost: &[u64]) -> Result<(), Fail> {
-    let (mut orig, mut answ) = (
-        end_of(alloc, Role::Originator)?,
-        end_of(alloc, Role::Answerer)?,
-    );
-    let (mut orig_left, mut answ_left) = (ORIG.as_slice(), ANSW.as_slice());
-    let (mut orig_took, mut answ_took) = (Taken::new(), Taken::new());
+/// Whether both files cross, though what is sent in these turns is lost.
+fn cross(mut orig: Side, mut answ: Side, lost: &[u64]) -> bool {
     let (mut from_orig, mut from_answ) = (Told::Mark, Told::Mark);
     for now in 0..TURNS {
         let is_lost = lost.contains(&now);
-        let (next_orig, sent_orig) = turn(orig, &carried(&from_answ, is_lost), &mut orig_took)?;
-        let (next_answ, sent_answ) = turn(answ, &carried(&from_orig, is_lost), &mut answ_took)?;
+        let (next_orig, sent_orig) = orig.turn(from_answ, is_lost);
+        let (next_answ, sent_answ) = answ.turn(from_orig, is_lost);
         orig = next_orig;
         answ = next_answ;
-        if orig.is_whole() && answ.is_whole() {
-            assert!(rt; orig_took.as_slice() == ANSW.as_slice());
-            assert!(rt; answ_took.as_slice() == ORIG.as_slice());
-            return Ok(());
-        }
-        orig_left = offer(&mut orig, orig_left);
-        answ_left = offer(&mut answ, answ_left);
         from_orig = sent_orig;
         from_answ = sent_answ;
+        if orig.end.is_whole() && answ.end.is_whole() {
+            return have_crossed(&orig, &answ);
+        }
     }
-    Err(Fail::new("the files don't cross"))
+    false
 }
 
-#[test]
-fn files_cross(rt: HostRuntime) -> Result<(), Fail> {
-    assert_crosses(rt.alloc(), &rt, &[])?;
-    assert_crosses(rt.alloc(), &rt, &[1, 3, 8, 9, 10, 12, 13, 15, 18, 30])
+/// Whether all went well, and each side took the other's file.
+fn have_crossed(orig: &Side, answ: &Side) -> bool {
+    orig.goes_well
+        && answ.goes_well
+        && orig.taken.as_slice() == ANSW.as_slice()
+        && answ.taken.as_slice() == ORIG.as_slice()
 }
 
+/// The turns in which what is sent is lost.
+struct Lost(&'static [u64]);
+
+impl Row for Lost {
+    fn holds(&self, alloc: Global) -> bool {
+        let orig = end_of(alloc, Role::Originator);
+        match (orig, end_of(alloc, Role::Answerer)) {
+            (Some(orig), Some(answ)) => {
+                cross(Side::new(orig, &ORIG), Side::new(answ, &ANSW), self.0)
+            }
+            _ => false,
+        }
+    }
+}
+
+const LINES: &[(&str, Lost)] = &[
+    ("a line that loses nothing", Lost(&[])),
+    (
+        "a line that loses ten turns",
+        Lost(&[1, 3, 8, 9, 10, 12, 13, 15, 18, 30]),
+    ),
+];
+
 #[test]
-fn a_turn_has_an_order(rt: HostRuntime) -> Result<(), Fail> {
-    let end = end_of(rt.alloc(), Role::Originator)?;
+fn files_cross(rt: HostRuntime) {
+    assert_rows(&rt, rt.alloc(), LINES);
+}
+
+/// Whether an end only speaks behind what it hears, and hears once in a turn.
+fn has_order(end: Endpoint) -> bool {
     let (end, told) = end.speak(false);
-    assert!(rt; told.is_err());
     let (end, heard) = end.hear(&Carried::Nothing);
-    assert!(rt; heard.is_ok());
-    let (_end, heard) = end.hear(&Carried::Nothing);
-    assert!(rt; heard.is_err());
-    Ok(())
+    let (_end, again) = end.hear(&Carried::Nothing);
+    told.is_err() && heard.is_ok() && again.is_err()
+}
+
+#[test]
+fn a_turn_has_an_order(rt: HostRuntime) {
+    let holds = match end_of(rt.alloc(), Role::Originator) {
+        Some(end) => has_order(end),
+        None => false,
+    };
+    assert!(rt; holds);
 }

@@ -3,12 +3,12 @@
 use bit_stuffing::Piece;
 use frame_check::Check;
 use gateway::{
-    DecoderStop, FrameReader, FrameStop, LAST_BITS, LineKind, LockMeter, SampleDecoder,
-    SampleEncoder,
+    DecoderStop, Encoded, FrameReader, FrameStop, LAST_BITS, LineKind, LockMeter, Pushed,
+    SampleDecoder, SampleEncoder,
 };
 use scramblers::Mode;
 use shared_terms::Role;
-use std::test::Fail;
+use std::alloc::Global;
 
 /// Two symbols of the octet 00, as the modem that called sends them.
 const ZEROS: [i16; 4] = [-8192, 2048, -8192, 2048];
@@ -25,71 +25,103 @@ const BITS: [u8; 56] = [
     1, 0, 0, 1, 1, 1, 0, 1, 0, 1, 0, 1, 1, 1, 1, 1, 1, 0, 0, 1, 1, 1, 1, 1,
 ];
 
-#[test]
-fn samples_become_bits(rt: HostRuntime) -> Result<(), Fail> {
-    let mut decoder = SampleDecoder::new(rt.alloc(), LineKind::Begun, Mode::Call)?;
+/// Whether a push has these counts and stops so.
+fn is_push(pushed: &Pushed, read: usize, written: usize, stop: DecoderStop) -> bool {
+    pushed.read == read && pushed.written == written && pushed.stop == stop
+}
+
+/// How many bits the end of a line gives.
+fn bits_at_end(decoder: SampleDecoder, bits: &mut [u8]) -> Option<usize> {
+    decoder.finish(bits).ok()
+}
+
+/// Whether two symbols of a line give the bits of their octet at its end, and nothing is written behind these.
+fn become_bits(alloc: Global) -> bool {
+    let Ok(mut decoder) = SampleDecoder::new(alloc, LineKind::Begun, Mode::Call) else {
+        return false;
+    };
     let mut bits = [9; LAST_BITS];
     let pushed = decoder.push(&ZEROS, &mut bits);
-    assert!(rt; pushed.read == 2 && pushed.written == 0 && pushed.stop == DecoderStop::All);
-    let Ok(count) = decoder.finish(&mut bits) else {
-        return Err(Fail::new("a line of two symbols doesn't end"));
-    };
-    assert!(rt; count == 8);
-    assert!(rt; &bits[..8] == [0; 8].as_slice());
-    assert!(rt; bits[8] == 9);
-    Ok(())
+    bits_at_end(decoder, &mut bits) == Some(8)
+        && is_push(&pushed, 2, 0, DecoderStop::All)
+        && &bits[..9] == [0, 0, 0, 0, 0, 0, 0, 0, 9].as_slice()
 }
 
 #[test]
-fn a_push_without_room_is_full(rt: HostRuntime) -> Result<(), Fail> {
-    let mut decoder = SampleDecoder::new(rt.alloc(), LineKind::Quarters, Mode::Call)?;
+fn samples_become_bits(rt: HostRuntime) {
+    assert!(rt; become_bits(rt.alloc()));
+}
+
+/// Whether two symbols are read at once, and then the bits of both wait for room.
+fn bits_wait(decoder: &mut SampleDecoder) -> bool {
     let mut bits = [9; 4];
-    // Both samples are read at once, and then the bits of both wait for room.
-    let pushed = decoder.push(&ZEROS, &mut bits[..3]);
-    assert!(rt; pushed.read == 2 && pushed.written == 0 && pushed.stop == DecoderStop::Full);
-    let pushed = decoder.push(&ZEROS[4..], &mut bits);
-    assert!(rt; pushed.read == 0 && pushed.written == 2 && pushed.stop == DecoderStop::Full);
-    let pushed = decoder.push(&ZEROS[4..], &mut bits);
-    assert!(rt; pushed.read == 0 && pushed.written == 2 && pushed.stop == DecoderStop::All);
-    Ok(())
+    let full = decoder.push(&ZEROS, &mut bits[..3]);
+    let first = decoder.push(&ZEROS[4..], &mut bits);
+    let second = decoder.push(&ZEROS[4..], &mut bits);
+    is_push(&full, 2, 0, DecoderStop::Full)
+        && is_push(&first, 0, 2, DecoderStop::Full)
+        && is_push(&second, 0, 2, DecoderStop::All)
+}
+
+#[test]
+fn a_push_without_room_is_full(rt: HostRuntime) {
+    let holds = match SampleDecoder::new(rt.alloc(), LineKind::Quarters, Mode::Call) {
+        Ok(mut decoder) => bits_wait(&mut decoder),
+        Err(_) => false,
+    };
+    assert!(rt; holds);
+}
+
+/// Whether all is read, 28 bits, and seven samples are written.
+fn is_half(encoded: &Encoded) -> bool {
+    encoded.read == 28 && encoded.written == 7 && encoded.all
 }
 
 #[test]
 fn bits_become_samples(rt: HostRuntime) {
     let mut encoder = SampleEncoder::begun(Mode::Call);
     let mut parts = [0; 28];
-    let first = encoder.push(&BITS[..30], &mut parts[..14]);
     // Two bits make no symbol.
-    assert!(rt; first.read == 28 && first.written == 7 && first.all);
+    let first = encoder.push(&BITS[..30], &mut parts[..14]);
     let second = encoder.push(&BITS[28..], &mut parts[14..]);
-    assert!(rt; second.read == 28 && second.written == 7 && second.all);
-    assert!(rt; parts == SABME);
+    assert!(rt; is_half(&first) && is_half(&second) && parts == SABME);
+}
+
+/// Whether bits are a frame's up to its closing flag, and the frame has these octets.
+fn are_frame(bits: &[u8], octets: &[u8]) -> bool {
+    let mut reader = FrameReader::new(Role::Originator, Check::Sixteen);
+    reader.push(bits) == (50, FrameStop::Piece(Piece::Whole))
+        && reader.heard() == 50
+        && reader.octets() == octets
+}
+
+/// Whether the symbols of a frame give its bits, and these the frame.
+fn become_a_frame(alloc: Global) -> bool {
+    let Ok(mut decoder) = SampleDecoder::new(alloc, LineKind::Begun, Mode::Call) else {
+        return false;
+    };
+    let mut bits = [9; 1000];
+    let pushed = decoder.push(&SABME, &mut bits);
+    let (_given, rest) = bits.split_at_mut(pushed.written);
+    let Some(count) = bits_at_end(decoder, rest) else {
+        return false;
+    };
+    let (bits, _room) = bits.split_at(bits.len().min(56));
+    pushed.read == 14
+        && pushed.stop == DecoderStop::All
+        && pushed.written.saturating_add(count) == 56
+        && bits == BITS.as_slice()
+        && are_frame(bits, b"\x03\x7f\x5f\xae")
 }
 
 #[test]
-fn samples_become_frames(rt: HostRuntime) -> Result<(), Fail> {
-    let mut decoder = SampleDecoder::new(rt.alloc(), LineKind::Begun, Mode::Call)?;
-    let mut bits = [9; 1000];
-    let pushed = decoder.push(&SABME, &mut bits);
-    assert!(rt; pushed.read == 14 && pushed.stop == DecoderStop::All);
-    let (_given, rest) = bits.split_at_mut(pushed.written);
-    let Ok(count) = decoder.finish(rest) else {
-        return Err(Fail::new("the line doesn't end"));
-    };
-    assert!(rt; pushed.written.saturating_add(count) == 56);
-    let (bits, _room) = bits.split_at(bits.len().min(56));
-    assert!(rt; bits == BITS.as_slice());
-    let mut reader = FrameReader::new(Role::Originator, Check::Sixteen);
-    let (read, stop) = reader.push(bits);
-    assert!(rt; read == 50 && stop == FrameStop::Piece(Piece::Whole) && reader.heard() == 50);
-    assert!(rt; reader.octets() == b"\x03\x7f\x5f\xae".as_slice());
-    Ok(())
+fn samples_become_frames(rt: HostRuntime) {
+    assert!(rt; become_a_frame(rt.alloc()));
 }
 
 #[test]
 fn what_was_sent_costs_nothing(rt: HostRuntime) {
     let (meter, octets) = LockMeter::new(Mode::Call).push(&BITS, &SABME);
-    assert!(rt; octets == Some(7));
     let reading = meter.reading();
-    assert!(rt; reading.cost == 0 && reading.symbols == 14 && reading.sure);
+    assert!(rt; octets == Some(7) && reading.cost == 0 && reading.symbols == 14 && reading.sure);
 }

@@ -1,5 +1,7 @@
 // Slots that aren't what was sent, put on the line as they are.
-use super::frames::{Message, sent};
+ghost use Rattle.std.specs.Prelude.{◌≡◌, ◌<◌, ◌^◌, None};
+ghost use Rattle.sample_line.specs.Line.{decoder_of};
+
 use super::*;
 use frame_check::INFO;
 use line_coding::Modulator;
@@ -14,22 +16,32 @@ const AS_COMMAND: &[u8] = b"\x03\x63\xb2\x74";
 /// The same: a frame of another channel's.
 const OF_ANOTHER: &[u8] = b"\x43\x63\xd4\x32";
 
-/// The octets of a slot; a symbol is left.
-const OCTETS: usize = 1307;
+const FLAG: &[u8] = b"\x7e";
 
-/// The bits of a slot with these octets behind four flags, and flags behind them. No five ones follow one another in them but in flags.
-fn slot_of(octets: &[u8]) -> BitSlot {
-    let mut slot = BitSlot::new();
-    for place in 0..OCTETS {
-        let octet = match place.checked_sub(4) {
-            Some(at) => *octets.get(at).unwrap_or(&0x7e),
-            None => 0x7e,
-        };
-        if slot.len() + 2 <= SLOT {
-            slot.push(octet % 16);
-            slot.push(octet / 16);
+/// Octets so many times, one behind the other.
+type Octets = (&'static [u8], usize);
+
+/// Puts octets into a slot, as far as there is room for them.
+fn put(slot: &mut BitSlot, octets: &[u8], times: usize) {
+    for _ in 0..times {
+        for octet in octets {
+            if slot.len() + 2 <= SLOT {
+                slot.push(octet % 16);
+                slot.push(octet / 16);
+            }
         }
     }
+}
+
+/// The bits of a slot with these octets behind four flags, and flags behind them; a symbol is left. No five ones follow one another in them
+/// but in flags.
+fn slot_of(pieces: &[Octets]) -> BitSlot {
+    let mut slot = BitSlot::new();
+    put(&mut slot, FLAG, 4);
+    for &(octets, times) in pieces {
+        put(&mut slot, octets, times);
+    }
+    put(&mut slot, FLAG, SLOT);
     slot
 }
 
@@ -43,101 +55,124 @@ fn labels_of(slot: &BitSlot) -> LabelSlot {
     labels
 }
 
-/// What is heard of a slot of these octets, where that was sent.
-fn heard_of(alloc: Global, octets: &[u8], sent: &Sent) -> Result<Heard, Fail> {
-    let script = read_script(alloc, b"")?;
-    let mut line = Line::new(alloc, Role::Originator, SLOT as u16)?;
-    let labels = labels_of(&slot_of(octets));
-    kept(line.pass(&script, &labels, sent, false, Check::Sixteen, 0))
+/// Octets of a slot, what was sent in it, and what is heard.
+struct Forged(&'static [Octets], Message, Outcome);
+
+impl Forged {
+    /// Whether a line hears this of these labels.
+    fn is_heard(&self, line: &mut Line, script: &Script, labels: &LabelSlot) -> bool
+        requires few { line.old.passed < 2 ^ 40 }
+        requires not_lost { (decoder_of line.old).lost ≡ None }
+    {
+        let sent = sent(&self.1);
+        match line.pass(script, labels, &sent, false, Check::Sixteen, 0) {
+            Ok(heard) => outcome_of(&heard, &sent) == self.2,
+            Err(_) => false,
+        }
+    }
 }
 
-/// Pieces of a slot in which the ready frame was sent, and whether it passes; else there is a chance match.
-const PIECES: &[(&str, &[&[u8]], bool)] = &[
-    ("a frame alone", &[READY], true),
-    ("the frame twice", &[READY, READY], false),
+impl Row for Forged {
+    fn holds(&self, alloc: Global) -> bool {
+        let Ok(script) = read_script(alloc, b"") else {
+            return false;
+        };
+        match Line::new(alloc, Role::Originator, SLOT as u16) {
+            Ok(mut line) => self.is_heard(&mut line, &script, &labels_of(&slot_of(self.0))),
+            Err(_) => false,
+        }
+    }
+}
+
+const WANTED: Message = Message::Ready(0);
+
+/// Pieces of a slot in which the ready frame was sent.
+const PIECES: &[(&str, Forged)] = &[
+    (
+        "a frame alone",
+        Forged(&[(READY, 1)], WANTED, Outcome::AsSent),
+    ),
+    (
+        "the frame twice",
+        Forged(
+            &[(READY, 1), (FLAG, 1), (READY, 1)],
+            WANTED,
+            Outcome::Chance,
+        ),
+    ),
     (
         "a response as a command before it",
-        &[AS_COMMAND, READY],
-        false,
+        Forged(
+            &[(AS_COMMAND, 1), (FLAG, 1), (READY, 1)],
+            WANTED,
+            Outcome::Chance,
+        ),
     ),
     (
         "a response as a command behind it",
-        &[READY, AS_COMMAND],
-        false,
+        Forged(
+            &[(READY, 1), (FLAG, 1), (AS_COMMAND, 1)],
+            WANTED,
+            Outcome::Chance,
+        ),
     ),
-    ("a response as a command alone", &[AS_COMMAND], false),
+    (
+        "a response as a command alone",
+        Forged(&[(AS_COMMAND, 1)], WANTED, Outcome::Chance),
+    ),
     (
         "a frame of another channel before it",
-        &[OF_ANOTHER, READY],
-        false,
+        Forged(
+            &[(OF_ANOTHER, 1), (FLAG, 1), (READY, 1)],
+            WANTED,
+            Outcome::Chance,
+        ),
     ),
     (
         "a frame of another channel behind it",
-        &[READY, OF_ANOTHER],
-        false,
+        Forged(
+            &[(READY, 1), (FLAG, 1), (OF_ANOTHER, 1)],
+            WANTED,
+            Outcome::Chance,
+        ),
     ),
-    ("a frame of another channel alone", &[OF_ANOTHER], false),
+    (
+        "a frame of another channel alone",
+        Forged(&[(OF_ANOTHER, 1)], WANTED, Outcome::Chance),
+    ),
 ];
 
-/// I frames of so many zeros with their check, where the longest one was sent, and whether it passes.
-const ZEROS: &[(&str, usize, &[u8], bool)] = &[
-    ("the longest information field", INFO, b"\x1d\x55", true),
+#[test]
+fn pieces_beside_the_right_frame_are_chance(rt: HostRuntime) {
+    assert_rows(&rt, rt.alloc(), PIECES);
+}
+
+/// The head of an originator's first I frame.
+const HEAD: Octets = (b"\x03\x00\x00", 1);
+
+const LONGEST: Message = Message::Longest(0, 0, 0, false);
+
+/// I frames of zeros with their check, where the longest one was sent.
+const ZEROS: &[(&str, Forged)] = &[
+    (
+        "the longest information field",
+        Forged(
+            &[HEAD, (b"\0", INFO), (b"\x1d\x55", 1)],
+            LONGEST,
+            Outcome::AsSent,
+        ),
+    ),
     (
         "an information field that is too long",
-        INFO + 1,
-        b"\x49\x3b",
-        false,
+        Forged(
+            &[HEAD, (b"\0", INFO + 1), (b"\x49\x3b", 1)],
+            LONGEST,
+            Outcome::Chance,
+        ),
     ),
 ];
 
-/// Whether what was sent passes, or else whether there is a chance match.
-fn passes_or_is_chance(heard: &Heard, sent: &Sent, passes: bool) -> bool {
-    match heard {
-        Heard::Chance => !passes,
-        _ => passes && is_as_sent(heard, sent),
-    }
-}
-
-/// These octets, each piece with a flag behind it.
-fn with_flags(alloc: Global, pieces: &[&[u8]]) -> Result<Vec<u8>, Fail> {
-    let mut octets = Vec::new(alloc);
-    for piece in pieces {
-        octets.extend_from_slice(piece)?;
-        octets.push(0x7e)?;
-    }
-    Ok(octets)
-}
-
-/// The octets of an originator's first I frame with so many zeros and this check.
-fn frame_of_zeros(alloc: Global, count: usize, check: &[u8]) -> Result<Vec<u8>, Fail> {
-    let mut octets = Vec::from_slice(alloc, b"\x03\x00\x00")?;
-    octets.append(&mut vec![in alloc; 0u8; count]?)?;
-    octets.extend_from_slice(check)?;
-    Ok(octets)
-}
-
-/// Whether what is heard of a slot of these octets is what was sent, or else a chance match.
-fn is_heard(alloc: Global, octets: &[u8], sent: &Sent, passes: bool) -> Result<bool, Fail> {
-    let heard = heard_of(alloc, octets, sent)?;
-    Ok(passes_or_is_chance(&heard, sent, passes))
-}
-
 #[test]
-fn pieces_beside_the_right_frame_are_chance(rt: HostRuntime) -> Result<(), Fail> {
-    let sent = sent(&Message::Ready(0));
-    for &(name, pieces, passes) in PIECES {
-        let octets = with_flags(rt.alloc(), pieces)?;
-        assert!(&rt; is_heard(rt.alloc(), &octets, &sent, passes)?, "{name}");
-    }
-    Ok(())
-}
-
-#[test]
-fn an_information_field_that_is_too_long_is_chance(rt: HostRuntime) -> Result<(), Fail> {
-    let sent = sent(&Message::Longest(0, 0, 0, false));
-    for &(name, count, check, passes) in ZEROS {
-        let octets = frame_of_zeros(rt.alloc(), count, check)?;
-        assert!(&rt; is_heard(rt.alloc(), &octets, &sent, passes)?, "{name}");
-    }
-    Ok(())
+fn an_information_field_that_is_too_long_is_chance(rt: HostRuntime) {
+    assert_rows(&rt, rt.alloc(), ZEROS);
 }

@@ -2,11 +2,9 @@
 use super::*;
 
 #[test]
-fn samples_that_are_all_zero_lose_the_line(rt: HostRuntime) -> Result<(), Fail> {
-    let script = read_script(rt.alloc(), ZERO_SAMPLES)?;
-    let heard = flags_heard(rt.alloc(), Role::Originator, 464, &script, false)?;
-    assert!(rt; matches!(heard, Err(Lost { symbol: 128 })));
-    Ok(())
+fn samples_that_are_all_zero_lose_the_line(rt: HostRuntime) {
+    let outcome = flags_through(rt.alloc(), ZERO_SAMPLES);
+    assert!(rt; outcome == Some(Err(Lost { symbol: 128 })));
 }
 
 /// Offsets that turn the first 129 samples of an originator's flags into (0, 0).

@@ -1,7 +1,7 @@
 use Rattle.std.proofs.Common.{◌≤◌, refl, ap, subst, Some, ◌∙◌}
 use Rattle.std.proofs.lemmas.Bool.{false≢true}
 use Rattle.outside_core.specs.Memory.{MemoryState}
-use Rattle.command_tests.proofs.stage.noting.NotingFolderFolder.read_at.Goals as goal
+use Rattle.command_tests.proofs.stage.noting.RanFolder.read_at.Goals as goal
 
 -- A read goes on from the counts that stood before the file grew, and nothing is told.
 pub returns-clause-only : goal.returns-clause-only

@@ -1,5 +1,0 @@
-use Rattle.std.proofs.Common.{◌≡◌, ◌≤◌, []}
-use Rattle.signal_tests.proofs.picked_up.quads_from_any.Given as goal
-
-abbrev pub invariant-loop-symbol : goal.invariant-loop-symbol
-invariant-loop-symbol g l = (l.reader.decoder.count ≤ l.symbol) × (l.reader.decoder.pending ≡ [])

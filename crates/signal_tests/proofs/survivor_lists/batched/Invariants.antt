@@ -1,5 +1,0 @@
-use Rattle.std.proofs.Common.{◌≡◌, ◌≤◌, [], length}
-use Rattle.signal_tests.proofs.survivor_lists.batched.Given as goal
-
-abbrev pub invariant-loop : goal.invariant-loop
-invariant-loop g l = (l.decoder.count ≤ l.at) × (l.decoder.pending ≡ []) × (l.at ≤ length l.samples)
