@@ -9,13 +9,13 @@ use Rattle.std.proofs.lemmas.Bool.{le-ltb}
 use Rattle.bit_stuffing.specs.Found.{pieces_of}
 use Rattle.bit_stuffing.proofs.Latest.{back-within, back-past, latest-shifted}
 use Rattle.bit_stuffing.proofs.Quiet.{number-is, latest-octet}
-use Rattle.bit_stuffing.proofs.Octets.{each_below, at_each}
 use Rattle.bit_stuffing.proofs.Ones.{CountsOnes}
 use Rattle.bit_stuffing.proofs.Openings.{opened-once}
 use Rattle.bit_stuffing.proofs.Contents.{none-lent}
 use Rattle.bit_stuffing.proofs.Counters.{Counters, Counts, step, run, is_open, is_far, Still, still_test, still-of, Below6, counts-step}
 use Rattle.bit_stuffing.proofs.Counters.{counts-run, open-run}
 use Rattle.bit_stuffing.proofs.Counters.{pieces-along, along-still, no_close}
+use Rattle.frame_check.proofs.Generators.{each_below, at_each}
 
 -- how many ones the latest bits end with, up to seven
 abbrev ones_of : ℕ → ℕ

@@ -18,10 +18,10 @@ back-within bits places h = grind (arith, nat_tests)
 pub back-past : (bits : List Bool) (places : ℕ) → length bits < places → back bits places ≡ true
 back-past bits places h = grind (arith, nat_tests)
 
-number-lt : (b : Bool) → number b < 2
+pub number-lt : (b : Bool) → number b < 2
 number-lt b = grind (arith)
 
-same_number : (a b : Bool) → number a ≡ number b → a ≡ b
+pub same_number : (a b : Bool) → number a ≡ number b → a ≡ b
 same_number a b e = grind (arith)
 
 -- a fact at each of eight places
@@ -29,7 +29,7 @@ pub below8 : (P : ℕ → Type 0) → P 0 → P 1 → P 2 → P 3 → P 4 → P 
 below8 P p0 p1 p2 p3 p4 p5 p6 p7 i l = grind (arith)
 
 -- the low bits of a number are those of its remainder
-bit_at-rem : (n k i : ℕ) → i < k → bit_at (n % 2 ^ k) i ≡ bit_at n i
+pub bit_at-rem : (n k i : ℕ) → i < k → bit_at (n % 2 ^ k) i ≡ bit_at n i
 bit_at-rem n k i h = let e : n ≡ n / 2 ^ k * 2 ^ k + n % 2 ^ k = sym (shr_split n k) in sym (ap (λ x. bit_at x i) e
     ∙ bit_at_cat_low (n / 2 ^ k) k (n % 2 ^ k) i h)
 

@@ -2,13 +2,13 @@ mod Names
 pub mod Stuffed
 mod Places
 mod Openings
-mod Latest
+pub mod Latest
 mod Ones
 mod BitLists
 mod Gather
 mod Between
 mod Contents
-mod EndsWith
+pub mod EndsWith
 mod Judged
 pub mod Found
 mod Worked
@@ -19,10 +19,10 @@ mod Quiet
 mod Octets
 mod Fours
 pub mod Halves
-mod Passing
+pub mod Passing
 mod States
 mod Frames
-mod Plain
+pub mod Plain
 pub mod Sent
 pub mod Tails
 pub mod Sizes

@@ -1,11 +1,12 @@
 -- Octets of a content in which no zero was inserted.
 use Rattle.bit_stuffing.proofs.Names.{◌≡◌, ℕ, zero, suc, ◌+◌, ◌-◌, ◌*◌, ◌/◌, ◌%◌, ◌^◌, ◌<◌, ◌≤◌, Bool, true, false, ◌&&◌, if◌then◌else◌}
-use Rattle.bit_stuffing.proofs.Names.{nat_eq, List, [], ◌∷◌, ◌++◌, arith, append_assoc, refl, sym, ◌∙◌, ap, inl, inr, cases_lt}
+use Rattle.bit_stuffing.proofs.Names.{nat_eq, List, [], ◌∷◌, ◌++◌, arith, append_assoc, refl, sym, ◌∙◌, ap}
 use Rattle.bit_stuffing.proofs.Names.{false≢true, eqb-true, and_parts, All-append, All-cons, All-nil, Gathering, KeepsBits, Gathers}
 use Rattle.bit_stuffing.proofs.Names.{has_room, is_plain, stuffed, room_behind, removed, room_after, bits_of-snoc, low_bits, octet_bits}
 use Rattle.bit_stuffing.proofs.Names.{bits_of}
 use Rattle.bit_stuffing.specs.Deframer.{room_behind_octet, room_behind_four}
 use Rattle.bit_stuffing.proofs.Latest.{below8}
+use Rattle.frame_check.proofs.Generators.{each_below, at_each}
 
 -- more bits behind others
 removed-append : (room : ℕ) (xs ys : List Bool) → removed room (xs ++ ys) ≡ removed room xs ++ removed (room_after room xs) ys
@@ -19,17 +20,6 @@ room-append room [] ys = refl
 room-append zero (x ∷ xs) ys = room-append 5 xs ys
 room-append (suc room) (true ∷ xs) ys = room-append room xs ys
 room-append (suc room) (false ∷ xs) ys = room-append 5 xs ys
-
--- tests of each octet behind each run of ones
-abbrev pub each_below : ℕ → (ℕ → Bool) → Bool
-each_below zero test = true
-each_below (suc n) test = test n && each_below n test
-
-pub at_each : (n : ℕ) (test : ℕ → Bool) → each_below n test ≡ true → (i : ℕ) → i < n → test i ≡ true
-at_each zero test h i l = absurd (omega arith)
-at_each (suc n) test h i l =
-    let b = and_parts (test n) (each_below n test) h in
-    elim (cases_lt i n) [ inl less ↦ at_each n test b.1 i less | inr last ↦ let e : i ≡ n = omega arith in rw e b.0 ]
 
 abbrev same_bits : List Bool → List Bool → Bool
 same_bits [] [] = true

@@ -57,12 +57,12 @@ quiet-stands finding next g octet past settled q h found gathered = record {
 
 -- at four bits
 
-take-past : (front xs : List Bool) (n : ℕ) → take (length front + n) (front ++ xs) ≡ front ++ take n xs
+pub take-past : (front xs : List Bool) (n : ℕ) → take (length front + n) (front ++ xs) ≡ front ++ take n xs
 take-past [] xs n = let e : length {A = Bool} [] + n ≡ n = omega arith in ap (λ m. take m xs) e
 take-past (x ∷ front) xs n = let e : length (x ∷ front) + n ≡ suc (length front + n) = omega arith in
     ap (λ m. take m (x ∷ front ++ xs)) e ∙ ap (λ l. x ∷ l) (take-past front xs n)
 
-drop-past : (front xs : List Bool) (n : ℕ) → drop (length front + n) (front ++ xs) ≡ drop n xs
+pub drop-past : (front xs : List Bool) (n : ℕ) → drop (length front + n) (front ++ xs) ≡ drop n xs
 drop-past [] xs n = let e : length {A = Bool} [] + n ≡ n = omega arith in ap (λ m. drop m xs) e
 drop-past (x ∷ front) xs n = let e : length (x ∷ front) + n ≡ suc (length front + n) = omega arith in
     ap (λ m. drop m (x ∷ front ++ xs)) e ∙ drop-past front xs n

@@ -1,6 +1,6 @@
 -- Octets with whose bits nothing ends.
 use Rattle.std.proofs.lemmas.List.{length_push}
-use Rattle.bit_stuffing.proofs.Names.{◌≡◌, ◌⊎◌, ℕ, zero, suc, ◌+◌, ◌-◌, ◌*◌, ◌/◌, ◌%◌, ◌^◌, ◌<◌, ◌≤◌, min, Bool, true, false, not, nat_eq}
+use Rattle.bit_stuffing.proofs.Names.{◌≡◌, ◌⊎◌, ℕ, suc, ◌+◌, ◌-◌, ◌*◌, ◌/◌, ◌%◌, ◌^◌, ◌<◌, ◌≤◌, min, Bool, true, false, not, nat_eq}
 use Rattle.bit_stuffing.proofs.Names.{List, [], ◌∷◌, ◌++◌, length, drop, Some, None, bit_and, lit<, arith, append_assoc, refl, sym, ◌∙◌, ap}
 use Rattle.bit_stuffing.proofs.Names.{subst, inl, inr, cases_lt, eqb-true, common_steps, append-nil, bit_at-suc}
 use Rattle.bit_stuffing.proofs.Names.{bit_at_cat_low, bit_at, back, HoldsLatest, CountsSince, Finding, Finds, IsQuiet, bit_of, FlagEndsAt}
@@ -10,30 +10,20 @@ use Rattle.bit_stuffing.specs.Found.{pieces_of}
 use Rattle.bit_stuffing.proofs.Latest.{below8, back-within}
 use Rattle.bit_stuffing.proofs.Openings.{opened-stays, opened-was, at_end, seven_at_end}
 use Rattle.bit_stuffing.proofs.Found.{found-quiet, pieces-more}
+use Rattle.bit_stuffing.proofs.Plain.{flag-front, bit-left, bit-right, seven-front}
 
 pub zero-of : (n : ℕ) → not (nat_eq n 0) ≡ false → n ≡ 0
 zero-of n e = grind (arith, eqb-true)
-
--- the bits behind others
-bit-behind : (past s : List Bool) (i : ℕ) → bit_of (past ++ s) (length past + i) ≡ bit_of s i
-bit-behind [] s i = let e : length {A = Bool} [] + i ≡ i = omega arith in ap (bit_of s) e
-bit-behind (x ∷ past) s i = let e : length (x ∷ past) + i ≡ suc (length past + i) = omega arith in ap (bit_of (x ∷ past ++ s)) e
-    ∙ bit-behind past s i
-
-bit-front : (past s : List Bool) (i : ℕ) → i < length past → bit_of (past ++ s) i ≡ bit_of past i
-bit-front [] s i l = absurd (omega arith)
-bit-front (x ∷ past) s zero l = refl
-bit-front (x ∷ past) s (suc i) l = bit-front past s i (omega arith)
 
 long-both : (past s : List Bool) → length (past ++ s) ≡ length past + length s
 long-both [] s = omega arith
 long-both (x ∷ past) s = omega (arith, long-both past s)
 
 back-at : (past s : List Bool) (k : ℕ) → k ≤ length s → back (past ++ s) k ≡ bit_of s (length s - k)
-back-at past s k l = grind (arith, long-both, back-within, bit-behind)
+back-at past s k l = grind (arith, long-both, back-within, bit-right)
 
 back-before : (past s : List Bool) (k : ℕ) → 1 ≤ k → back (past ++ s) (k + length s) ≡ back past k
-back-before past s k some = grind (arith, long-both, back-within, bit-front, back)
+back-before past s k some = grind (arith, long-both, back-within, bit-left, back)
 
 -- the bits of an octet
 pub number-is : (n : ℕ) → number (nat_eq (n % 2) 1) ≡ n % 2
@@ -159,13 +149,6 @@ quiet-octet latest octet past h none = record {
         window-bit latest octet past h i (omega (arith, long))
         ∙ ap number (back-within all (16 - i) (omega (arith, long)) ∙ ap (bit_of all) place ∙ ones j l))
 
--- what is open and found stays as it was
-flag-lift : (bits s : List Bool) (n : ℕ) → FlagEndsAt bits n → FlagEndsAt (bits ++ s) n
-flag-lift bits s n f = grind (arith, long-both, bit-front)
-
-seven-lift : (bits s : List Bool) (n : ℕ) → SevenOnesEndAt bits n → SevenOnesEndAt (bits ++ s) n
-seven-lift bits s n f = grind (arith, long-both, bit-front)
-
 pub record Rests (past all : List Bool) : Type 0 where
   pub pieces : pieces_of all ≡ pieces_of past
   pub stays : (p : ℕ) → OpenedAt past p → OpenedAt all p
@@ -177,10 +160,10 @@ quiet-rests past (b ∷ s) q =
     let joined = append_assoc past (b ∷ []) s in
     let no_flag : FlagEndsAt (past ++ b ∷ []) (length past + 1)
     → ⊥ = λ f. q.no_flag (length past + 1) (omega arith)
-    (subst (λ l. FlagEndsAt l (length past + 1)) joined (flag-lift (past ++ b ∷ []) s (length past + 1) f)) in
+    (subst (λ l. FlagEndsAt l (length past + 1)) joined (flag-front (past ++ b ∷ []) s (length past + 1) f)) in
     let no_seven : SevenOnesEndAt (past ++ b ∷ []) (length past + 1)
     → ⊥ = λ f. q.no_seven (length past + 1) (omega arith)
-    (subst (λ l. SevenOnesEndAt l (length past + 1)) joined (seven-lift (past ++ b ∷ []) s (length past + 1) f)) in
+    (subst (λ l. SevenOnesEndAt l (length past + 1)) joined (seven-front (past ++ b ∷ []) s (length past + 1) f)) in
     let rest : IsQuiet (past ++ b ∷ []) s = record {
       no_flag = λ n above f. q.no_flag n (omega (arith, above, length_push past b)) (subst (λ l. FlagEndsAt l n) joined f);
       no_seven = λ n above f. q.no_seven n (omega (arith, above, length_push past b)) (subst (λ l. SevenOnesEndAt l n) joined f);

@@ -122,7 +122,7 @@ slots-leave size past behind k phase (slot ∷ slots) h b are =
           (flags_behind-more behind slot slots) r.between;
     }
 
-are-split : (size phase : ℕ) (slots : List Slot) (slot : Slot) → AreSlots size phase (slots ++ slot ∷ [])
+pub are-split : (size phase : ℕ) (slots : List Slot) (slot : Slot) → AreSlots size phase (slots ++ slot ∷ [])
     → AreSlots size phase slots × IsSlot size (phase_from size phase slots) slot
 are-split size phase [] slot h = (tt, h.0)
 are-split size phase (x ∷ slots) slot h = let r = are-split size (next_phase size phase x) slots slot h.1 in ((h.0, r.0), r.1)
@@ -160,7 +160,7 @@ pieces-stay bits more = (along bits more, record { all = pieces-along bits more;
 
 -- all slots together
 
-wholes-append : (xs ys : List Found) → wholes (xs ++ ys) ≡ wholes xs ++ wholes ys
+pub wholes-append : (xs ys : List Found) → wholes (xs ++ ys) ≡ wholes xs ++ wholes ys
 wholes-append [] ys = refl
 wholes-append (x ∷ xs) ys =
     ap (λ t. octets_if_whole x.piece x.octets ++ t) (wholes-append xs ys)

@@ -14,6 +14,8 @@ use Rattle.bit_stuffing.proofs.EndsWith.{ends-flag, flag-ends}
 use Rattle.bit_stuffing.proofs.Found.{IsOpen, open_before, found-place, found-quiet, pieces-none}
 use Rattle.bit_stuffing.proofs.Counters.{along, pieces-along}
 use Rattle.bit_stuffing.proofs.Sent.{pieces-stay}
+use Rattle.bit_stuffing.proofs.Plain.{flag-back}
+use Rattle.bit_stuffing.proofs.Passing.{drop-past}
 
 -- ---- flags and ones in all bits and in the last of them
 
@@ -22,9 +24,6 @@ bit-behind first rest i place e = ap (bit_of (first ++ rest)) e ∙ get_or-appen
 
 flag-behind : (first rest : List Bool) (n : ℕ) → FlagEndsAt rest n → FlagEndsAt (first ++ rest) (length first + n)
 flag-behind first rest n f = grind (arith, length-append, bit-behind)
-
-pub flag-ahead : (first rest : List Bool) (q : ℕ) → length first + 8 ≤ q → FlagEndsAt (first ++ rest) q → FlagEndsAt rest (q - length first)
-flag-ahead first rest q far f = grind (arith, length-append, bit-behind)
 
 seven-behind : (first rest : List Bool) (n : ℕ) → SevenOnesEndAt rest n → SevenOnesEndAt (first ++ rest) (length first + n)
 seven-behind first rest n s = grind (arith, length-append, bit-behind)
@@ -53,7 +52,7 @@ opened-behind : (first rest : List Bool) (p : ℕ) → OpenedAt rest p → Opene
 opened-behind first rest p o = record {
   flag_ends = flag-behind first rest p o.flag_ends;
   latest = λ q above f. o.latest (q - length first) (omega (arith, above, o.flag_ends.room))
-      (flag-ahead first rest q (omega (arith, above, o.flag_ends.room)) f);
+      (flag-back first rest q (omega (arith, above, o.flag_ends.room)) f);
   alive = λ q above s. o.alive (q - length first) (omega (arith, above, o.flag_ends.room))
       (seven-ahead first rest q (omega (arith, above, o.flag_ends.room)) s);
 }
@@ -65,18 +64,15 @@ opened-ahead first rest n q f o = by (cases_lt q (length first + n))
     by : (q < length first + n) ⊎ (length first + n ≤ q) → OpenedAt rest (q - length first)
     by (inl early) = absurd (o.latest (length first + n) early (flag-behind first rest n f))
     by (inr late) = record {
-      flag_ends = flag-ahead first rest q (omega (arith, late, f.room)) o.flag_ends;
+      flag_ends = flag-back first rest q (omega (arith, late, f.room)) o.flag_ends;
       latest = λ p above g. o.latest (length first + p) (omega (arith, above, late, f.room)) (flag-behind first rest p g);
       alive = λ p above s. o.alive (length first + p) (omega (arith, above, late, f.room)) (seven-behind first rest p s);
     }
 
 -- ---- what is found at a bit
 
-drop-behind : (first rest : List Bool) (k : ℕ) → drop (length first + k) (first ++ rest) ≡ drop k rest
-drop-behind first rest k = sym (drop-drop k (length first) (first ++ rest)) ∙ ap (drop k) (drop_at first rest (length first) refl)
-
 ends-behind : (first rest text : List Bool) → length text ≤ length rest → ends_with beq (first ++ rest) text ≡ ends_with beq rest text
-ends-behind first rest text room = grind (arith, length-append, drop-behind)
+ends-behind first rest text room = grind (arith, length-append, drop-past)
 
 content-behind : (first rest : List Bool) (p : ℕ) → 8 ≤ length rest → content (first ++ rest) (length first + p) ≡ content rest p
 content-behind first rest p room =

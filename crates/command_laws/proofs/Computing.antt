@@ -29,9 +29,10 @@ use Rattle.link_pair.proofs.Pairs.Fitting.{none-beside}
 use Rattle.link_pair.proofs.Pairs.Clear.{bits_in, due, due_of, due-heard, due-well}
 use Rattle.link_pair.proofs.Pairs.Isolating.{IsolationLaws, MaySend, clear-on, agrees-on}
 use Rattle.line_run.proofs.WhatIsLeft.{left_of, leaves-so}
-use Rattle.command_laws.specs.Worked.Rows.{plain_offer, no_lines, one_octet_each, fifteen_segments, way_of, first_made, second_made, EndsSo}
+use Rattle.command_laws.specs.Worked.Rows.{no_lines, one_octet_each, fifteen_segments, way_of, first_made, second_made, EndsSo}
 use Rattle.command_laws.specs.Worked.Rows.{PairEndsSo}
 use Rattle.command_laws.specs.Worked.Rows.{RowsHold}
+use Rattle.xid_params.specs.Terms.{default_offer}
 
 -- what crosses a way is what is to be heard
 crossed : (lose : Bool) (check-slot : Spoken) (s : Sent) → cond (has_message s) (cond lose (Lost s) (Passed s)) Nothing ≡ unhindered lose s
@@ -185,7 +186,7 @@ plain-limits = record {
   pauses_short = tt;
 }
   where
-    allowed : IsAllowed plain_offer
+    allowed : IsAllowed default_offer
     allowed = record {
       tx_len_low = omega arith;
       tx_len_high = omega arith;

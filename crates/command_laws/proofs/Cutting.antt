@@ -7,27 +7,23 @@ use Rattle.command_laws.proofs.Names.{IsPrefixOf}
 use Rattle.std.proofs.Common.{min, append_assoc}
 use Rattle.std.proofs.lemmas.List.{length-take, get_or-append-add, get_or_append_left}
 use Rattle.std.proofs.lemmas.List.Elements.{All-append, All-weaker}
-use Rattle.bit_stuffing.specs.declared.piece.Piece.TheVariants.{Whole, Aborted}
+use Rattle.bit_stuffing.specs.declared.piece.Piece.TheVariants.{Whole}
 use Rattle.bit_stuffing.specs.Flags.{bit_of, flag, FlagEndsAt}
-use Rattle.bit_stuffing.specs.Slots.{flags, fill, rest_of_flag, framed, opening, slot_bits, sent_bits, next_phase, phase_from}
+use Rattle.bit_stuffing.specs.Slots.{flags, fill, rest_of_flag, framed, opening, slot_bits, sent_bits}
 use Rattle.bit_stuffing.specs.Slots.{phase_after, flags_behind, AreSlots}
 use Rattle.bit_stuffing.specs.Sent.{Added, FoundIn, whole_at, octets_if_whole}
 use Rattle.bit_stuffing.specs.Tails.{behind, Misses}
 use Rattle.bit_stuffing.proofs.Found.{pieces-none}
-use Rattle.bit_stuffing.proofs.Sent.{found-is-sent, pieces-stay}
-use Rattle.bit_stuffing.proofs.Tails.{flag-ahead, flag-front, flag-longer}
+use Rattle.bit_stuffing.proofs.Sent.{found-is-sent, pieces-stay, wholes-append, IsExpected}
+use Rattle.bit_stuffing.proofs.Tails.{flag-front, flag-longer}
 use Rattle.detection.specs.Slots.Signal.{PatternSlot, MarkSlot, FlagSlot}
 use Rattle.sample_line.proofs.Passing.{slot-added}
 use Rattle.line_run.specs.Fitting.{Fits}
 use Rattle.line_run.specs.Laws.{FirstOnesFit, SlotsThatFitAreSlots, SlotsHaveSize}
+use Rattle.line_run.proofs.Fits.{fit-last}
+use Rattle.bit_stuffing.proofs.Plain.{flag-back}
 
 -- ---- lists of pieces
-
-wholes-append : (xs ys : List Found) → wholes (xs ++ ys) ≡ wholes xs ++ wholes ys
-wholes-append [] ys = refl
-wholes-append (x ∷ xs) ys =
-    ap (λ t. octets_if_whole x.piece x.octets ++ t) (wholes-append xs ys)
-    ∙ sym (append_assoc (octets_if_whole x.piece x.octets) (wholes xs) (wholes ys))
 
 wholes-behind : (n : ℕ) (xs : List Found) → wholes (map (behind n) xs) ≡ wholes xs
 wholes-behind n [] = refl
@@ -174,11 +170,6 @@ pub record SlotLaws : Type 0 where
   pub slots : SlotsThatFitAreSlots
   pub size : SlotsHaveSize
 
-last-fits : (size phase : ℕ) (before : List Signal) (x : Signal) → AreFit size phase (before ++ x ∷ [])
-    → Fits size (phase_from size phase (slots_of size before)) x
-last-fits size phase [] x h = h.0
-last-fits size phase (y ∷ before) x h = last-fits size (next_phase size phase (slot_of size y)) before x h.1
-
 more-stand : SlotLaws → (size : ℕ) (before more : List Signal) → 4 * (HEAD + TAIL) < size → AreFit size 0 (before ++ more)
     → (added : List Found) × MoreStand size before more added
 more-stand laws size before [] wide fit = (
@@ -207,7 +198,7 @@ more-stand laws size before (x ∷ more) wide fit =
     (sym (length-append {A = Bool} past slot) ∙ sizes ∙ ap (λ n. size * n) (length-append {A = Signal} before (x ∷ []))) in
     let stands : AllStand (past ++ slot) (length past) one.0 =
     signal-stands size phase past (flags_behind false (slots_of size before)) x one.0
-    (last-fits size 0 before x fit-one) long one.1.found in
+    (fit-last size 0 before x fit-one) long one.1.found in
     let rest = more-stand laws size (before ++ x ∷ []) more wide fit-split in
     let whole : signal_bits size (before ++ x ∷ more) ≡ (past ++ slot) ++ rest.1.longer.0 =
     ap (signal_bits size) (sym split) ∙ rest.1.longer.1 ∙ ap (λ l. l ++ rest.1.longer.0) joined in
@@ -240,9 +231,6 @@ pub record CutFinds (size : ℕ) (signals : List Signal) (from upto : ℕ) : Typ
       → IsPrefixOf (wholes missed) (wholes (pieces_of (signal_bits size before)))
   pub others : AreWholeOrAborted (pieces_of (signal_bits size signals))
       → AreWholeOrAborted (pieces_of (drop from (take upto (signal_bits size signals))))
-
-abbrev IsExpected : Found → Type 0
-IsExpected found = (found.piece ≡ Whole) ⊎ (found.piece ≡ Aborted)
 
 heard-expected : (n : ℕ) (pieces : List Found) → AreWholeOrAborted (map (behind n) pieces) → AreWholeOrAborted pieces
 heard-expected n [] h = All-nil IsExpected
@@ -329,7 +317,7 @@ module _ (laws : SlotLaws) (tails : LastPiecesAreFound) (size : ℕ) (signals : 
         let of_heard : FlagEndsAt heard s.flag_end = flag-front heard (drop upto bits) s.flag_end in_heard
         (subst (λ l. FlagEndsAt l s.flag_end) (sym bits-split) s.ends) in
         let behind_first : length first + 8 ≤ s.flag_end = omega (arith, s.late, far, length-take from heard) in
-        let of_rest : FlagEndsAt rest (s.flag_end - length first) = flag-ahead first rest s.flag_end behind_first
+        let of_rest : FlagEndsAt rest (s.flag_end - length first) = flag-back first rest s.flag_end behind_first
         (subst (λ l. FlagEndsAt l s.flag_end) (sym heard-split) of_heard) in
         let early = All-right (λ found. found.place ≤ length first + (s.flag_end - length first)) pieces_before z
         (subst (λ l. All (λ found. found.place ≤ length first + (s.flag_end - length first)) l) is

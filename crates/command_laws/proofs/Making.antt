@@ -2,8 +2,8 @@
 use Rattle.command_laws.proofs.Names.{◌≡◌, ℕ, zero, suc, ◌-◌, Bool, cond, true, false, List, [], ◌∷◌, length, refl, ap, Option, Some, None}
 use Rattle.command_laws.proofs.Names.{Result, Ok, Err, Way, Next, Goes, Ends_run, Stops, turn_with, both_said, crossing, speaking, hearing}
 use Rattle.command_laws.proofs.Names.{next, heard_by, made, runs, IsMade, Nothing, Passed, Lost, Account, hear, Said, sent_ago, has_message}
-use Rattle.command_laws.proofs.Names.{is_closed, TurnIs, Link, Accounts, Turn, Spoken, arrival, Hears, said_at, RunOf, start, of, LinkFault}
-use Rattle.command_laws.proofs.Names.{Role, Originator, Answerer}
+use Rattle.command_laws.proofs.Names.{is_closed, TurnIs, Link, Accounts, Turn, Spoken, arrival, said_at, RunOf, start, of, LinkFault, Role}
+use Rattle.command_laws.proofs.Names.{Originator, Answerer, Hears}
 use Rattle.std.specs.Prelude.{is_ok}
 use Rattle.lapm_frames.specs.declared.heard.Heard.{Heard}
 use Rattle.link_run.specs.Run.{Speaks, IsSilent, GoingTurn}

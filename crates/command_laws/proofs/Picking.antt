@@ -1,10 +1,10 @@
 -- What a pickup finds in the middle of a recording that a tap told.
-use Rattle.command_laws.proofs.Names.{◌≡◌, ◌∙◌, inl, inr, ℕ, zero, suc, ◌+◌, ◌*◌, ◌<◌, ◌≤◌, Bool, List, [], ◌∷◌, ◌++◌, length, map, take}
-use Rattle.command_laws.proofs.Names.{drop, slice_index, refl, sym, ap, subst, arith, None, append-nil, map-append, take-append-drop}
-use Rattle.command_laws.proofs.Names.{take_all, Found, pieces_of, wholes, AreWholeOrAborted, LastPiecesAreFound, HEAD, TAIL, content-same}
-use Rattle.command_laws.proofs.Names.{Status, Done, frames_sent, Signal, slots_of, signal_bits, LostIs, line_depth, Modulates, AreFit}
-use Rattle.command_laws.proofs.Names.{signals, bits_of, Tapping, tapping, line_of, Tells, Turn, IsInLimits, FolderState, octets_at}
-use Rattle.command_laws.proofs.Names.{mode_number, header_of, samples_in, Trellis, mode_of, tap_of, Mode, of, IsPrefixOf, Role, Sample}
+use Rattle.command_laws.proofs.Names.{◌≡◌, ◌∙◌, inl, inr, ℕ, zero, suc, ◌+◌, ◌*◌, ◌<◌, ◌≤◌, Bool, List, [], ◌++◌, length, map, take, drop}
+use Rattle.command_laws.proofs.Names.{slice_index, refl, sym, ap, subst, arith, None, append-nil, map-append, take-append-drop, take_all}
+use Rattle.command_laws.proofs.Names.{Found, pieces_of, wholes, AreWholeOrAborted, LastPiecesAreFound, HEAD, TAIL, content-same, Status}
+use Rattle.command_laws.proofs.Names.{Done, frames_sent, Signal, slots_of, signal_bits, LostIs, line_depth, Modulates, AreFit, signals}
+use Rattle.command_laws.proofs.Names.{bits_of, Tapping, tapping, line_of, Tells, Turn, IsInLimits, FolderState, octets_at, mode_number}
+use Rattle.command_laws.proofs.Names.{header_of, samples_in, Trellis, mode_of, tap_of, Mode, of, IsPrefixOf, Role, Sample}
 use Rattle.std.proofs.Common.{◌%◌}
 use Rattle.std.proofs.Math.Nat.{mul_assoc}
 use Rattle.std.proofs.lemmas.List.{append_cancel_left}
@@ -18,7 +18,7 @@ use Rattle.line_tap.specs.Names.{TapNames}
 use Rattle.line_tap.specs.Headline as tap
 use Rattle.signal_commands.specs.PickingUp.Gives.{GivesPieces}
 use Rattle.signal_commands.specs.PickingUp.Laws.{SomePiecesAreGiven, PiecesAreGivenOnce, LaterPiecesStandBehind}
-use Rattle.signal_commands.specs.PickingUp.Middles.{turned_by, middle_of, AreNear, AreHeardOf, MiddlesGiveWhatWasSent, MiddlesAreNeverLost}
+use Rattle.signal_commands.specs.PickingUp.Middles.{middle_of, AreNear, AreHeardOf, MiddlesGiveWhatWasSent, MiddlesAreNeverLost}
 use Rattle.signal_commands.proofs.PickingUp.Middles.{near-front}
 use Rattle.signal_commands.specs.PickingUp.Headline as pickup
 use Rattle.signal_commands.specs.PickingUp.Completes.{IsRecording}
@@ -28,6 +28,8 @@ use Rattle.command_laws.proofs.Cutting.{SlotLaws, CutFinds, cut-finds}
 use Rattle.line_tap.proofs.ToldFit.{FitLaws, told-fit}
 use Rattle.command_laws.proofs.Told.{frames-are, signals-split, tells-earlier, one-each, told-bits}
 use Rattle.command_laws.proofs.Told.{few-samples, all-told}
+use Rattle.line_coding.specs.QuarterTurns.{turned_by}
+use Rattle.signal_commands.proofs.PickingUp.Longer.{drop-front}
 
 -- the laws that it rests on
 pub record PickupLaws : Type 0 where
@@ -97,12 +99,6 @@ mode-same a b e = grind (arith)
 
 sender-is : (role : Role) → sender_of (mode_of role) ≡ role
 sender-is role = grind (arith)
-
--- what is left of samples whose first ones aren't there begins with what is left of the first part of them
-drop-front : {A : Type 0} (n : ℕ) (xs ys : List A) → (more : List A) × (drop n (xs ++ ys) ≡ drop n xs ++ more)
-drop-front zero xs ys = (ys, refl)
-drop-front (suc n) [] ys = (drop (suc n) ys, refl)
-drop-front (suc n) (x ∷ xs) ys = drop-front n xs ys
 
 turned-append : (turns : ℕ) (a b : List Sample) → turned_by turns (a ++ b) ≡ turned_by turns a ++ turned_by turns b
 turned-append zero a b = refl

@@ -1,12 +1,11 @@
 -- What was sent without noise at either rate: its labels are least alone, and carry its bits; its samples stand in their octets.
-use Rattle.command_laws.proofs.Names.{◌≡◌, ◌∙◌, ℕ, suc, ◌*◌, ◌<◌, Bool, true, false, List, [], ◌∷◌, ◌++◌, length, map, refl, sym, ap, subst}
-use Rattle.command_laws.proofs.Names.{arith, All, None, length-append, All-nil, All-cons, All-head, All-tail, flat_map, LostIs, line_depth}
+use Rattle.command_laws.proofs.Names.{◌≡◌, ◌∙◌, ℕ, suc, ◌<◌, Bool, true, List, [], ◌∷◌, ◌++◌, length, map, refl, sym, ap, subst, arith, All}
+use Rattle.command_laws.proofs.Names.{None, length-append, All-nil, All-cons, All-head, All-tail, flat_map, LostIs, line_depth}
 use Rattle.command_laws.proofs.Names.{sample_octets, samples_in, Rate, Trellis, Quarters, trellis_at, DemodulatesAt, Sample}
 use Rattle.std.proofs.Common.{◌&&◌, nat_eq, nat_lt}
 use Rattle.std.specs.List.{range_with_len}
 use Rattle.std.proofs.lemmas.Bool.{and_parts, eqb-true, lt-ltb}
 use Rattle.symbol_map.specs.Points.{point_of}
-use Rattle.symbol_map.specs.Distance.{distance_of}
 use Rattle.symbol_map.specs.Laws.{NoDistanceIsEqual}
 use Rattle.symbol_map.specs.Finite.{each_below, at_each}
 use Rattle.trellis_tables.specs.Differential.Turned.{turned, turned_at}
@@ -21,6 +20,7 @@ use Rattle.rate_4800.specs.Code as quarters
 use Rattle.rate_4800.proofs.Twos as quarter_bits
 use Rattle.signal_commands.specs.Encoding.Recorder.{ModulatesAt}
 use Rattle.recordings.proofs.Samples.{samples_in-append}
+use Rattle.line_tap.proofs.Coding.{the-one, is_one, ReadsBack}
 
 -- the laws that this rests on
 pub record SentLaws : Type 0 where
@@ -28,11 +28,6 @@ pub record SentLaws : Type 0 where
   pub trellis : OnlySentIsLeast next_state point_of
   pub quarters : OnlySentIsLeast quarters.next_state quarters.point_of
   pub kept : NeverLost
-
-abbrev is_one : List Sample → Sample → Bool
-is_one [] point = false
-is_one (s ∷ []) point = nat_eq (distance_of s point) 0
-is_one (s ∷ t ∷ rest) point = false
 
 abbrev reads_back : (ℕ → Sample) → ℕ → Bool
 reads_back points label =
@@ -44,16 +39,8 @@ trellis-test = refl
 quarters-test : each_below 4 (reads_back quarters.point_of) ≡ true
 quarters-test = refl
 
-the-one : NoDistanceIsEqual → (xs : List Sample) (point : Sample) → is_one xs point ≡ true → xs ≡ point ∷ []
-the-one none xs point e = grind (arith, eqb-true)
-
--- samples are read back from their octets, four each
-pub record ReadBack (samples : List Sample) : Type 0 where
-  pub count : length (flat_map sample_octets samples) ≡ 4 * length samples
-  pub same : samples_in (flat_map sample_octets samples) ≡ samples
-
 points-back : NoDistanceIsEqual → (points : ℕ → Sample) (few : ℕ) → each_below few (reads_back points) ≡ true
-    → (labels : List ℕ) → All (λ label. label < few) labels → ReadBack (map points labels)
+    → (labels : List ℕ) → All (λ label. label < few) labels → ReadsBack (map points labels)
 points-back none points few test [] h = record { count = refl; same = refl }
 points-back none points few test (label ∷ labels) h =
     let one = and_parts (nat_eq (length (sample_octets (points label))) 4)
@@ -77,7 +64,7 @@ pub record IsSent (rate : Rate) (tap : ℕ) (bits : List Bool) (samples : List S
   pub labels : List ℕ
   pub only : IsOnlyLeast (trellis_at rate) samples labels
   pub carries : DemodulatesAt rate tap labels bits
-  pub back : ReadBack samples
+  pub back : ReadsBack samples
   pub kept : rate ≡ Trellis → LostIs (trellis_at rate) line_depth samples None
 
 turns-small : (q places : List ℕ) → All (λ label. label < 4) (map (turned_at q) places)
@@ -102,7 +89,7 @@ is-sent laws Trellis tap bits samples h = record {
     exact = h.points;
   });
   carries = line.comes-back tap bits h.line h.quads h.labels h.end h.scrambled h.in_fours h.are_quads h.encoded;
-  back = subst ReadBack (sym h.points)
+  back = subst ReadsBack (sym h.points)
       (points-back laws.none point_of 32 trellis-test h.labels (Leads-below next_state 8 32 0 h.labels h.end v32_bounded h.encoded.leads));
   kept = λ e. laws.kept 0 128 h.labels samples
       (record { start_there = omega arith; end = h.end; leads = h.encoded.leads; exact = h.points }) (omega arith);
@@ -118,6 +105,6 @@ is-sent laws Quarters tap bits samples h =
         exact = h.points;
       });
       carries = quarter_bits.comes-back tap bits h.line h.turns h.scrambled h.in_twos h.are_turns;
-      back = subst ReadBack (sym h.points) (points-back laws.none quarters.point_of 4 quarters-test labels small);
+      back = subst ReadsBack (sym h.points) (points-back laws.none quarters.point_of 4 quarters-test labels small);
       kept = λ e. absurd cc;
     }

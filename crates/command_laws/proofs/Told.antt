@@ -1,8 +1,8 @@
 -- The slots of turns that recordings told: they fit, their frames are those that were sent, and their bits are those of the samples.
 use Rattle.command_laws.proofs.Names.{◌≡◌, ◌∙◌, ℕ, ◌+◌, ◌*◌, ◌≤◌, List, [], ◌∷◌, ◌++◌, length, take, refl, sym, ap, subst, arith}
-use Rattle.command_laws.proofs.Names.{length-append, ◌<◌, Option, Some, None, append-nil, map-append, take_all, All-nil, Plain, Flags}
-use Rattle.command_laws.proofs.Names.{frames_sent, Signal, slot_of, slots_of, Sent, Modulates, signals, bits_of, Tapping, line_of, Tells}
-use Rattle.command_laws.proofs.Names.{Spoken, Turn, samples_in, mode_of, tap_of, of, Role}
+use Rattle.command_laws.proofs.Names.{length-append, Option, Some, None, append-nil, map-append, take_all, Plain, Flags, frames_sent}
+use Rattle.command_laws.proofs.Names.{Signal, slot_of, slots_of, Sent, Modulates, signals, bits_of, Tapping, line_of, Tells, Spoken, Turn}
+use Rattle.command_laws.proofs.Names.{samples_in, mode_of, tap_of, of, Role}
 use Rattle.std.proofs.lemmas.List.{append_assoc}
 use Rattle.frame_check.specs.declared.check.Check.{Check}
 use Rattle.bit_stuffing.specs.Slots.{Slot}
@@ -14,6 +14,7 @@ use Rattle.line_run.specs.Sampled.{signal_in}
 use Rattle.line_run.proofs.Bits.{signals-more, bits-more}
 use Rattle.line_tap.specs.Tapping.{terms_of, octets_of, told}
 use Rattle.command_laws.specs.Pickups.{frame_in, frame_sent}
+use Rattle.sample_line.proofs.Once.{none-modulated}
 
 -- ---- their frames
 
@@ -71,23 +72,10 @@ one-each x (t ∷ ts) h role =
 
 -- ---- they are the recording's
 
-nothing-sent : (tap : ℕ) → Modulates tap [] []
-nothing-sent tap = record {
-  line = [];
-  quads = [];
-  labels = [];
-  end = 0;
-  scrambled = record { lengths = refl; each = λ i within. absurd (omega (arith, within)) };
-  in_fours = refl;
-  are_quads = All-nil (λ quad. quad < 16);
-  encoded = record { leads = refl; turned_is = refl; uncoded_is = refl };
-  points = refl;
-}
-
 pub told-bits : (x : Tapping) (ts : List Turn) → Tells x ts → (role : Role)
     → Modulates (tap_of (mode_of role)) (bits_of (line_of x) role ts)
     (take ((line_of x).symbols * length ts) (samples_in (of role x.bodies)))
-told-bits x [] h role = grind (arith, nothing-sent)
+told-bits x [] h role = grind (arith, none-modulated)
 told-bits x (t ∷ ts) h role =
     let s = h.0.sends role in
     let count : (line_of x).symbols * (length ts + 1) ≡ (line_of x).symbols * length (t ∷ ts) =

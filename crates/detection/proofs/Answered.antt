@@ -1,33 +1,19 @@
 -- The answer at each bit, as a relation and as a function.
-use Rattle.detection.proofs.Names.{◌≡◌, ℕ, zero, suc, ◌+◌, ◌-◌, ◌<◌, inl, inr, Bool, true, false, ◌||◌, if◌then◌else◌, List, [], ◌∷◌, ◌++◌}
-use Rattle.detection.proofs.Names.{length, get_or, take, drop, reverse, Option, Some, None, arith, length-append, refl, sym, ◌∙◌, ap}
-use Rattle.detection.proofs.Names.{false≢true, cases_lt, take-append-drop, beq, pointwise, ends_with, twice, EndsPattern, IsGap, IsSeen}
-use Rattle.detection.proofs.Names.{Seen, Odp, Adp}
+use Rattle.detection.proofs.Names.{◌≡◌, ℕ, zero, suc, ◌+◌, ◌-◌, ◌<◌, inl, inr, Bool, true, false, ◌||◌, if◌then◌else◌, List, ◌++◌, length}
+use Rattle.detection.proofs.Names.{get_or, take, drop, reverse, Option, Some, None, arith, length-append, refl, sym, ◌∙◌, ap, false≢true}
+use Rattle.detection.proofs.Names.{cases_lt, take-append-drop, beq, ends_with, same_bits, twice, EndsPattern, IsGap, IsSeen, Seen, Odp, Adp}
 use Rattle.std.proofs.lemmas.Bool.{or_left, or_right}
 use Rattle.std.proofs.lemmas.List.{drop_at}
 use Rattle.detection.specs.Patterns.{some_below, some_gap, ends_pattern, seen_at}
 use Rattle.detection.proofs.Readings.{backwards, reverse-twice}
+use Rattle.bit_stuffing.proofs.EndsWith.{bits-same}
 
 -- a test of the last bits
-
-pub bits-same : (xs : List Bool) → pointwise beq xs xs ≡ true
-bits-same [] = refl
-bits-same (true ∷ xs) = bits-same xs
-bits-same (false ∷ xs) = bits-same xs
-
-pub same-bits : (xs ys : List Bool) → pointwise beq xs ys ≡ true → xs ≡ ys
-same-bits [] [] e = refl
-same-bits [] (y ∷ ys) e = absurd (false≢true e)
-same-bits (x ∷ xs) [] e = absurd (false≢true e)
-same-bits (true ∷ xs) (true ∷ ys) e = ap (λ t. true ∷ t) (same-bits xs ys e)
-same-bits (false ∷ xs) (false ∷ ys) e = ap (λ t. false ∷ t) (same-bits xs ys e)
-same-bits (true ∷ xs) (false ∷ ys) e = absurd (false≢true e)
-same-bits (false ∷ xs) (true ∷ ys) e = absurd (false≢true e)
 
 ends-text : (bits text : List Bool) → ends_with beq bits text ≡ true → bits ≡ take (length bits - length text) bits ++ text
 ends-text bits text e =
     sym (take-append-drop (length bits - length text) bits)
-    ∙ ap (λ l. take (length bits - length text) bits ++ l) (sym (same-bits text (drop (length bits - length text) bits) e))
+    ∙ ap (λ l. take (length bits - length text) bits ++ l) (sym (same_bits text (drop (length bits - length text) bits) e))
 
 pub text-ends : (bits before text : List Bool) → bits ≡ before ++ text → ends_with beq bits text ≡ true
 text-ends bits before text e = grind (arith, length-append, drop_at, bits-same)

@@ -60,12 +60,6 @@ ended-all size phase past (signal ∷ signals) long are h =
     subst (λ l. Ended l (phase_from size (next_phase size phase slot) (slots_of size signals)))
     (append_assoc past (slot_bits size phase slot) (bits_from size (next_phase size phase slot) (slots_of size signals))) all
 
--- slots before another one
-pub are-split : (size phase : ℕ) (slots : List Slot) (slot : Slot) → AreSlots size phase (slots ++ slot ∷ [])
-    → AreSlots size phase slots × IsSlot size (phase_from size phase slots) slot
-are-split size phase [] slot h = (tt, h.0)
-are-split size phase (x ∷ slots) slot h = let r = are-split size (next_phase size phase x) slots slot h.1 in ((h.0, r.0), r.1)
-
 -- A pattern that begins before a slot: what of it stands before the slot has at most seven ones of its first gap.
 module _ (past : List Bool) (phase : ℕ) (h : Ended past phase) (seen : Seen) (a b e : ℕ) (a_low : 8 ≤ a) (a_high : a ≤ 17) (b_high : b ≤ 17)
     (e_high : e ≤ 17) where

@@ -1,14 +1,15 @@
 -- Where patterns end in a pattern slot.
-use Rattle.detection.proofs.Names.{◌≡◌, inl, inr, ℕ, zero, suc, ◌+◌, ◌-◌, ◌*◌, ◌/◌, ◌%◌, ◌<◌, ◌≤◌, Bool, true, false, ◌||◌, if◌then◌else◌}
-use Rattle.detection.proofs.Names.{nat_eq, List, ◌++◌, length, get_or, take, Option, Some, None, lit≤, arith, append_assoc, length-append}
-use Rattle.detection.proofs.Names.{refl, sym, ◌∙◌, ap, cases_lt, false≢true, eqb-true, take-append-le, length-take-le, length-replicate}
-use Rattle.detection.proofs.Names.{get_or-take, get_or-replicate, get_or-append_right, get_or-append-add, beq, pointwise, ends_with, second}
-use Rattle.detection.proofs.Names.{ones, twice, EndsPattern, IsGap, patterns, pattern_bits, Seen, Odp, Adp}
+use Rattle.detection.proofs.Names.{◌≡◌, inl, inr, ℕ, ◌+◌, ◌-◌, ◌*◌, ◌/◌, ◌%◌, ◌<◌, ◌≤◌, Bool, true, false, ◌||◌, if◌then◌else◌, nat_eq}
+use Rattle.detection.proofs.Names.{List, ◌++◌, length, get_or, take, Option, Some, None, lit≤, arith, append_assoc, length-append, refl}
+use Rattle.detection.proofs.Names.{sym, ◌∙◌, ap, cases_lt, false≢true, eqb-true, take-append-le, length-take-le, length-replicate}
+use Rattle.detection.proofs.Names.{get_or-take, get_or-replicate, get_or-append_right, get_or-append-add, beq, pointwise, ends_with}
+use Rattle.detection.proofs.Names.{same_bits, second, ones, twice, EndsPattern, IsGap, patterns, pattern_bits, each_below, at_each, Seen}
+use Rattle.detection.proofs.Names.{Odp, Adp}
 use Rattle.std.proofs.Common.{not, ◌&&◌}
 use Rattle.std.proofs.Common.{nat_lt}
 use Rattle.std.proofs.lemmas.Bool.{and_parts, le-ltb, ltb-true}
 use Rattle.detection.specs.Sights.{sights_from}
-use Rattle.detection.proofs.Answered.{same-bits, text-ends}
+use Rattle.detection.proofs.Answered.{text-ends}
 use Rattle.detection.proofs.Written.{ones-append}
 use Rattle.detection.proofs.Sightings.{ranged, ranged-quiet}
 use Rattle.detection.proofs.Twice.{length-twice, length-second, before_last, twice-back}
@@ -25,18 +26,6 @@ same_kind Odp Odp = true
 same_kind Odp Adp = false
 same_kind Adp Odp = false
 same_kind Adp Adp = true
-
--- a test of each place
-abbrev pub each_below : ℕ → (ℕ → Bool) → Bool
-each_below zero test = true
-each_below (suc n) test = test n && each_below n test
-
-pub at_each : (n : ℕ) (test : ℕ → Bool) → each_below n test ≡ true → (i : ℕ) → i < n → test i ≡ true
-at_each zero test e i l = absurd (omega arith)
-at_each (suc n) test e i l = elim (cases_lt i n) [
-  | inl lower ↦ at_each n test (and_parts (test n) (each_below n test) e).1 i lower
-  | inr here ↦ let same : i ≡ n = omega arith in ap test same ∙ (and_parts (test n) (each_below n test) e).0
-]
 
 -- Where the bits of a pattern slot end with a second character and eight ones, some bits from its start, a pattern ends, if it is not too
 -- near the start.
@@ -164,7 +153,7 @@ ends-there size kind k low = record { before = patterns k kind; a = 9; b = 9; e 
     ends : take (71 + 36 * k) (pattern_bits size kind) ≡ patterns k kind ++ twice kind 9 9 9
     ends =
         take-append-le (71 + 36 * k) (patterns 10 kind) (ones (size - 360)) (omega (arith, ten_long kind))
-        ∙ same-bits (take (71 + 36 * k) (patterns 10 kind)) (patterns k kind ++ twice kind 9 9 9)
+        ∙ same_bits (take (71 + 36 * k) (patterns 10 kind)) (patterns k kind ++ twice kind 9 9 9)
         (at_each 9 (λ k. pointwise beq (take (71 + 36 * k) (patterns 10 kind)) (patterns k kind ++ twice kind 9 9 9))
         (exact_test kind) k low)
 

@@ -4,7 +4,7 @@ mod Quiet
 mod Readings
 mod Answered
 mod Written
-mod Sightings
+pub mod Sightings
 mod Calm
 mod Twice
 mod Borders

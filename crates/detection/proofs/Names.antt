@@ -13,6 +13,8 @@ pub use Rattle.std.specs.Cmp.Lexicographic.{pointwise}
 pub use Rattle.std.specs.Int.{bit_at, trailing_ones}
 pub use Rattle.std.specs.Int.Width.{w128}
 pub use Rattle.std.specs.List.{ends_with}
+pub use Rattle.bit_stuffing.proofs.EndsWith.{same_bits}
+pub use Rattle.bit_stuffing.proofs.Latest.{bit_at-rem}
 pub use Rattle.bit_stuffing.proofs.Sizes.{length-slot_bits}
 pub use Rattle.bit_stuffing.specs.BitSlot.{line_bits}
 pub use Rattle.bit_stuffing.specs.Flags.{flag}
@@ -22,6 +24,7 @@ pub use Rattle.detection.specs.Patterns.{EndsPattern, IsGap, IsSeen, first, ones
 pub use Rattle.detection.specs.Reader.{EndsCharacter, Holds, LeftBehind, LeftBehindOnce, ReaderStands}
 pub use Rattle.detection.specs.Slots.{Signal, pattern, pattern_bits, patterns, slot_of, slots_of}
 pub use Rattle.detection.specs.Slots.Signal.{FlagSlot, MarkSlot, PatternSlot}
+pub use Rattle.frame_check.proofs.Generators.{at_each, each_below}
 pub use Rattle.frame_check.specs.Bits.{low_bits, number}
 pub use Rattle.lapm_frames.specs.declared.seen.Seen.{Seen}
 pub use Rattle.lapm_frames.specs.declared.seen.Seen.TheVariants.{Adp, Odp}

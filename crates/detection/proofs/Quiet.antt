@@ -2,17 +2,16 @@
 use Rattle.detection.proofs.Names.{◌≡◌, inl, inr, ℕ, ◌+◌, ◌-◌, ◌*◌, ◌/◌, ◌%◌, ◌^◌, ◌<◌, ◌≤◌, Bool, true, List, ◌++◌, length, get_or, take}
 use Rattle.detection.proofs.Names.{drop, reverse, None, bit_or, lit≤, arith, length-append, refl, sym, ◌∙◌, ap, subst, append_assoc}
 use Rattle.detection.proofs.Names.{cases_lt, append-nil, reverse-append, take-append-drop, get_or_append_left, get_or-append_right}
-use Rattle.detection.proofs.Names.{get_or-replicate, shr-shr, or_shifted, bit_at_cat_low, beq, pointwise, bit_at, ones, EndsPattern, second}
-use Rattle.detection.proofs.Names.{Holds, ReaderStands, number, low_bits, Seen}
+use Rattle.detection.proofs.Names.{get_or-replicate, shr-shr, or_shifted, bit_at_cat_low, beq, pointwise, bit_at, same_bits, bit_at-rem}
+use Rattle.detection.proofs.Names.{ones, EndsPattern, second, Holds, ReaderStands, each_below, at_each, number, low_bits, Seen}
 use Rattle.std.proofs.Common.{min}
 use Rattle.std.proofs.Common.{bit_and}
 use Rattle.std.proofs.lemmas.List.{length-reverse, length-drop}
 use Rattle.std.proofs.lemmas.Nat.Bits.{bit_at_and, bit_at_cat_high, bit_at-zero}
 use Rattle.detection.specs.Patterns.{seen_at}
 use Rattle.detection.specs.Sights.{sights_of}
-use Rattle.detection.proofs.Answered.{seen-once, same-bits}
-use Rattle.detection.proofs.Inside.{each_below, at_each}
-use Rattle.detection.proofs.Registers.{spelled, bit_at-rem}
+use Rattle.detection.proofs.Answered.{seen-once}
+use Rattle.detection.proofs.Registers.{spelled}
 use Rattle.detection.proofs.Sightings.{sights-ranged, ranged-none}
 use Rattle.detection.proofs.Twice.{before_last, twice-ones}
 
@@ -47,7 +46,7 @@ all_turned : each_below 16 turned_test ≡ true
 all_turned = refl
 
 pub turned-is : (four : ℕ) → four < 16 → low_bits 4 (17848844570815808640 / 2 ^ (4 * four) % 16) ≡ reverse (low_bits 4 four)
-turned-is four small = same-bits (low_bits 4 (17848844570815808640 / 2 ^ (4 * four) % 16)) (reverse (low_bits 4 four))
+turned-is four small = same_bits (low_bits 4 (17848844570815808640 / 2 ^ (4 * four) % 16)) (reverse (low_bits 4 four))
     (at_each 16 turned_test all_turned four small)
 
 -- eight ones in a row

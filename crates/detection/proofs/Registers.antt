@@ -2,19 +2,13 @@
 use Rattle.detection.proofs.Names.{◌≡◌, ℕ, zero, suc, ◌+◌, ◌-◌, ◌*◌, ◌/◌, ◌%◌, ◌^◌, ◌<◌, ◌≤◌, inl, inr, Bool, true, false, nat_eq, List, []}
 use Rattle.detection.proofs.Names.{◌∷◌, ◌++◌, length, get_or, drop, reverse, bit_or, arith, length-append, length-drop, refl, sym, ◌∙◌, ap}
 use Rattle.detection.proofs.Names.{subst, cases_lt, false≢true, length-replicate, reverse-append, get_or-replicate, get_or_append_left}
-use Rattle.detection.proofs.Names.{get_or-append_right, get_or-drop, get_or_default, same_lists, shr-shr, or_shifted, bit_at_cat_low}
-use Rattle.detection.proofs.Names.{bit_at, trailing_ones, w128, ones, Holds, ReaderStands, EndsCharacter, number, low_bits}
+use Rattle.detection.proofs.Names.{get_or-append_right, get_or-drop, get_or_default, same_lists, shr-shr, or_shifted, bit_at, trailing_ones}
+use Rattle.detection.proofs.Names.{w128, bit_at-rem, ones, Holds, ReaderStands, EndsCharacter, number, low_bits}
 use Rattle.std.proofs.lemmas.List.{get_or_past}
-use Rattle.std.proofs.lemmas.Nat.{shr_split}
 use Rattle.std.proofs.lemmas.Nat.Bits.{bit_at-lt, bit_at-suc, bit_at_lowest, bit_at_ones, bit_at-trailing_ones}
 use Rattle.std.proofs.lemmas.Nat.Bits.{same_from_bits_below}
 use Rattle.frame_check.proofs.BitLists.{length-low_bits, get_or-low_bits}
-
-pub number-lt : (b : Bool) → number b < 2
-number-lt q0 = grind (arith)
-
-pub same_number : (a b : Bool) → number a ≡ number b → a ≡ b
-same_number q0 q1 e = grind (arith)
+use Rattle.bit_stuffing.proofs.Latest.{number-lt, same_number}
 
 number-of : (n : ℕ) → n < 2 → n ≡ number (nat_eq n 1)
 number-of zero h = refl
@@ -119,11 +113,6 @@ holds-behind width skipped latest recent rest within follows room fits h = recor
   where
     each : (place : ℕ) → place < room → bit_at (latest / 2 ^ skipped) place ≡ number (get_or rest place true)
     each place low = ap (λ n. n % 2) (shr-shr latest skipped place) ∙ h.each (skipped + place) (omega arith) ∙ ap number (follows place)
-
--- the low bits of a number are those of its remainder
-pub bit_at-rem : (n k i : ℕ) → i < k → bit_at (n % 2 ^ k) i ≡ bit_at n i
-bit_at-rem n k i h = let e : n ≡ n / 2 ^ k * 2 ^ k + n % 2 ^ k = sym (shr_split n k) in
-    sym (ap (λ x. bit_at x i) e ∙ bit_at_cat_low (n / 2 ^ k) k (n % 2 ^ k) i h)
 
 bit_at-part : (n gap i : ℕ) → i < 9 → bit_at (n / 2 ^ gap % 512) i ≡ bit_at n (gap + i)
 bit_at-part n gap i h = bit_at-rem (n / 2 ^ gap) 9 i h ∙ ap (λ m. m % 2) (shr-shr n gap i)

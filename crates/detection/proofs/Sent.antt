@@ -1,8 +1,8 @@
 -- What is seen in slots is what was sent in them.
-use Rattle.detection.proofs.Names.{◌≡◌, ℕ, suc, ◌+◌, ◌<◌, ◌≤◌, Bool, true, false, if◌then◌else◌, List, [], ◌∷◌, ◌++◌, All, length, take}
-use Rattle.detection.proofs.Names.{Option, Some, None, arith, append_assoc, refl, sym, ◌∙◌, ap, subst, false≢true, map-append}
-use Rattle.detection.proofs.Names.{length-replicate, length-slot_bits, slot_bits, next_phase, IsSlot, AreSlots, EndsPattern, IsSeen, Signal}
-use Rattle.detection.proofs.Names.{pattern_bits, slot_of, slots_of, PatternSlot, MarkSlot, FlagSlot, Seen}
+use Rattle.detection.proofs.Names.{◌≡◌, ℕ, ◌+◌, ◌<◌, ◌≤◌, Bool, true, false, if◌then◌else◌, List, [], ◌∷◌, ◌++◌, All, length, take, Option}
+use Rattle.detection.proofs.Names.{Some, None, arith, append_assoc, refl, sym, ◌∙◌, ap, subst, false≢true, map-append, length-replicate}
+use Rattle.detection.proofs.Names.{length-slot_bits, slot_bits, next_phase, IsSlot, AreSlots, EndsPattern, IsSeen, Signal, pattern_bits}
+use Rattle.detection.proofs.Names.{slot_of, slots_of, PatternSlot, MarkSlot, FlagSlot, Seen}
 use Rattle.std.proofs.lemmas.List.Elements.{All-head, All-tail}
 use Rattle.bit_stuffing.specs.Slots.{phase_after}
 use Rattle.bit_stuffing.proofs.Fill.{bits-append, next-low}
@@ -13,8 +13,10 @@ use Rattle.detection.specs.Sights.{sights_of, seen_in, EndsInSlot, IsSent}
 use Rattle.detection.proofs.Answered.{seen-once}
 use Rattle.detection.proofs.Written.{pattern-plain, mark-plain}
 use Rattle.detection.proofs.Sightings.{ranged, ranged-none, sights-ranged}
-use Rattle.detection.proofs.Borders.{Ended, ended-start, ended-all, are-split, none-in_flags, none-in_marks, inside-patterns}
+use Rattle.detection.proofs.Borders.{Ended, ended-start, ended-all, none-in_flags, none-in_marks, inside-patterns}
 use Rattle.detection.proofs.Inside.{is_end, own, placed, ends-there, end-place, own-sights, length-pattern_bits}
+use Rattle.bit_stuffing.proofs.Passing.{take-past}
+use Rattle.bit_stuffing.proofs.Sent.{are-split}
 
 -- one more slot
 
@@ -22,11 +24,6 @@ pub slot-added : (size : ℕ) (before : List Signal) (signal : Signal)
     → signal_bits size (before ++ signal ∷ []) ≡ signal_bits size before
     ++ slot_bits size (phase_after size (slots_of size before)) (slot_of size signal)
 slot-added size before signal = grind (arith, map-append, bits-append)
-
-take-past : (past bits : List Bool) (p : ℕ) → take (length past + p) (past ++ bits) ≡ past ++ take p bits
-take-past [] bits p = let e : 0 + p ≡ p = omega arith in ap (λ n. take n bits) e
-take-past (b ∷ past) bits p = let e : length (b ∷ past) + p ≡ suc (length past + p) = omega arith in
-    ap (λ n. take n (b ∷ (past ++ bits))) e ∙ ap (λ l. b ∷ l) (take-past past bits p)
 
 pub place-added : (size : ℕ) (before : List Signal) (signal : Signal) (p : ℕ)
     → take (length (signal_bits size before) + p) (signal_bits size (before ++ signal ∷ []))

@@ -15,7 +15,7 @@ pub sights-none : sights_of [] ≡ []
 unfolding sights_of
 sights-none = refl
 
-before-front : (bits more : List Bool) (n : ℕ) → n ≤ length bits → sights_before (bits ++ more) n ≡ sights_before bits n
+pub before-front : (bits more : List Bool) (n : ℕ) → n ≤ length bits → sights_before (bits ++ more) n ≡ sights_before bits n
 before-front bits more zero h = refl
 before-front bits more (suc n) h = grind (arith, take-append-le, before-front bits more n (omega arith))
 

@@ -1,21 +1,21 @@
 -- The check that the register gives, and that the definition has just one.
-use Rattle.std.proofs.Common.{◌≡◌, ℕ, zero, suc, ◌+◌, ◌-◌, ◌*◌, ◌/◌, ◌%◌, ◌^◌, ◌<◌, Bool, true, false, not, List, [], ◌∷◌, ◌++◌, All}
-use Rattle.std.proofs.Common.{length, map, reverse, get_or, take, drop, nat_eq, ◌≤◌, arith, length-append, refl, sym, ◌∙◌, ap, subst}
-use Rattle.std.specs.Int.{bit_at, w16, w32}
+use Rattle.frame_check.proofs.Names.{◌≡◌, ℕ, zero, suc, ◌+◌, ◌-◌, ◌*◌, ◌/◌, ◌%◌, ◌^◌, ◌<◌, Bool, true, false, List, [], ◌∷◌, ◌++◌, All}
+use Rattle.frame_check.proofs.Names.{length, reverse, get_or, take, drop, nat_eq, ◌≤◌, arith, length-append, refl, sym, ◌∙◌, ap, subst}
+use Rattle.frame_check.proofs.Names.{false≢true, bit_at, bits_of, low_bits, number, count_of, coefficient, generator_of, Leaves, Holds}
+use Rattle.frame_check.proofs.Names.{Sixteen, ThirtyTwo}
+use Rattle.std.proofs.Common.{not}
+use Rattle.std.proofs.Common.{map}
+use Rattle.std.specs.Int.{w16, w32}
 use Rattle.std.proofs.lemmas.List.{length-map, length-reverse, get_or-map, get_or-reverse}
 use Rattle.std.proofs.lemmas.Nat.Bits.{bit_at_not}
-use Rattle.std.proofs.lemmas.Bool.{false≢true}
 use Rattle.std.proofs.lemmas.Bool.Decides.{Decides-eqb}
 use Rattle.std.proofs.lemmas.Slice.Eq.{slice_eq-Decides}
 use Rattle.std.proofs.Math.Seq.{take-append_seam, drop-append_seam}
 use Rattle.std.specs.Cmp.Lexicographic.{pointwise}
 use Rattle.std.specs.Prelude.{IsTrue}
 use Rattle.frame_check.specs.declared.check.Check.{Check}
-use Rattle.frame_check.specs.declared.check.Check.TheVariants.{Sixteen, ThirtyTwo}
-use Rattle.frame_check.specs.Bits.{bits_of, low_bits, number}
-use Rattle.frame_check.specs.FrameCheck.{coefficient, width_of, generator_of, Leaves, IsCheckOf, IsChecked, Passes}
-use Rattle.frame_check.specs.Division.{remainder_of, check_of, with_check, count_of}
-use Rattle.frame_check.specs.Register.{Holds}
+use Rattle.frame_check.specs.FrameCheck.{width_of, IsCheckOf, IsChecked, Passes}
+use Rattle.frame_check.specs.Division.{remainder_of, check_of, with_check}
 use Rattle.frame_check.proofs.BitLists.{low_bits-by_place, same_octets, length-octets_of, octets_of-are_octets, bits_of-octets_of}
 use Rattle.frame_check.proofs.BitLists.{bits_of-two, bits_of-four}
 use Rattle.frame_check.proofs.Remainders.{Leaves-all}
@@ -171,7 +171,7 @@ front-checked check octets whole h =
     sym (take-append_seam octets (check_of check octets)) ∙ ap (λ n. take n (octets ++ check_of check octets)) count
     ∙ ap (take (length whole - count_of check)) (sym (with_check-one check octets whole h))
 
-long_enough : (check : Check) (whole : List ℕ) → Passes check whole → count_of check ≤ length whole
+pub long_enough : (check : Check) (whole : List ℕ) → Passes check whole → count_of check ≤ length whole
 long_enough check whole h = omega (arith, length-checked check h.octets whole h.checked)
 
 pub too_short : (check : Check) (whole : List ℕ) → (count_of check ≤ length whole → ⊥)

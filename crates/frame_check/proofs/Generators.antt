@@ -8,7 +8,7 @@ use Rattle.frame_check.specs.Register.{after_zeros}
 use Rattle.frame_check.specs.declared.register.TheConstants.{SIXTEEN, THIRTY_TWO}
 
 -- whether each number below n passes
-abbrev each_below : ℕ → (ℕ → Bool) → Bool
+abbrev pub each_below : ℕ → (ℕ → Bool) → Bool
 each_below zero test = true
 each_below (suc n) test = test n && each_below n test
 
@@ -17,7 +17,7 @@ both true true h = (refl, refl)
 both true false h = absurd (false≢true h)
 both false b h = absurd (false≢true h)
 
-at_each : (n : ℕ) (test : ℕ → Bool) → each_below n test ≡ true → (i : ℕ) → i < n → test i ≡ true
+pub at_each : (n : ℕ) (test : ℕ → Bool) → each_below n test ≡ true → (i : ℕ) → i < n → test i ≡ true
 at_each zero test h i l = absurd (omega arith)
 at_each (suc n) test h i l = let b = both (test n) (each_below n test) h in
     elim (cases_lt i n) [ inl less ↦ at_each n test b.1 i less | inr last ↦ let e : i ≡ n = omega arith in rw e b.0 ]

@@ -4,5 +4,5 @@ mod Remainders
 mod Unique
 mod Registers
 pub mod BitLists
-mod Generators
+pub mod Generators
 pub mod Checks

@@ -10,7 +10,7 @@ pub use Rattle.std.proofs.lemmas.List.{same_lists}
 pub use Rattle.std.proofs.lemmas.Nat.Bits.{bit_at-suc, bit_at_lowest}
 pub use Rattle.std.specs.Int.{bit_at}
 pub use Rattle.frame_check.specs.Bits.{bits_of, low_bits, number, octet_bits}
-pub use Rattle.frame_check.specs.Division.{next_remainder, remainder_from}
+pub use Rattle.frame_check.specs.Division.{count_of, next_remainder, remainder_from}
 pub use Rattle.frame_check.specs.FrameCheck.{Leaves, Same, all_ones, coefficient, generator_of, plus, raised, times}
 pub use Rattle.frame_check.specs.Register.{AreFours, Divides, Holds, Mirrors}
 pub use Rattle.frame_check.specs.Xor.{xor}

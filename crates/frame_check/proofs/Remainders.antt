@@ -25,11 +25,11 @@ coefficient-take w p i h = grind (arith, common_steps)
 coefficient-past_take : (w : ℕ) (p : List Bool) (i : ℕ) → w ≤ i → coefficient (take w p) i ≡ false
 coefficient-past_take w p i h = grind (arith, common_steps)
 
-itself : (b : Bool) → cond b true false ≡ b
+pub itself : (b : Bool) → cond b true false ≡ b
 itself true = refl
 itself false = refl
 
-neither : (b : Bool) → cond b false false ≡ false
+pub neither : (b : Bool) → cond b false false ≡ false
 neither true = refl
 neither false = refl
 

@@ -4,6 +4,7 @@ use Rattle.frame_check.proofs.Names.{if◌then◌else◌, arith, refl, sym, ◌�
 use Rattle.frame_check.proofs.Names.{raised, all_ones, Leaves, xor}
 use Rattle.std.proofs.Common.{max}
 use Rattle.frame_check.proofs.Polynomials.{xor_false, coefficient-plus, coefficient-past, coefficient-chosen}
+use Rattle.frame_check.proofs.Remainders.{itself, neither}
 
 -- the lowest coefficient of a quotient, and the rest of it
 head_of : List Bool → Bool
@@ -46,14 +47,6 @@ xor_cancel_left true false true h = cc
 xor_cancel_left false true false h = cc
 xor_cancel_left false false true h = cc
 
-chosen_self : (a : Bool) → cond a true false ≡ a
-chosen_self true = refl
-chosen_self false = refl
-
-none_chosen : (a : Bool) → cond a false false ≡ false
-none_chosen true = refl
-none_chosen false = refl
-
 shorter : (xs : List Bool) (n : ℕ) → length xs ≤ suc n → length (rest_of xs) ≤ n
 unfolding rest_of
 shorter [] n l = omega arith
@@ -67,12 +60,12 @@ above_top : (q g : List Bool) (i w : ℕ) → length g ≡ suc w + 1 → suc w �
 above_top q g i w wide l =
     let none : coefficient g (suc i) ≡ false = coefficient-past g (suc i) (omega arith) in
     times-suc q g i ∙ ap (λ x. xor (cond (head_of q) x false) (coefficient (times (rest_of q) g) i)) none
-    ∙ ap (λ x. xor x (coefficient (times (rest_of q) g) i)) (none_chosen (head_of q))
+    ∙ ap (λ x. xor x (coefficient (times (rest_of q) g) i)) (neither (head_of q))
 
 at_top : (q g : List Bool) (w : ℕ) → coefficient g (suc w) ≡ true
     → coefficient (times q g) (suc w) ≡ xor (head_of q) (coefficient (times (rest_of q) g) w)
 at_top q g w top = times-suc q g w ∙ ap (λ x. xor (cond (head_of q) x false) (coefficient (times (rest_of q) g) w)) top
-    ∙ ap (λ x. xor x (coefficient (times (rest_of q) g) w)) (chosen_self (head_of q))
+    ∙ ap (λ x. xor x (coefficient (times (rest_of q) g) w)) (itself (head_of q))
 
 higher : (w : ℕ) (g p q : List Bool) → length g ≡ suc w + 1 → AgreeFrom w g p q → AgreeFrom w g (rest_of p) (rest_of q)
 higher w g p q wide h i l =

@@ -46,9 +46,6 @@ pub record HistoryLaws : Type 0 where
 
 -- ---- plays
 
-at-other : (role : Role) (x : Account) (lx : List Slot) (y : Account) (ly : List Slot) → at role x lx y ly ≡ at (other role) y ly x lx
-at-other q0 x lx y ly = grind (arith)
-
 -- a piece that is taken is wanted
 taken-wanted : (count size : ℕ) (number : Option ℕ) → true ≡ is_taken count (longest_wanted number size)
     → (is_some number && nat_le count size) ≡ true

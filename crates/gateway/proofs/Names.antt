@@ -44,6 +44,7 @@ pub use Rattle.link_account.specs.Laws.{has_begun}
 pub use Rattle.link_account.specs.declared.phase.Phase.{Phase}
 pub use Rattle.link_account.specs.declared.phase.Phase.TheVariants.{Closed, Connected, Detecting, Establishing, Negotiating, Releasing}
 pub use Rattle.link_account.specs.declared.setup.Setup.{Setup}
+pub use Rattle.noise_bound.proofs.Margins.{distances-cost}
 pub use Rattle.noise_bound.proofs.NoiselessCosts.{length-points}
 pub use Rattle.noise_bound.specs.Margins.{distances}
 pub use Rattle.noise_bound.specs.Near.{IsNear}

@@ -1,10 +1,9 @@
 -- What was sent at 9600 bit/s comes back.
-use Rattle.gateway.proofs.Names.{append-nil, ◌≡◌, ◌∙◌, ℕ, ◌+◌, ◌≤◌, Bool, List, [], ◌∷◌, ◌++◌, length, map, take, drop, None, refl, sym, ap}
+use Rattle.gateway.proofs.Names.{append-nil, ◌≡◌, ◌∙◌, ℕ, ◌+◌, ◌≤◌, Bool, List, [], ◌++◌, length, map, take, drop, None, refl, sym, ap}
 use Rattle.gateway.proofs.Names.{subst, arith, append_assoc, length-append, take-append-drop, take-map, DecoderStands, bits_of, decoding_of}
-use Rattle.gateway.proofs.Names.{HasEncoded, ReadsAs, FollowsSent, AnyReader, SampleEncoder, four-each, Demodulates, line_of, length-points}
-use Rattle.gateway.proofs.Names.{distances, IsNear, Descrambles_once, tap_of, Mode, IsPrefixOf, point_of, Sample, far_from, Leads, cost}
-use Rattle.gateway.proofs.Names.{next_state}
-use Rattle.symbol_map.specs.Distance.{distance_of}
+use Rattle.gateway.proofs.Names.{HasEncoded, ReadsAs, FollowsSent, AnyReader, SampleEncoder, four-each, Demodulates, line_of}
+use Rattle.gateway.proofs.Names.{distances-cost, length-points, distances, IsNear, Descrambles_once, tap_of, Mode, IsPrefixOf, point_of}
+use Rattle.gateway.proofs.Names.{Sample, far_from, Leads, cost, next_state}
 use Rattle.trellis_tables.proofs.Sequences.{Leads-take}
 use Rattle.exact_decoder.specs.Laws.{IsOnlyLeast}
 use Rattle.line_coding.specs.Modulates.{Modulates}
@@ -19,12 +18,6 @@ use Rattle.gateway.specs.declared.any_reader.LineKind.TheVariants as lines
 use Rattle.gateway.specs.declared.encoder.SampleEncoder.TheVariants as encoders
 use Rattle.gateway.specs.SignalLaws.{SentBitsComeBack, SentBitsComeSoon, AllBitsComeBack, SureBitsAreGiven}
 use Rattle.gateway.proofs.Sent.{some-tap, begins-more, take-front, carries-first}
-
--- distances from points are what labels cost
-pub distances-cost : (labels : List ℕ) (samples : List Sample) → distances (map point_of labels) samples ≡ cost far_from labels samples
-distances-cost [] samples = refl
-distances-cost (label ∷ labels) [] = refl
-distances-cost (label ∷ labels) (sample ∷ samples) = ap (λ n. distance_of (point_of label) sample + n) (distances-cost labels samples)
 
 -- the labels of an encoder's first samples, and what all of them carry
 pub record FirstLabels (mode : Mode) (sent : List Bool) (first : List Sample) : Type 0 where

@@ -1,61 +1,25 @@
 -- What was sent at 9600 bit/s comes back from the middle of the line, by however many quarters its points are turned.
 use Rattle.gateway.proofs.Names.{◌≡◌, ◌∙◌, ℕ, zero, suc, ◌+◌, ◌*◌, ◌<◌, ◌≤◌, Bool, List, [], ◌∷◌, ◌++◌, length, map, take, drop, refl, sym}
-use Rattle.gateway.proofs.Names.{ap, subst, arith, append_assoc, length-append, take-append-drop, take-map, length-take-le, flat_map}
-use Rattle.gateway.proofs.Names.{low_bits, decoding_of, ReadsAs, AnyReader, four-each, first-stay, Demodulates, length-points, distances}
-use Rattle.gateway.proofs.Names.{IsNear, tap_of, Descrambles, Mode, IsPrefixOf, point_of, Sample, far_from, Leads, cost, next_state}
+use Rattle.gateway.proofs.Names.{ap, subst, arith, append_assoc, length-append, take-append-drop, length-take-le, decoding_of, ReadsAs}
+use Rattle.gateway.proofs.Names.{AnyReader, four-each, first-stay, Demodulates, distances-cost, length-points, distances, IsNear, tap_of}
+use Rattle.gateway.proofs.Names.{Mode, IsPrefixOf, point_of, Sample, far_from, Leads, cost, next_state}
 use Rattle.std.proofs.Common.{length-drop, lt-ltb}
-use Rattle.std.proofs.lemmas.List.{drop-map, drop-take, length-map}
-use Rattle.symbol_map.specs.Laws.{turned_label}
+use Rattle.std.proofs.lemmas.List.{drop-map, drop-take}
 use Rattle.trellis_tables.proofs.Sequences.{Leads-split}
 use Rattle.exact_decoder.specs.Surviving.V32.{at_any}
 use Rattle.line_coding.specs.Laws.{ReadersPickUp, MiddleIsSent}
 use Rattle.line_coding.specs.PickedUp.{IsPickedUp}
-use Rattle.line_coding.proofs.Quads.{quads-turned}
 use Rattle.noise_bound.specs.Near.{sure_of_any}
 use Rattle.noise_bound.specs.NoisyLaws.{DecodesNearOfAny}
 use Rattle.line_coding.proofs.TurnedLabels.{leads-within}
-use Rattle.line_coding.proofs.TurnedSequences.{all_states_turn}
-use Rattle.noise_bound.proofs.Turned.{near-turns}
+use Rattle.line_coding.proofs.TurnedLines.{labels_turned, length-turned, take-turned, unturned}
+use Rattle.noise_bound.proofs.Turned.{turned-near}
 use Rattle.gateway.specs.declared.any_reader.AnyReader.TheVariants as readers
 use Rattle.gateway.specs.declared.any_reader.LineKind.TheVariants as lines
-use Rattle.gateway.specs.SignalLaws.{turned_by, FollowsMiddle, MiddleBitsComeBack}
+use Rattle.gateway.specs.SignalLaws.{FollowsMiddle, MiddleBitsComeBack}
 use Rattle.gateway.proofs.Sent.{some-tap, take-front}
-use Rattle.gateway.proofs.SentBegun.{distances-cost, first-labels}
-
-low-tap : (mode : Mode) → tap_of mode ≤ 23
-low-tap q0 = grind (arith)
-
--- ---- turned labels
-
-abbrev labels_turned : ℕ → List ℕ → List ℕ
-labels_turned zero labels = labels
-labels_turned (suc turns) labels = map turned_label (labels_turned turns labels)
-
-length-turned : (turns : ℕ) (labels : List ℕ) → length (labels_turned turns labels) ≡ length labels
-length-turned zero labels = refl
-length-turned (suc turns) labels = length-map (labels_turned turns labels) turned_label ∙ length-turned turns labels
-
-take-turned : (turns n : ℕ) (labels : List ℕ) → take n (labels_turned turns labels) ≡ labels_turned turns (take n labels)
-take-turned zero n labels = refl
-take-turned (suc turns) n labels = take-map turned_label n (labels_turned turns labels) ∙ ap (map turned_label) (take-turned turns n labels)
-
--- they give what the labels give
-unturned : (tap turns : ℕ) (labels : List ℕ) (bits : List Bool) → IsPickedUp tap (labels_turned turns labels) bits
-    → IsPickedUp tap labels bits
-unturned tap zero labels bits h = h
-unturned tap (suc turns) labels bits h = unturned tap turns labels bits (record {
-  all = h.all;
-  descrambled = subst (λ (xs : List Bool). Descrambles tap xs h.all)
-      (ap (flat_map (low_bits 4)) (quads-turned (labels_turned turns labels))) h.descrambled;
-  bits_are = h.bits_are;
-})
-
-turned-near : (bound turns : ℕ) (labels : List ℕ) (samples : List Sample) → IsNear bound at_any labels samples
-    → IsNear bound at_any (labels_turned turns labels) (turned_by turns samples)
-turned-near bound zero labels samples h = h
-turned-near bound (suc turns) labels samples h =
-    near-turns bound at_any at_any (labels_turned turns labels) (turned_by turns samples) all_states_turn
-    (turned-near bound turns labels samples h)
+use Rattle.gateway.proofs.SentBegun.{first-labels}
+use Rattle.line_coding.proofs.Readers.{tap-low}
 
 -- ---- lists
 
@@ -148,7 +112,7 @@ follows pick middle decodes mode (readers.Middle m) sent given samples heard cou
     let parts : length (p.labels ++ (pending ++ back)) ≡ length (labels_turned turns tail) = ap (λ (xs : List ℕ). length xs) whole in
     let room : count + taken ≤ length labels =
     omega (arith, within, parts, length-append {A = ℕ} p.labels (pending ++ back), length-turned turns tail, length-drop count labels) in
-    let g = given-behind middle (tap_of mode) count taken labels later sent given (some-tap mode) (low-tap mode) carried room picked in
+    let g = given-behind middle (tap_of mode) count taken labels later sent given (some-tap mode) (tap-low mode) carried room picked in
     record {
       never_lost = f.never_lost;
       were_sent = g.were_sent;

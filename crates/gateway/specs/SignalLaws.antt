@@ -1,10 +1,11 @@
 -- Laws that join an encoder and a decoder.
-use Rattle.std.specs.Prelude.{◌≡◌, ℕ, zero, suc, ◌+◌, ◌*◌, ◌<◌, ◌≤◌, Bool, List, [], ◌∷◌, ◌++◌, length, map, drop, None}
+use Rattle.std.specs.Prelude.{◌≡◌, ℕ, ◌+◌, ◌*◌, ◌<◌, ◌≤◌, Bool, List, [], ◌∷◌, ◌++◌, length, drop, None}
 use Rattle.shared_terms.specs.Prefix.{IsPrefixOf}
 use Rattle.scramblers.specs.declared.mode.Mode.{Mode}
 use Rattle.symbol_map.specs.declared.sample.Sample.{Sample}
-use Rattle.symbol_map.specs.Distance.{distance_of, quarter_turned}
+use Rattle.symbol_map.specs.Distance.{distance_of}
 use Rattle.exact_decoder.specs.Decoder.{Decoding}
+use Rattle.line_coding.specs.QuarterTurns.{turned_by}
 use Rattle.noise_bound.specs.Near.{sure, sure_of_any}
 use Rattle.noise_bound.specs.Margins.{distances}
 use Rattle.gateway.specs.declared.any_reader.LineKind.TheVariants as lines
@@ -24,11 +25,6 @@ pub record IsHeardOf (sent heard : List Sample) : Type 0 where
   pub parts : sent ≡ first ++ later
   pub same_length : length first ≡ length heard
   pub near : distances first heard < sure
-
--- samples after so many quarter turns
-abbrev pub turned_by : ℕ → List Sample → List Sample
-turned_by zero samples = samples
-turned_by (suc turns) samples = map quarter_turned (turned_by turns samples)
 
 -- Of samples that were sent those behind the first so many were heard as these, by some quarters turned, with noise of less in all than one
 -- square of a unit of the map.

@@ -1,13 +1,13 @@
 -- Frames with their check: the octets tell by which check they are judged, and are one frame or have one fault.
-use Rattle.lapm_frames.proofs.Names.{Bool, true, false, ◌≡◌, ℕ, ◌-◌, ◌*◌, ◌%◌, ◌≤◌, nat_eq, if◌then◌else◌, is_some, List, length, take}
-use Rattle.lapm_frames.proofs.Names.{Result, Ok, Err, refl, sym, ◌∙◌, ap, subst, arith, IfOk, IfErr, ◌↔◌, Sixteen, check_for, SpellsFrame}
+use Rattle.lapm_frames.proofs.Names.{Bool, true, false, ◌≡◌, ℕ, ◌-◌, ◌*◌, ◌%◌, nat_eq, if◌then◌else◌, is_some, List, length, take, Result}
+use Rattle.lapm_frames.proofs.Names.{Ok, Err, refl, sym, ◌∙◌, ap, subst, arith, IfOk, IfErr, ◌↔◌, Sixteen, check_for, SpellsFrame}
 use Rattle.lapm_frames.proofs.Names.{FirstFault, FrameSpelling, IsFrame, control_octet, spelled, parts_of, Refused, Frame, Role}
 use Rattle.std.specs.Prelude.{slice_index_or}
 use Rattle.std.proofs.lemmas.Bool.{ne_eqb}
 use Rattle.frame_check.specs.declared.check.Check.{Check}
 use Rattle.frame_check.specs.FrameCheck.{IsChecked, Passes}
 use Rattle.frame_check.specs.Division.{with_check, count_of}
-use Rattle.frame_check.proofs.Checks.{front-checked, fronts-one, length-checked, with_check-is, with_check-one}
+use Rattle.frame_check.proofs.Checks.{front-checked, fronts-one, with_check-is, with_check-one}
 use Rattle.lapm_frames.specs.declared.fault.CheckedFault.{CheckedFault}
 use Rattle.lapm_frames.specs.declared.fault.CheckedFault.TheVariants.{BadCheck}
 use Rattle.lapm_frames.specs.Checked.{check_heard, checked, IsCheckedFault}
@@ -106,9 +106,6 @@ front-is check used whole front len heard p count cut =
     let there : p.octets ≡ front =
     front-checked used p.octets whole p.checked ∙ ap (λ n. take (length whole - n) whole) (sym count) ∙ sym cut in
     subst (λ (k : Check). IsChecked k front whole) heard (subst (λ (xs : List ℕ). IsChecked used xs whole) there p.checked)
-
-pub long-enough : (used : Check) (whole : List ℕ) → Passes used whole → count_of used ≤ length whole
-long-enough used whole p = omega (arith, length-checked used p.octets whole p.checked)
 
 -- the frame alone
 

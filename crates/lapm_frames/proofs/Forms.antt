@@ -1,10 +1,10 @@
 -- The thirteen kinds of frames, for proofs: each is of one of three forms, and a frame is that of its octets.
-use Rattle.std.proofs.Common.{◌≡◌, ℕ, ◌+◌, ◌-◌, ◌*◌, ◌/◌, ◌%◌, ◌<◌, ◌≤◌, Bool, true, false, not, ◌||◌, if◌then◌else◌, List, [], ◌∷◌, length}
-use Rattle.std.proofs.Common.{Option, Some, None, is_some, codes, nat_eq, arith, refl, lit<}
-use Rattle.lapm_frames.specs.declared.frame.Frame.{Frame}
-use Rattle.lapm_frames.specs.declared.frame.Frame.TheVariants.{I, Rr, Rnr, Rej, Srej, Sabme, Disc, Ua, Dm, Frmr, Ui, Xid, Test}
-use Rattle.lapm_frames.specs.Parts.{FrameParts, information, supervisory, unnumbered, parts_of}
-use Rattle.lapm_frames.specs.Frame.{numbered, control_octet, tail_octets}
+use Rattle.lapm_frames.proofs.Names.{◌≡◌, ℕ, ◌+◌, ◌-◌, ◌*◌, ◌/◌, ◌%◌, ◌<◌, ◌≤◌, Bool, true, false, not, if◌then◌else◌, List, [], ◌∷◌}
+use Rattle.lapm_frames.proofs.Names.{length, Option, Some, None, is_some, codes, nat_eq, arith, refl, lit<, numbered, control_octet}
+use Rattle.lapm_frames.proofs.Names.{tail_octets, FrameParts, unnumbered, parts_of, Frame, I, Rr}
+use Rattle.std.proofs.Common.{◌||◌}
+use Rattle.lapm_frames.specs.declared.frame.Frame.TheVariants.{Rnr, Rej, Srej, Sabme, Disc, Ua, Dm, Frmr, Ui, Xid, Test}
+use Rattle.lapm_frames.specs.Parts.{information, supervisory}
 
 -- whether the octet is that of an S frame
 abbrev pub is_supervisory : ℕ → Bool

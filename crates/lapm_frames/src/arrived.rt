@@ -3,7 +3,7 @@
 use crate::{Frame, Seen};
 
 /// What arrives at an end in a turn.
-#[derive(Drop, PartialEq, Eq)]
+#[derive(Drop)]
 pub enum Arrived {
     /// An idle slot, or none.
     Nothing,

@@ -9,4 +9,5 @@ pub mod Taking
 pub mod Readers
 pub mod TurnedSamples
 pub mod TurnedLabels
+pub mod TurnedLines
 pub mod TurnedSequences

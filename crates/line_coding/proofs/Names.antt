@@ -21,4 +21,5 @@ pub use Rattle.scramblers.specs.declared.mode.Mode.{Mode}
 pub use Rattle.symbol_map.specs.Laws.{turned_label}
 pub use Rattle.symbol_map.specs.declared.sample.Sample.{Sample}
 pub use Rattle.trellis_tables.proofs.Readings.{length-quads_of}
+pub use Rattle.trellis_tables.proofs.Rotations.{four_turns_are_none}
 pub use Rattle.trellis_tables.specs.LabelReader.{LabelReaderStands, quads_of}

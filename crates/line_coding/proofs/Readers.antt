@@ -23,7 +23,7 @@ descrambles tap line = record {
   each = λ i within. get_or-map-range_with_len (descrambled_at tap line) 0 (length line) i i false within (omega arith);
 }
 
-tap-low : (mode : Mode) → tap_of mode ≤ 23
+pub tap-low : (mode : Mode) → tap_of mode ≤ 23
 tap-low q0 = grind (arith)
 
 pub readers_pick_up : ReadersPickUp

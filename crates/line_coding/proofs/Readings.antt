@@ -23,7 +23,7 @@ comes-back tap bits line quads labels end scrambled fours are_quads encodes =
     ∙ ap (flat_map (low_bits 4)) (sym (quads_of_Encodes quads labels end are_quads encodes)))
     (Descrambles_from_Scrambles tap bits line scrambled)
 
-take-fours : (n : ℕ) (quads : List ℕ) → take (4 * n) (flat_map (low_bits 4) quads) ≡ flat_map (low_bits 4) (take n quads)
+pub take-fours : (n : ℕ) (quads : List ℕ) → take (4 * n) (flat_map (low_bits 4) quads) ≡ flat_map (low_bits 4) (take n quads)
 take-fours zero quads = refl
 take-fours (suc n) [] = take-nil (4 * suc n)
 take-fours (suc n) (quad ∷ quads) =

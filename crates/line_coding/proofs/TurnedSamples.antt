@@ -1,5 +1,5 @@
 -- Samples that are turned.
-use Rattle.std.proofs.Common.{◌≡◌, arith, ◌∙◌, ap}
+use Rattle.line_coding.proofs.Names.{◌≡◌, arith, ◌∙◌, ap}
 use Rattle.std.specs.Prelude.{ℤ, neg_ℤ}
 use Rattle.std.proofs.lemmas.Int.{ints}
 use Rattle.line_coding.specs.QuarterTurns.{IsInner}

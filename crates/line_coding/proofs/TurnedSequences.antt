@@ -1,20 +1,17 @@
 -- Sequences that are turned cost what they did, and none is missed: so the least ones are turned into the least ones.
 use Rattle.line_coding.proofs.Names.{◌≡◌, ℕ, ◌<◌, ◌≤◌, Bool, true, List, map, arith, sym, ◌∙◌, ap, subst, length-map, All, at_any}
-use Rattle.line_coding.proofs.Names.{turned_label, Sample}
+use Rattle.line_coding.proofs.Names.{turned_label, Sample, four_turns_are_none}
 use Rattle.std.proofs.lemmas.Bool.{ltb-true}
 use Rattle.symbol_map.specs.Distance.{quarter_turned}
 use Rattle.trellis_tables.specs.Sequences.{cost}
 use Rattle.trellis_tables.specs.Rotation.{rotated}
-use Rattle.trellis_tables.proofs.Rotations.{four_turns_are_none, rotated-lt, turn_takes_sequences, turn_keeps_cost, all_starts_turn}
+use Rattle.trellis_tables.proofs.Rotations.{rotated-lt, turn_takes_sequences, turn_keeps_cost, all_starts_turn}
 use Rattle.exact_decoder.specs.Surviving.Trellises.{IsSequence}
 use Rattle.exact_decoder.specs.Surviving.Survivors.{IsLeast}
 use Rattle.exact_decoder.specs.Surviving.V32.{v32_code}
 use Rattle.line_coding.specs.QuarterTurns.{StartsTurn}
-use Rattle.line_coding.specs.TurnedLaws.{StatesComeBack, CostStays, SequencesTurn, LeastTurns, AllStatesTurn, LeastTurnsOfAll}
+use Rattle.line_coding.specs.TurnedLaws.{CostStays, SequencesTurn, LeastTurns, AllStatesTurn, LeastTurnsOfAll}
 use Rattle.line_coding.proofs.TurnedLabels.{turned_back, labels-small, leads-within, turned-again, back-small}
-
-pub states_come_back : StatesComeBack
-states_come_back = four_turns_are_none
 
 pub cost_stays : CostStays
 cost_stays starts samples labels small = turn_keeps_cost labels samples small

@@ -1,6 +1,7 @@
 -- Starts, labels and samples after a quarter turn.
-use Rattle.std.specs.Prelude.{◌≡◌, ℕ, ◌<◌, ℤ, pos, neg_ℤ, ◌≤ℤ◌, Bool, true}
+use Rattle.std.specs.Prelude.{◌≡◌, ℕ, zero, suc, ◌<◌, ℤ, pos, neg_ℤ, ◌≤ℤ◌, Bool, true, List, map}
 use Rattle.symbol_map.specs.declared.sample.Sample.{Sample}
+use Rattle.symbol_map.specs.Distance.{quarter_turned}
 use Rattle.trellis_tables.specs.Laws.{AreTurnedStarts}
 
 -- starts among the eight states, and the states among them that these turn to
@@ -18,3 +19,8 @@ pub record IsInner (n : ℤ) : Type 0 where
 pub record AreInner (sample : Sample) : Type 0 where
   pub re : IsInner sample.re
   pub im : IsInner sample.im
+
+-- samples after so many quarter turns
+abbrev pub turned_by : ℕ → List Sample → List Sample
+turned_by zero samples = samples
+turned_by (suc turns) samples = map quarter_turned (turned_by turns samples)

@@ -21,9 +21,6 @@ SamplesComeBack = (sample : Sample) → quarter_turned (quarter_turned (quarter_
 abbrev pub LabelsComeBack : Type 0
 LabelsComeBack = (label : ℕ) → label < 32 → turned_label (turned_label (turned_label (turned_label label))) ≡ label
 
-abbrev pub StatesComeBack : Type 0
-StatesComeBack = (state : ℕ) → state < 8 → rotated (rotated (rotated (rotated state))) ≡ state
-
 -- turned labels cost against turned samples what the labels cost against the samples
 abbrev pub CostStays : Type 0
 CostStays = (starts : ℕ → Bool) (samples : List Sample) (labels : List ℕ) → All (λ label. label < 32) labels

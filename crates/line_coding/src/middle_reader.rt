@@ -16,7 +16,7 @@ use symbol_map::Sample;
 use trellis_tables::V32Code;
 
 /// What a label gives.
-#[derive(Clone, Copy, PartialEq, Eq)]
+#[derive(Clone, Copy)]
 pub enum Taken {
     /// No bit: it is the first one, or fills the register of the descrambler.
     Nothing,

@@ -1,5 +1,6 @@
 //! Turned samples and turned lists of labels: what a quarter turn keeps. Each function's contract is a theorem.
-ghost use Rattle.line_coding.specs.TurnedLaws.{TurnedSamplesFit, SamplesComeBack, LabelsComeBack, StatesComeBack, CostStays, SequencesTurn, LeastTurns, AllStatesTurn, LeastTurnsOfAll};
+ghost use Rattle.trellis_tables.specs.Laws.{FourTurnsAreNone};
+ghost use Rattle.line_coding.specs.TurnedLaws.{TurnedSamplesFit, SamplesComeBack, LabelsComeBack, CostStays, SequencesTurn, LeastTurns, AllStatesTurn, LeastTurnsOfAll};
 
 /// A sample of which no coordinate is -32768 is a sample of that kind once it is turned.
 pub fn turned_samples_are_samples()
@@ -10,7 +11,7 @@ pub fn turned_samples_are_samples()
 pub fn four_turns_give_back()
     ensures samples { SamplesComeBack }
     ensures labels { LabelsComeBack }
-    ensures states { StatesComeBack }
+    ensures states { FourTurnsAreNone }
 {}
 
 /// Turned labels cost against turned samples what they cost.

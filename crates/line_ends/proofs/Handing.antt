@@ -22,7 +22,7 @@ pub record Holds (file : List ℕ) (a : Account) : Type 0 where
   pub own : AreOctets a.own_breaks.lengths
   pub owes : Owes a
 
-append-left : (xs ys : List ℕ) → AreOctets (xs ++ ys) → AreOctets xs
+pub append-left : (xs ys : List ℕ) → AreOctets (xs ++ ys) → AreOctets xs
 append-left [] ys h = All-nil Octet
 append-left (x ∷ xs) ys h = All-cons Octet x xs (All-head Octet x (xs ++ ys) h) (append-left xs ys (All-tail Octet x (xs ++ ys) h))
 

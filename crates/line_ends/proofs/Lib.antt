@@ -6,7 +6,7 @@ mod Counting
 mod Undisturbed
 pub mod Words
 pub mod Saying
-mod Handing
+pub mod Handing
 pub mod Sending
 pub mod Deciding
 pub mod Receiving

@@ -1,8 +1,9 @@
 -- What is heard makes a next turn.
-use Rattle.std.proofs.Common.{arith, ◌≡◌, List, length, sym, ◌∙◌, subst, None}
-use Rattle.line_ends.proofs.Names.{Accounts, Answerer, EachTurnIsMade, HeardIn, HeardTurnsAreMade, Hears, IsHeardOf, Link, MakesTurn}
-use Rattle.line_ends.proofs.Names.{OneIsCarried, Originator, Outcome, Role, SamplesAreCarried, ScriptsHaveDelays, ScriptsMayPlay, Side}
-use Rattle.line_ends.proofs.Names.{Turn, TurnIs, check_of, link_of, of, other}
+use Rattle.std.proofs.Common.{arith, ◌≡◌, length, sym, ◌∙◌, subst, None}
+use Rattle.line_ends.proofs.Names.{Answerer, EachTurnIsMade, HeardIn, HeardTurnsAreMade, Hears, IsHeardOf, MakesTurn}
+use Rattle.line_ends.proofs.Names.{OneIsCarried, Originator, Role, SamplesAreCarried, ScriptsHaveDelays, ScriptsMayPlay, Side}
+use Rattle.line_ends.proofs.Names.{Turn, check_of, link_of, of, other}
+use Rattle.link_run.proofs.Only.{hearing-of}
 
 pub record Makes : Type 0 where
   pub play : ScriptsMayPlay
@@ -10,10 +11,6 @@ pub record Makes : Type 0 where
   pub carried : SamplesAreCarried
   pub one : OneIsCarried
   pub made : EachTurnIsMade
-
-hearing-in : (link : Link) (ts : List Turn) (ends : Accounts) (t : Turn) (mid : Accounts) (o : Outcome) → TurnIs link ts ends t mid o
-    → Hears (length ts) ends t mid
-hearing-in link ts ends t mid o h = grind (arith)
 
 pub heard-turns-are-made : Makes → HeardTurnsAreMade
 heard-turns-are-made laws c files ts ends h run well = record { turn = m.turn; mid = m.mid; outcome = m.outcome; heard = heard; is = m.is }
@@ -34,7 +31,7 @@ heard-turns-are-made laws c files ts ends h run well = record { turn = m.turn; m
     m = grind (arith, heard-first)
 
     hears : Hears (length ts) ends m.turn m.mid
-    hears = hearing-in (link_of c.script files) ts ends m.turn m.mid m.outcome m.is
+    hears = hearing-of (link_of c.script files) ts ends m.turn m.mid m.outcome m.is
 
     heard : HeardIn c ts m.turn
     heard role =

@@ -18,8 +18,8 @@ use Rattle.sample_line.specs.Mode.{mode_of}
 use Rattle.detection.specs.Sights.{Sight, SightsAdded}
 use Rattle.sample_line.specs.Received.{Gives, FoundBetween, Receives}
 use Rattle.sample_line.specs.Laws.{RecordingsGrow, GivenStays}
-use Rattle.line_run.proofs.Recordings.{tap-some}
 use Rattle.line_ends.proofs.Deciding.{Decided, some-pass}
+use Rattle.sample_line.proofs.Once.{tap-some}
 
 -- labels carry bits
 some-read : (tap : ℕ) → 1 ≤ tap → (done output more : List Bool) → Descrambles tap done output → (bits : List Bool)

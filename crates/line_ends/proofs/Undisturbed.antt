@@ -3,18 +3,15 @@ use Rattle.std.proofs.Common.{◌≡◌, ℕ, List, [], ◌∷◌, length, arith
 use Rattle.line_ends.proofs.Names.{Accounts, AllSendable, Both, Broken, ChanceMatch, CompletesQuiet, CompletesUndisturbed}
 use Rattle.line_ends.proofs.Names.{CompletesWithFewLosses, CompletesWithFewNamed, DisplacesNoneIsFaint, Done, DoneLeavesWhole, EachRunEnds}
 use Rattle.line_ends.proofs.Names.{EmptyScriptDisplacesNone, EndsInTurn, FaintGoOn, HasEnd, HeardIn, Hears, IsDone, IsFaint, IsInLimits}
-use Rattle.line_ends.proofs.Names.{IsQuiet, Left, LineEnds, LineLost, LineRun, Link, LinkLost, LosesWhatIsNamed, NotDetected}
+use Rattle.line_ends.proofs.Names.{IsQuiet, Left, LineEnds, LineLost, LineRun, LinkLost, LosesWhatIsNamed, NotDetected}
 use Rattle.line_ends.proofs.Names.{OctetsAreSendable, Originator, Outcome, QuietRunsDeliver, Role, RunEnd, ScriptRunsTo, ScriptValue}
-use Rattle.line_ends.proofs.Names.{ScriptsHaveDelays, ScriptsMayPlay, Turn, TurnIs, UndisplacedIsFaint, heard_turns, link_of, of, other}
+use Rattle.line_ends.proofs.Names.{ScriptsHaveDelays, ScriptsMayPlay, Turn, UndisplacedIsFaint, heard_turns, link_of, of, other}
 use Rattle.line_ends.proofs.Names.{slots_named, wire_of}
 use Rattle.shared_terms.specs.declared.fault.LinkFault.TheVariants as faults
 use Rattle.line_run.specs.Sampled as lines
 use Rattle.line_ends.proofs.Hearing.{HearLaws, AsNamed, heard-named}
 use Rattle.line_ends.proofs.Counting.{AllNamed, lost-few}
-
-hearing-in : (link : Link) (ts : List Turn) (ends : Accounts) (t : Turn) (mid : Accounts) (o : Outcome) → TurnIs link ts ends t mid o
-    → Hears (length ts) ends t mid
-hearing-in link ts ends t mid o h = grind (arith)
+use Rattle.link_run.proofs.Only.{hearing-of}
 
 -- what is heard in a turn, and in all turns of a run
 turn-named : HearLaws → (script : ScriptValue) (files : Both (List ℕ)) (ts : List Turn) (ends : Accounts) (t : Turn) (mid : Accounts)
@@ -40,7 +37,7 @@ last-named : HearLaws → (script : ScriptValue) (files : Both (List ℕ)) (ts :
     → LineRun (wire_of script) (link_of script files) ts ends → AllSendable ts
     → (e : EndsInTurn (wire_of script) (link_of script files) ts ends o turn left) → AllNamed script (e.last ∷ ts)
 last-named laws script files ts ends o turn left h d r s e = (
-  turn-named laws script files ts ends e.last e.mid h d r s (hearing-in (link_of script files) ts ends e.last e.mid o e.is) e.heard,
+  turn-named laws script files ts ends e.last e.mid h d r s (hearing-of (link_of script files) ts ends e.last e.mid o e.is) e.heard,
   run-named laws script files ts ends h d r s,
 )
 

@@ -46,6 +46,7 @@ pub use Rattle.line_run.specs.Sampled.{LosesLine, Wire, and_then, bits_before, b
 pub use Rattle.line_run.specs.Scripted.{BreaksAreTheScripts, PausesAreTheScripts, ScriptsHaveDelays, ScriptsMayPlay, SlotsAreCodable}
 pub use Rattle.line_run.specs.Scripted.{SlotsHaveRoom, break_line, busy_line, link_of, longest_of, period_of, slot_symbols}
 pub use Rattle.line_run.specs.Unhindered.{ChecksAgree, DisplacesNoneBefore, octets_in, patterns_in, unhindered}
+pub use Rattle.link_run.proofs.Only.{hearing-of}
 pub use Rattle.link_run.specs.Carried.{Crosses, IsCarried, has_message, sent_ago, sent_in}
 pub use Rattle.link_run.specs.Laws.{DoneIsWhole, HearsPrefixes, HearsWhatPassed, HoldPrefixes, OneOutcome, OneRun, RunsOver, SendsShort}
 pub use Rattle.link_run.specs.Laws.{TakesPrefixes, TakesWhatPassed, agreed_srej, heard_in}
@@ -56,7 +57,7 @@ pub use Rattle.noise_script.specs.Offsets.{covers}
 pub use Rattle.noise_script.specs.Script.{IsInLimits, IsShort, ScriptValue, delay_of, offset_of}
 pub use Rattle.noise_script.specs.declared.entry.Break.{Break}
 pub use Rattle.noise_script.specs.declared.entry.Pause.{Pause}
-pub use Rattle.sample_line.proofs.Once.{recordings-grow}
+pub use Rattle.sample_line.proofs.Once.{recordings-grow, tap-some}
 pub use Rattle.sample_line.proofs.Passing.{slot-added}
 pub use Rattle.sample_line.specs.Line.{Kept, Passes, PassesSlot, bits_behind, sender_of, size_of}
 pub use Rattle.sample_line.specs.Mode.{mode_of}

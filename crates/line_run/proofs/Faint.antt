@@ -1,19 +1,19 @@
 -- A decoder follows a line whose noise is faint.
-use Rattle.std.proofs.Common.{◌≡◌, ◌∙◌, ℕ, zero, suc, ◌+◌, ◌*◌, ◌<◌, ◌≤◌, Bool, true, false, ◌&&◌, if◌then◌else◌, List, [], ◌∷◌, length}
-use Rattle.std.proofs.Common.{map, refl, sym, ap, arith, Some, None, ℤ, pos, neg_ℤ, ◌+ℤ◌, ◌-ℤ◌, ◌≤ℤ◌, int_lt, int_le, unsigned_abs}
+use Rattle.line_run.proofs.Cited.{◌≡◌, ◌∙◌, ℕ, zero, suc, ◌+◌, ◌*◌, ◌<◌, ◌≤◌, Bool, true, false, ◌&&◌, List, [], ◌∷◌, length, map, refl}
+use Rattle.line_run.proofs.Cited.{sym, ap, arith, Some, None, lost-once, line_depth, line_trellis, four-each, IsFaintBefore, squares_from}
+use Rattle.line_run.proofs.Cited.{squares_of, UndisplacedIsFaint, DisplacesNoneBefore, length-points, ScriptValue, offset_of, mode_of}
+use Rattle.line_run.proofs.Cited.{Records, displaced, displaced_from, saturated, tap_of, Role, point_of, Sample}
+use Rattle.std.proofs.Common.{if◌then◌else◌}
+use Rattle.std.proofs.Common.{ℤ, pos, neg_ℤ, ◌+ℤ◌, ◌-ℤ◌, ◌≤ℤ◌, int_lt, int_le, unsigned_abs}
 use Rattle.std.proofs.lemmas.Bool.{and_parts}
 use Rattle.std.proofs.lemmas.Int.{ints}
 use Rattle.std.proofs.lemmas.Nat.{mul-le}
-use Rattle.line_run.proofs.Cited.{DisplacesNoneBefore, IsFaintBefore, Records, Role, Sample, ScriptValue, UndisplacedIsFaint, displaced}
-use Rattle.line_run.proofs.Cited.{displaced_from, four-each, line_depth, line_trellis, lost-once, mode_of, offset_of, point_of, saturated}
-use Rattle.line_run.proofs.Cited.{squares_from, squares_of, tap_of}
 use Rattle.symbol_map.specs.Distance.{distance_of}
 use Rattle.symbol_map.specs.Finite.{each_below, at_each}
 use Rattle.trellis_tables.specs.Laws.{far_from}
 use Rattle.trellis_tables.specs.Sequences.{Leads, cost}
 use Rattle.trellis_tables.specs.Table.{next_state}
 use Rattle.trellis_tables.proofs.Tables.{branch_of}
-use Rattle.noise_bound.proofs.NoiselessCosts.{length-points}
 use Rattle.noise_bound.specs.Near.{only, sure, IsNear}
 use Rattle.noise_bound.proofs.Near.{few-unreleased, never-lost, releases-near}
 use Rattle.noise_script.specs.declared.offset.Offset.{Offset}

@@ -1,9 +1,9 @@
 -- However a run ends, what was given begins the other's file; done means whole.
-use Rattle.line_run.proofs.Cited.{arith, ◌≡◌, ℕ, List, ◌∷◌, length, sym, ◌∙◌, subst, ChanceMatch, DoneLeavesWhole, EndsInTurn, EndsOnLine}
-use Rattle.line_run.proofs.Cited.{IsDone, Leaves, Left, LineLost, LinkLost, MayRun, NotDetected, RunsLeavePrefixes, RunsLeaveWhatPassed}
-use Rattle.line_run.proofs.Cited.{OneIsCarried, SamplesAreCarried, LineEnd, LineRun, Wire, DoneIsWhole, HearsPrefixes, HearsWhatPassed}
-use Rattle.line_run.proofs.Cited.{HoldPrefixes, RunsOver, TakesPrefixes, TakesWhatPassed, agreed_srej, Outcome, Done, TurnIs, Accounts}
-use Rattle.line_run.proofs.Cited.{Hears, Link, Turn, delay_of, of, IsPrefixOf, other, Role}
+use Rattle.line_run.proofs.Cited.{arith, ◌≡◌, ℕ, List, ◌∷◌, sym, ◌∙◌, subst, ChanceMatch, DoneLeavesWhole, EndsInTurn, EndsOnLine, IsDone}
+use Rattle.line_run.proofs.Cited.{Leaves, Left, LineLost, LinkLost, MayRun, NotDetected, RunsLeavePrefixes, RunsLeaveWhatPassed}
+use Rattle.line_run.proofs.Cited.{OneIsCarried, SamplesAreCarried, LineEnd, LineRun, Wire, hearing-of, DoneIsWhole, HearsPrefixes}
+use Rattle.line_run.proofs.Cited.{HearsWhatPassed, HoldPrefixes, RunsOver, TakesPrefixes, TakesWhatPassed, agreed_srej, Outcome, Done}
+use Rattle.line_run.proofs.Cited.{Accounts, Link, Turn, delay_of, of, IsPrefixOf, other, Role}
 use Rattle.link_run.specs.Taken.{taken_octets}
 
 pub record RunLaws : Type 0 where
@@ -32,17 +32,13 @@ over : (laws : RunLaws) (c : Wire) (link : Link) (ts : List Turn) (ends : Accoun
     → RunsOver link (delay_of c.script) ts ends
 over laws c link ts ends m r = record { may_play = m.may_play; delays = m.delays; carried = laws.carried c ts r.heard; run = r.run }
 
-pub hearing-in : (link : Link) (ts : List Turn) (ends : Accounts) (t : Turn) (mid : Accounts) (o : Outcome) → TurnIs link ts ends t mid o
-    → Hears (length ts) ends t mid
-hearing-in link ts ends t mid o h = grind (arith)
-
 in-turn : (laws : RunLaws) (c : Wire) (link : Link) (ts : List Turn) (ends : Accounts) (o : Outcome) (turn : ℕ) (left : Left)
     → MayRun c link
     → LineRun c link ts ends → EndsInTurn c link ts ends o turn left → ArePrefixes link left
 in-turn laws c link ts ends o turn left m r e =
     left-prefixes link e.mid _ left
     (laws.hears link (delay_of c.script) ts ends e.last e.mid (over laws c link ts ends m r) (laws.one c ts e.last e.heard)
-    (hearing-in link ts ends e.last e.mid o e.is)) e.leaves
+    (hearing-of link ts ends e.last e.mid o e.is)) e.leaves
 
 on-line : (laws : RunLaws) (c : Wire) (link : Link) (ts : List Turn) (ends : Accounts) (end : LineEnd) (text : List ℕ) (left : Left)
     → MayRun c link → LineRun c link ts ends → EndsOnLine c ts ends end text left → ArePrefixes link left
@@ -68,7 +64,7 @@ passed-in-turn : (laws : RunLaws) (c : Wire) (link : Link) (ts : List Turn) (end
 passed-in-turn laws c link ts ends o turn left m r e role =
     e.leaves.got_is role ∙ sym
     (laws.heard link (delay_of c.script) ts ends e.last e.mid (over laws c link ts ends m r) (laws.one c ts e.last e.heard)
-    (hearing-in link ts ends e.last e.mid o e.is) role)
+    (hearing-of link ts ends e.last e.mid o e.is) role)
 
 pub leave_what_passed : RunLaws → RunsLeaveWhatPassed
 leave_what_passed laws c link (IsDone turn) left m r = passed-in-turn laws c link r.turns r.ends Done turn left m r.run r.ended

@@ -1,12 +1,12 @@
 -- What is received in a slot is what was sent in it.
 use Rattle.line_run.proofs.Cited.{◌≡◌, ◌∙◌, ℕ, ◌+◌, ◌*◌, ◌<◌, ◌≤◌, Bool, true, false, List, [], ◌∷◌, ◌++◌, length, take, drop, map, refl}
 use Rattle.line_run.proofs.Cited.{sym, ap, subst, arith, length-append, append-nil, append_assoc, mul_assoc, mul-suc, take-append_seam}
-use Rattle.line_run.proofs.Cited.{drop-append_seam, length-drop, pieces-stay, Found, pieces_of, FoundIn, wholes, phase_after, slot_bits}
-use Rattle.line_run.proofs.Cited.{Sight, seen_in, sights_of, Signal, signal_bits, slot_of, slots_of, IsReleased, line_trellis, Check}
-use Rattle.line_run.proofs.Cited.{spells, SpellsFrame, check_for, checked, spelled, IsSendable, Frame, Heard, Chance, Seen, Sent}
-use Rattle.line_run.proofs.Cited.{first-stay, four-each, Demodulates, AreFit, ChecksAgree, octets_in, patterns_in, unhindered, ScriptValue}
-use Rattle.line_run.proofs.Cited.{recordings-grow, slot-added, Kept, Passes, PassesSlot, bits_behind, sender_of, size_of, mode_of}
-use Rattle.line_run.proofs.Cited.{IsOutcome, Receives, Records, signal_of, tap_of, Role, Sample}
+use Rattle.line_run.proofs.Cited.{length-drop, pieces-stay, Found, pieces_of, FoundIn, wholes, phase_after, slot_bits, Sight, seen_in}
+use Rattle.line_run.proofs.Cited.{sights_of, Signal, signal_bits, slot_of, slots_of, IsReleased, line_trellis, Check, spells, SpellsFrame}
+use Rattle.line_run.proofs.Cited.{check_for, checked, spelled, IsSendable, Frame, Heard, Chance, Seen, Sent, first-stay, four-each}
+use Rattle.line_run.proofs.Cited.{Demodulates, AreFit, ChecksAgree, octets_in, patterns_in, unhindered, ScriptValue, recordings-grow}
+use Rattle.line_run.proofs.Cited.{tap-some, slot-added, Kept, Passes, PassesSlot, bits_behind, sender_of, size_of, mode_of, IsOutcome}
+use Rattle.line_run.proofs.Cited.{Receives, Records, signal_of, tap_of, Role, Sample}
 use Rattle.std.proofs.Common.{replicate, Ok, Err, Result}
 use Rattle.std.proofs.lemmas.List.{take-append-drop}
 use Rattle.std.proofs.lemmas.List.Elements.{All-replicate}
@@ -20,14 +20,13 @@ use Rattle.frame_check.specs.Division.{with_check}
 use Rattle.lapm_frames.specs.declared.sent.Sent.TheVariants as sent
 use Rattle.sample_line.specs.Outcomes.{IsPattern}
 use Rattle.sample_line.specs.Received.{PassTheCheck, FoundBetween, Gives}
-use Rattle.sample_line.proofs.Finding.{wholes-append}
-use Rattle.sample_line.proofs.Once.{given-stays, outcome-once, received-once}
+use Rattle.sample_line.proofs.Once.{given-stays, outcome-once, received-once, same-behind}
 use Rattle.line_run.proofs.Patterns.{AreSeen}
 use Rattle.line_run.proofs.Fits.{fit-front, length-fit}
-use Rattle.line_run.proofs.Recordings.{tap-some}
 use Rattle.line_run.proofs.Settled.{Lags, LeavesTime, settled-all, settled-finds, slot-adds}
 use Rattle.line_run.proofs.Following.{Follows, none-within}
 use Rattle.line_run.proofs.Undisplaced.{carried}
+use Rattle.bit_stuffing.proofs.Sent.{wholes-append}
 
 -- the labels that the samples release carry the first of the bits
 released-carry : (lag : ℕ) (script : ScriptValue) (sender : Role) (count : ℕ) (bits : List Bool) (samples : List Sample) (labels : List ℕ)
@@ -84,9 +83,6 @@ slot-octets size start phase behind check hearing sender dlci (sent.Frame frame)
 slot-patterns : (check : Check) (sender : Role) (dlci start : ℕ) (s : Sent)
     → map (λ (sight : Sight). sight.seen) (seen_in start (signal_of check sender dlci s)) ≡ patterns_in s
 slot-patterns check sender dlci start s = grind (arith)
-
-same-behind : {X : Type 0} (front a b : List X) → front ++ a ≡ front ++ b → a ≡ b
-same-behind front a b e = sym (drop-append_seam front a) ∙ ap (drop (length front)) e ∙ drop-append_seam front b
 
 -- what is found in bits once more of them were read
 pub record Grows (earlier later : List Bool) : Type 0 where

@@ -1,14 +1,15 @@
 -- Bits in fours have a recording, and a line that is lost stays lost in what goes on from there.
-use Rattle.std.proofs.Common.{◌≡◌, ◌∙◌, ℕ, zero, suc, ◌+◌, ◌*◌, ◌/◌, ◌%◌, ◌<◌, ◌≤◌, Bool, true, false, List, [], ◌∷◌, ◌++◌, length, map}
-use Rattle.std.proofs.Common.{sum, Some, refl, sym, ap, subst, arith, All, append-nil, append_assoc}
-use Rattle.std.proofs.Math.Nat.{mul_assoc}
+use Rattle.line_run.proofs.Cited.{◌≡◌, ◌∙◌, ℕ, zero, suc, ◌+◌, ◌*◌, ◌/◌, ◌<◌, ◌≤◌, Bool, true, false, List, [], ◌∷◌, ◌++◌, length, map}
+use Rattle.line_run.proofs.Cited.{Some, refl, sym, ap, subst, arith, All, append-nil, append_assoc, mul_assoc, All-nil, All-cons, All-head}
+use Rattle.line_run.proofs.Cited.{All-tail, Signal, signal_bits, lost-stays, LostIs, line_depth, line_trellis, AreFit, ScriptValue}
+use Rattle.line_run.proofs.Cited.{recordings-grow, tap-some, mode_of, LosesAt, LosesWithin, Records, displaced_from, tap_of, Role, point_of}
+use Rattle.line_run.proofs.Cited.{Sample}
+use Rattle.std.proofs.Common.{◌%◌}
+use Rattle.std.proofs.Common.{sum}
 use Rattle.std.specs.List.{flat_map}
-use Rattle.std.proofs.lemmas.List.Elements.{All-nil, All-cons, All-head, All-tail}
 use Rattle.frame_check.specs.Bits.{low_bits, number}
 use Rattle.trellis_tables.specs.Differential.Turned.{turned}
 use Rattle.trellis_tables.proofs.Turning.Places.{turned-snoc}
-use Rattle.line_run.proofs.Cited.{AreFit, LosesAt, LosesWithin, LostIs, Records, Role, Sample, ScriptValue, Signal}
-use Rattle.line_run.proofs.Cited.{displaced_from, line_depth, line_trellis, lost-stays, mode_of, point_of, signal_bits, tap_of}
 use Rattle.scramblers.specs.Scrambles.{Scrambles}
 use Rattle.scramblers.specs.Stream.{earlier}
 use Rattle.frame_check.specs.Xor.{xor}
@@ -19,12 +20,8 @@ use Rattle.trellis_tables.specs.Encoder.{Encodes}
 use Rattle.trellis_tables.specs.Table.{next_by_y}
 use Rattle.trellis_tables.proofs.Tables.{next_by_y-lt}
 use Rattle.trellis_tables.proofs.Codings.{Encodes-more}
-use Rattle.sample_line.proofs.Once.{recordings-grow}
 use Rattle.line_run.proofs.Patterns.{ArePlain}
 use Rattle.line_run.proofs.Fits.{length-fit}
-
-pub tap-some : (sender : Role) → 1 ≤ tap_of (mode_of sender)
-tap-some sender = grind (arith)
 
 -- bits are scrambled
 

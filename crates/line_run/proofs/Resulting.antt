@@ -1,18 +1,18 @@
 -- A script and two users have one result at most.
-use Rattle.std.proofs.Common.{◌≡◌, ◌≢◌, ◌⊎◌, inl, inr, ℕ, zero, suc, ◌<◌, List, [], ◌∷◌, ◌++◌, length, arith, refl, sym, ◌∙◌, ap, subst}
-use Rattle.line_run.proofs.Cited.{Accounts, Answerer, ChanceMatch, EndsBy, EndsInTurn, EndsLine, EndsOrGoesOn, GoingTurn, HeardIn}
-use Rattle.line_run.proofs.Cited.{HeardOnce, Hears, IsDone, IsHeardOver, Leaves, Left, LineEnd, LineLost, LineRun, Link}
-use Rattle.line_run.proofs.Cited.{LinkLost, OneLineEnd, OneLineRun, OneOutcome, OneResult, Originator, Role, RunEnd, RunOf, RunsTo, Turn}
-use Rattle.line_run.proofs.Cited.{Wire, heard_in, of, other}
+use Rattle.line_run.proofs.Cited.{◌≡◌, ◌≢◌, ℕ, zero, suc, ◌<◌, List, [], ◌∷◌, ◌++◌, length, arith, refl, sym, ◌∙◌, ap, subst, ChanceMatch}
+use Rattle.line_run.proofs.Cited.{EndsBy, EndsInTurn, IsDone, Leaves, Left, LineLost, LinkLost, OneResult, RunEnd, RunsTo, EndsOrGoesOn}
+use Rattle.line_run.proofs.Cited.{HeardOnce, OneLineEnd, OneLineRun, EndsLine, HeardIn, IsHeardOver, LineEnd, LineRun, Wire, hearing-of}
+use Rattle.line_run.proofs.Cited.{OneOutcome, heard_in, Outcome, Done, TurnIs, Accounts, GoingTurn, Hears, Link, RunOf, Turn, of, other}
+use Rattle.line_run.proofs.Cited.{Role, Answerer, Originator}
+use Rattle.std.proofs.Common.{◌⊎◌, inl, inr}
 use Rattle.shared_terms.specs.declared.fault.LinkFault.{LinkFault}
 use Rattle.shared_terms.specs.declared.fault.LinkFault.TheVariants.{NotDetected, Spent}
-use Rattle.link_run.specs.Outcomes.{Outcome, Going, Done, Broken, TurnIs}
+use Rattle.link_run.specs.Outcomes.{Going, Broken}
 use Rattle.line_texts.specs.LineText.{chance_line}
 use Rattle.link_run.specs.Trace.{trace_text}
 use Rattle.line_run.specs.Sampled as lines
 use Rattle.line_run.specs.Ends as ends
 use Rattle.line_run.proofs.Sampling.{same-checks}
-use Rattle.line_run.proofs.Leaving.{hearing-in}
 use Rattle.line_run.proofs.WhatIsLeft.{left_of, left-is}
 
 pub record ResultLaws : Type 0 where
@@ -112,17 +112,17 @@ both-heard laws c ts es t u mid later h k p q =
 same-cause : (laws : ResultLaws) (c : Wire) (link : Link) (ts : List Turn) (es : Accounts) (k q : Cause) (a b : Left)
     → EndsWith c link ts es k a → EndsWith c link ts es q b → (k ≡ q) × (a ≡ b)
 same-cause laws c link ts es (In_turn o) (In_turn p) a b h w =
-    let e = both-heard laws c ts es h.last w.last h.mid w.mid (hearing-in link ts es h.last h.mid o h.is)
-    (hearing-in link ts es w.last w.mid p w.is) h.heard w.heard in
+    let e = both-heard laws c ts es h.last w.last h.mid w.mid (hearing-of link ts es h.last h.mid o h.is)
+    (hearing-of link ts es w.last w.mid p w.is) h.heard w.heard in
     let s = laws.outcome link ts es h.last w.last h.mid w.mid o p h.is w.is e in (
       ap In_turn s.2,
       same-left h.mid w.mid (trace_text (h.last ∷ ts)) (trace_text (w.last ∷ ts)) a b h.leaves w.leaves s.1
           (ap (λ t. trace_text (t ∷ ts)) s.0),
     )
 same-cause laws c link ts es (In_turn o) (On_line e) a b h w =
-    absurd (laws.either c ts es e h.last h.mid w.0 (hearing-in link ts es h.last h.mid o h.is) h.heard)
+    absurd (laws.either c ts es e h.last h.mid w.0 (hearing-of link ts es h.last h.mid o h.is) h.heard)
 same-cause laws c link ts es (On_line e) (In_turn o) a b h w =
-    absurd (laws.either c ts es e w.last w.mid h.0 (hearing-in link ts es w.last w.mid o w.is) w.heard)
+    absurd (laws.either c ts es e w.last w.mid h.0 (hearing-of link ts es w.last w.mid o w.is) w.heard)
 same-cause laws c link ts es (On_line e) (On_line f) a b h w =
     let s = laws.end c ts es e f h.0 w.0 in
     (ap On_line s, same-left es es (line_text ts e) (line_text ts f) a b h.1 w.1 refl (ap (line_text ts) s))
@@ -178,7 +178,7 @@ ended-stays laws c link end left r ts es h less =
         → ResultLaws → ⊥
     against c link k (In_turn o) left e laws =
         let same = both-heard laws c k.turns k.before k.turn e.last k.going.mid e.mid k.going.hearing
-        (hearing-in link k.turns k.before e.last e.mid o e.is) k.heard e.heard in
+        (hearing-of link k.turns k.before e.last e.mid o e.is) k.heard e.heard in
         let s = laws.outcome link k.turns k.before k.turn e.last k.going.mid e.mid Going o (k.after, k.going, refl) e.is same in
         e.not_going (sym s.2)
     against c link k (On_line f) left e laws = laws.either c k.turns k.before f k.turn k.going.mid e.0 k.going.hearing k.heard

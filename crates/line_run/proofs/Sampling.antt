@@ -1,18 +1,15 @@
 -- The line of samples as a line: what is heard of it, and once.
-use Rattle.std.proofs.Common.{◌≡◌, ◌≢◌, ℕ, ◌-◌, Bool, true, List, [], ◌∷◌, length, map, drop, arith, refl, sym, ◌∙◌, ap, subst}
-use Rattle.std.proofs.Common.{Option, Some, None}
-use Rattle.std.specs.Prelude.{is_some, unwrap_or}
+use Rattle.line_run.proofs.Cited.{◌≡◌, ◌≢◌, ℕ, ◌-◌, Bool, true, List, [], ◌∷◌, length, map, drop, arith, refl, sym, ◌∙◌, ap, subst, Option}
+use Rattle.line_run.proofs.Cited.{Some, None, is_some, LostIs, line_depth, line_trellis, Check, Heard, Chance, Seen, Sent, EndsOrGoesOn}
+use Rattle.line_run.proofs.Cited.{EndsOrIsHeard, HeardOnce, OneIsCarried, OneLineEnd, OneLineEndBy, OneLineRun, SamplesAreCarried}
+use Rattle.line_run.proofs.Cited.{ArrivesAs, HeardIn, IsHeardOf, IsHeardOver, IsHeardWell, LosesLine, Wire, bits_before, bits_of, Crosses}
+use Rattle.line_run.proofs.Cited.{has_message, sent_ago, OneRun, heard_in, Accounts, Hears, Link, RunOf, Spoken, Turn, delay_of, IsOutcome}
+use Rattle.line_run.proofs.Cited.{Receives, of, other, Role, Answerer, Originator}
+use Rattle.std.specs.Prelude.{unwrap_or}
 use Rattle.std.proofs.lemmas.Bool.{false≢true}
-use Rattle.line_run.proofs.Cited.{Accounts, Answerer, ArrivesAs, Check, Crosses, EndsOrGoesOn, EndsOrIsHeard, HeardIn, HeardOnce, Hears}
-use Rattle.line_run.proofs.Cited.{IsHeardOf, IsHeardOver, IsHeardWell, Link, LosesLine, LostIs, OneIsCarried, OneLineEnd, OneLineEndBy}
-use Rattle.line_run.proofs.Cited.{OneLineRun, OneRun, Originator, Role, RunOf, SamplesAreCarried, Seen, Sent, Spoken, Turn, Wire}
-use Rattle.line_run.proofs.Cited.{bits_before, bits_of, delay_of, has_message, heard_in, line_depth, line_trellis, of, other, sent_ago}
 use Rattle.exact_decoder.specs.Surviving.Laws.{LostOnce}
 use Rattle.lapm_frames.specs.declared.sent.Sent.TheVariants as sent
-use Rattle.lapm_frames.specs.declared.heard.Heard.{Heard}
-use Rattle.lapm_frames.specs.declared.heard.Heard.TheVariants.{Chance}
-use Rattle.sample_line.specs.Outcomes.{is_message, IsWhatWasSent, IsOutcome}
-use Rattle.sample_line.specs.Received.{Receives}
+use Rattle.sample_line.specs.Outcomes.{is_message, IsWhatWasSent}
 use Rattle.sample_line.specs.Laws.{RecordedOnce, ReceivedOnce, OneOutcome}
 use Rattle.link_account.specs.Account.{check_of}
 use Rattle.line_run.specs.Sampled.{LineLost, ChanceMatch}

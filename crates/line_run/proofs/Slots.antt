@@ -1,7 +1,6 @@
 -- The slot that arrives in a turn, and the turns in which those before it were sent.
-use Rattle.std.proofs.Common.{◌≡◌, ℕ, zero, suc, ◌+◌, ◌-◌, ◌≤◌, List, [], ◌∷◌, length, drop, arith, refl, subst, Some}
-use Rattle.std.specs.Prelude.{slice_get}
-use Rattle.line_run.proofs.Cited.{IsSendable, Role, Spoken, Turn, of, sent_ago, sent_in}
+use Rattle.line_run.proofs.Cited.{◌≡◌, ℕ, zero, suc, ◌+◌, ◌-◌, ◌≤◌, List, [], ◌∷◌, length, drop, arith, refl, subst, Some, slice_get}
+use Rattle.line_run.proofs.Cited.{IsSendable, sent_ago, sent_in, Spoken, Turn, of, Role}
 use Rattle.line_run.specs.Stream.{AllSendable}
 
 -- it was sent in this turn, behind those

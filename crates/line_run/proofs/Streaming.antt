@@ -1,11 +1,9 @@
 -- The slots of a direction in order, and which one is due.
-use Rattle.std.proofs.Common.{◌≡◌, ℕ, zero, suc, ◌-◌, ◌<◌, ◌≤◌, true, List, [], ◌∷◌, ◌++◌, length, map, take, drop, arith, length-append}
-use Rattle.std.proofs.Common.{refl, sym, ◌∙◌, ap, Option, Some, None, append-nil, append_assoc}
-use Rattle.std.specs.Prelude.{slice_get, is_some}
-use Rattle.std.proofs.lemmas.List.{map-append, length-drop}
-use Rattle.std.proofs.Math.Seq.{take-append_seam, drop-append_seam}
-use Rattle.line_run.proofs.Cited.{Accounts, IsAlone, Link, LoneSlotsAreCounted, LoneSlotsAreDue, Role, RunOf, Spoken, Turn, Wire, and_then}
-use Rattle.line_run.proofs.Cited.{delay_of, of, sent_ago, sent_in, signal_in, signals, signals_before}
+use Rattle.line_run.proofs.Cited.{◌≡◌, ℕ, zero, suc, ◌-◌, ◌<◌, ◌≤◌, true, List, [], ◌∷◌, ◌++◌, length, map, take, drop, arith}
+use Rattle.line_run.proofs.Cited.{length-append, refl, sym, ◌∙◌, ap, Option, Some, None, append-nil, append_assoc, take-append_seam}
+use Rattle.line_run.proofs.Cited.{drop-append_seam, map-append, length-drop, slice_get, is_some, LoneSlotsAreCounted, LoneSlotsAreDue}
+use Rattle.line_run.proofs.Cited.{IsAlone, Wire, and_then, signal_in, signals, signals_before, sent_ago, sent_in, Accounts, Link, RunOf}
+use Rattle.line_run.proofs.Cited.{Spoken, Turn, delay_of, of, Role}
 use Rattle.line_run.specs.Stream.{Carried, carried_signal, carry, sent_by, AreSent}
 
 -- one slot is carried

@@ -1,18 +1,18 @@
 -- Samples that no line of a script displaces, up to some symbol.
-use Rattle.std.proofs.Common.{◌≡◌, ◌∙◌, ℕ, zero, suc, ◌+◌, ◌*◌, ◌-◌, ◌<◌, ◌≤◌, nat_le, Bool, true, false, cond, ◌&&◌, All, List, [], ◌∷◌}
-use Rattle.std.proofs.Common.{length, map, refl, ap, arith, Some, None}
+use Rattle.line_run.proofs.Cited.{◌≡◌, ◌∙◌, ℕ, zero, suc, ◌+◌, ◌*◌, ◌-◌, ◌<◌, ◌≤◌, Bool, true, false, cond, ◌&&◌, All, List, [], ◌∷◌}
+use Rattle.line_run.proofs.Cited.{length, map, refl, ap, arith, Some, None, All-head, All-nil, All-tail, lost-once, line_depth}
+use Rattle.line_run.proofs.Cited.{line_trellis, comes-back, four-each, Demodulates, DisplacesNoneBefore, length-points, covers, ScriptValue}
+use Rattle.line_run.proofs.Cited.{mode_of, LosesAt, Records, displaced, displaced_from, tap_of, same_role, Role, map_points, plus, point_of}
+use Rattle.line_run.proofs.Cited.{Sample}
+use Rattle.std.proofs.Common.{nat_le}
 use Rattle.std.proofs.lemmas.Bool.Decides.{nat_tests}
-use Rattle.std.proofs.lemmas.List.Elements.{All-head, All-nil, All-same, All-tail}
+use Rattle.std.proofs.lemmas.List.Elements.{All-same}
 use Rattle.std.specs.Prelude.{ℤ, pos, ◌*ℤ◌, slice_index_or}
-use Rattle.line_run.proofs.Cited.{DisplacesNoneBefore, LosesAt, Records, Role, Sample, ScriptValue, comes-back, displaced, displaced_from}
-use Rattle.line_run.proofs.Cited.{four-each, line_depth, line_trellis, lost-once, map_points, mode_of, plus, point_of, same_role, tap_of}
 use Rattle.noise_bound.specs.Noiseless.{IsNoiseless}
-use Rattle.noise_bound.proofs.NoiselessCosts.{length-points}
 use Rattle.noise_bound.proofs.Followed.{few-unreleased_at, never-lost, released-sent_at}
-use Rattle.line_coding.specs.Demodulates.{Demodulates}
 use Rattle.noise_script.specs.declared.entry.Hit.{Hit}
 use Rattle.noise_script.specs.declared.entry.Noise.{Noise}
-use Rattle.noise_script.specs.Offsets.{covers, drawn_offset, nothing, hit_offset, noise_offset, stream_of, sum_of, word_at}
+use Rattle.noise_script.specs.Offsets.{drawn_offset, nothing, hit_offset, noise_offset, stream_of, sum_of, word_at}
 use Rattle.noise_script.specs.Offsets as offsets
 use Rattle.line_run.proofs.Following.{Follows, all-of}
 

@@ -3,7 +3,7 @@
 use shared_terms::Role;
 
 /// Why a run ends with less than both files. Where the line ends it, the role is that of the end that hears.
-#[derive(Clone, Copy, PartialEq, Eq)]
+#[derive(Clone, Copy)]
 pub enum RunFault {
     /// A file that is sent was not read.
     ReadFault,

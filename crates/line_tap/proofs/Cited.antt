@@ -59,7 +59,6 @@ pub use Rattle.line_coding.specs.Modulates.{Modulates}
 pub use Rattle.line_coding.specs.declared.demodulator.Demodulator.{Demodulator}
 pub use Rattle.line_ends.proofs.Deciding.{Decided}
 pub use Rattle.line_run.proofs.Bits.{signals-more}
-pub use Rattle.line_run.proofs.Recordings.{tap-some}
 pub use Rattle.line_run.specs.Ends.{Left}
 pub use Rattle.line_run.specs.Fitting.{AreFit}
 pub use Rattle.line_run.specs.Laws.{CodableFits, CodableIsSendable, OneMoreFits, SlotsTellWhatWasSent, SpelledInOctets}
@@ -81,8 +80,7 @@ pub use Rattle.line_tap.specs.Tap.{AreReadOut, AreReadTo, EndsInTurn, EndsReadin
 pub use Rattle.line_tap.specs.Tap.{IsToGo, ReadsToo, StopsInTurn, StopsReadingIn, TapAfter, going_in, silent_in, slots_as, turn_in}
 pub use Rattle.line_tap.specs.Tapping.{GoesOn, Hears, HoldsNext, Sends, Tapping, Tells, line_of, next_bits, octets_of, phase_behind}
 pub use Rattle.line_tap.specs.Tapping.{tapping, terms_of, told}
-pub use Rattle.line_tap.specs.Turn.{AddsGot, added, got_in, held_of, left_of}
-pub use Rattle.line_tap.specs.Turns.{no_octets}
+pub use Rattle.line_tap.specs.Turn.{AddsGot, added, got_in, left_of, no_octets}
 pub use Rattle.line_tap.specs.declared.listener.EndListener.{EndListener}
 pub use Rattle.line_tap.specs.declared.reader.SlotReader.{SlotReader}
 pub use Rattle.line_tap.specs.declared.seeker.Seeker.{Seeker}
@@ -91,6 +89,8 @@ pub use Rattle.line_tap.specs.declared.tapping.Tap.{Tap}
 pub use Rattle.line_texts.specs.LineText.{chance_line}
 pub use Rattle.line_world.specs.Faults.{end_of}
 pub use Rattle.line_world.specs.Lines.{AreWaiting}
+pub use Rattle.line_world.specs.Turns.{held_of}
+pub use Rattle.link_run.proofs.Overhearing.{AllChecked}
 pub use Rattle.link_run.specs.Laws.{given_breaks, given_in}
 pub use Rattle.link_run.specs.Listened.{check_by, given_by, given_by_word, given_to, judged_by, received, taking_in}
 pub use Rattle.link_run.specs.Overheard.{has_passed, is_xid, opens}
@@ -108,7 +108,7 @@ pub use Rattle.recordings.specs.Samples.{sample_at, sample_of, samples_in}
 pub use Rattle.recordings.specs.declared.header.TheConstants.{HEADER}
 pub use Rattle.run_inputs.specs.Inputs.{RefusesOwn}
 pub use Rattle.run_inputs.specs.declared.limits.Limits.{Limits}
-pub use Rattle.sample_line.proofs.Once.{carried}
+pub use Rattle.sample_line.proofs.Once.{carried, same-behind, tap-some}
 pub use Rattle.sample_line.specs.Coder.{IsCodedAs}
 pub use Rattle.sample_line.specs.Line.{bits_behind}
 pub use Rattle.sample_line.specs.Mode.{mode_of}

@@ -47,7 +47,7 @@ modulates-front tap n bits more samples low e h =
 
 -- ---- octets
 
-abbrev is_one : List Sample → Sample → Bool
+abbrev pub is_one : List Sample → Sample → Bool
 is_one [] point = false
 is_one (s ∷ []) point = nat_eq (distance_of s point) 0
 is_one (s ∷ t ∷ rest) point = false
@@ -62,7 +62,7 @@ reads_back-test = refl
 both : (a b : Bool) → (a && b) ≡ true → (a ≡ true) × (b ≡ true)
 both a b e = grind (arith)
 
-the-one : NoDistanceIsEqual → (xs : List Sample) (point : Sample) → is_one xs point ≡ true → xs ≡ point ∷ []
+pub the-one : NoDistanceIsEqual → (xs : List Sample) (point : Sample) → is_one xs point ≡ true → xs ≡ point ∷ []
 the-one none xs point e = grind (arith)
 
 point-back : NoDistanceIsEqual → (label : ℕ) → label < 32

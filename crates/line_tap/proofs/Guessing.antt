@@ -2,11 +2,10 @@
 use Rattle.line_tap.proofs.Cited.{◌≡◌, ◌∙◌, ℕ, ◌+◌, ◌*◌, ◌<◌, Bool, true, List, ◌++◌, map, Option, refl, sym, ap, subst, arith, map-append}
 use Rattle.line_tap.proofs.Cited.{All-append, phase-low, phase_after, HEAD, TAIL, Signal, slots_of, Check, Frame, Sent, Demodulates}
 use Rattle.line_tap.proofs.Cited.{Modulates, SlotsTellWhatWasSent, AreLabels, is_plain, plain_bits, IsGuess, FindsSent, carried}
-use Rattle.line_tap.proofs.Cited.{bits_behind, signal_of, IsCodable, Descrambles_once, Role, PointsDiffer, point_of, Sample}
+use Rattle.line_tap.proofs.Cited.{same-behind, bits_behind, signal_of, IsCodable, Descrambles_once, Role, PointsDiffer, point_of, Sample}
 use Rattle.lapm_frames.specs.declared.sent.Sent.TheVariants as sent
 use Rattle.line_coding.specs.Demodulates.{line_of}
 use Rattle.line_tap.proofs.Coding.{small, points-tell}
-use Rattle.line_tap.proofs.Once.{behind-same}
 
 pub record GuessLaws : Type 0 where
   pub points : PointsDiffer
@@ -23,7 +22,7 @@ same-bits differ tap bits next read samples others labels more h k d m =
     let same : m.labels ≡ labels ++ more =
     points-tell differ m.labels (labels ++ more) (small tap (bits ++ next) (samples ++ others) m)
     (All-append (λ label. label < 32) labels more h.0 k.0) (sym m.points ∙ sym points) in
-    behind-same bits read next (Descrambles_once tap (line_of (labels ++ more)) (bits ++ read) (bits ++ next) d
+    same-behind bits read next (Descrambles_once tap (line_of (labels ++ more)) (bits ++ read) (bits ++ next) d
     (subst (λ xs. Demodulates tap xs (bits ++ next)) same (carried tap (bits ++ next) (samples ++ others) m)))
 
 -- ---- what is found in a flag slot

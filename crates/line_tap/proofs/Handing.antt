@@ -7,12 +7,7 @@ use Rattle.std.proofs.lemmas.List.{append-nil}
 use Rattle.std.specs.Prelude.{slice_index_or}
 use Rattle.outside_calls.specs.Folder.{GoesOn, Adds}
 use Rattle.lapm_receiver.specs.Incoming.{after_delivered, next_delivered}
-use Rattle.stations.proofs.Handing.{adds-more, part-more}
-
-at-front : (n : ℕ) (xs : List (List ℕ)) → n < length xs → drop n xs ≡ slice_index_or xs n [] ∷ drop (suc n) xs
-at-front n [] h = absurd (omega (arith, h))
-at-front zero (x ∷ xs) h = refl
-at-front (suc n) (x ∷ xs) h = at-front n xs (omega (arith, h))
+use Rattle.stations.proofs.Handing.{adds-more, part-more, at-front}
 
 past-end : (n : ℕ) (xs : List (List ℕ)) → length xs ≤ n → drop n xs ≡ []
 past-end zero [] h = refl

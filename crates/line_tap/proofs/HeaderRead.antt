@@ -1,7 +1,7 @@
 -- What is read of a recording to look at its header.
 use Rattle.line_tap.proofs.Cited.{◌≡◌, ℕ, ◌+◌, ◌≤◌, ◌<◌, List, [], ◌∷◌, IsTrue, take, sym, arith, ReadTo, Stop, TapNames, recordings_of}
-use Rattle.line_tap.proofs.Cited.{IsRefused, AreReadTo, no_octets, ScriptValue, FolderState, octets_at, SomeRose, header_of, Limits, Mode}
-use Rattle.line_tap.proofs.Cited.{Call, Answer}
+use Rattle.line_tap.proofs.Cited.{IsRefused, AreReadTo, no_octets, ScriptValue, FolderState, octets_at, header_of, Limits, Mode, Call}
+use Rattle.line_tap.proofs.Cited.{Answer}
 use Rattle.command_base.specs.Stops.{StopCounts}
 use Rattle.run_inputs.specs.Inputs.{Opens, Refuses}
 use Rattle.line_tap.specs.declared.limits.TheConstants.{TAP_LIMIT}
@@ -39,9 +39,3 @@ pub answ-refused : (l : Limits) (old new : FolderState) (n : TapNames) (script :
     → Opens l old n.script (recordings_of n) script → HasHeader old n.rec_o Call → NoHeader old n.rec_a Answer stop
     → StopCounts old new (n.rec_a ∷ []) [] stop → IsRefused l old new n stop
 answ-refused l old new n script stop opens good bad counts = grind (arith)
-
--- a fault of some inputs is one of all
-pub stop-widened : (old new : FolderState) (some all outputs : List (List ℕ)) (stop : Stop)
-    → (SomeRose old.read_faults new.read_faults some → SomeRose old.read_faults new.read_faults all) → StopCounts old new some outputs stop
-    → StopCounts old new all outputs stop
-stop-widened old new some all outputs other wide counts = grind (arith)

@@ -1,13 +1,8 @@
 -- What an end is given by what it hears, and hands over.
-use Rattle.line_tap.proofs.Cited.{arith, ◌≡◌, ℕ, Bool, List, ◌++◌, length, Option, append-nil, ◌||◌, I, Ui, Passed, Incoming, Taking}
-use Rattle.line_tap.proofs.Cited.{StandsIn, Listens, IsIdle, delivered, EndListener, given_in, given_by, opens, Role, Terms}
+use Rattle.line_tap.proofs.Cited.{arith, ◌≡◌, ℕ, Bool, List, ◌++◌, length, append-nil, ◌||◌, I, Ui, Passed, Incoming, Taking, StandsIn}
+use Rattle.line_tap.proofs.Cited.{Listens, IsIdle, delivered, EndListener, given_in, given_by, opens, Role, Terms}
 use Rattle.lapm_frames.specs.declared.sent.Sent.TheVariants as slots
-use Rattle.break_signals.specs.Breaks.{with_given}
 use Rattle.line_tap.specs.EndListener.{HasTaken}
-
--- one break more
-pub with-given : (o : Option ℕ) (lengths : List ℕ) → with_given o lengths ≡ lengths ++ given_in o
-with-given o lengths = grind (arith, append-nil)
 
 -- neither a segment nor a word opens a link
 pub opens-no-segment : (role : Role) (ns nr : ℕ) (pf : Bool) (info : List ℕ) (b : Bool) → (opens role (I ns nr pf info) || b) ≡ b

@@ -1,7 +1,7 @@
 -- Whether a recording holds a slot of the next turn, and which, can be told.
 use Rattle.line_tap.proofs.Cited.{◌≡◌, inl, inr, ℕ, suc, ◌-◌, ◌*◌, ◌%◌, ◌<◌, ◌≤◌, Bool, List, [], ◌∷◌, length, arith, subst, Some, cases_lt}
 use Rattle.line_tap.proofs.Cited.{All-nil, All-cons, All-head, All-tail, length-line_bits, opening, TAIL, AreOctets, Check, checked}
-use Rattle.line_tap.proofs.Cited.{information_of, IsSendable, Frame, Sent, Modulates, Decided, tap-some, Wire, HoldsNext, Turn, mode_of}
+use Rattle.line_tap.proofs.Cited.{information_of, IsSendable, Frame, Sent, Modulates, Decided, Wire, HoldsNext, Turn, tap-some, mode_of}
 use Rattle.line_tap.proofs.Cited.{IsCodable, tap_of, Role, Sample}
 use Rattle.lapm_frames.specs.declared.sent.Sent.TheVariants as sent
 use Rattle.sample_line.specs.Signals.{FrameFits}

@@ -3,12 +3,14 @@ use Rattle.line_tap.proofs.Cited.{◌≡◌, ◌⊎◌, inl, inr, ℕ, ◌+◌, 
 use Rattle.line_tap.proofs.Cited.{Some, mul-suc, cases_lt, phase-low, HEAD, TAIL, slots_of, Check, Sent, Left, SlotsTellWhatWasSent, Wire}
 use Rattle.line_tap.proofs.Cited.{signals, bits_of, IsHeardOf, IsHeardWell, LineEnd, SlotsHaveRoom, TapEnd, IsDone, Leaves, LastHears}
 use Rattle.line_tap.proofs.Cited.{EndsWhole, EndsLine, EndsOnLine, EndsBy, TellsOnce, Tapping, line_of, terms_of, phase_behind, next_bits}
-use Rattle.line_tap.proofs.Cited.{octets_of, HoldsNext, told, Hears, GoesOn, Tells, chance_line, check_by, judged_by, given_to, Side, Turn}
-use Rattle.line_tap.proofs.Cited.{trace_text, IsInLimits, mode_of, tap_of, of, other, Role, Originator, Answerer, PointsDiffer}
+use Rattle.line_tap.proofs.Cited.{octets_of, HoldsNext, told, Hears, GoesOn, Tells, check_by, judged_by, given_to, Side, Turn, trace_text}
+use Rattle.line_tap.proofs.Cited.{IsInLimits, same-behind, mode_of, tap_of, of, other, Role, Originator, Answerer, PointsDiffer}
 use Rattle.line_run.specs.Sampled as lines
 use Rattle.line_run.specs.LineLaws.{HeardOnce, OneLineEndBy, EndsOrIsHeard}
 use Rattle.line_tap.specs.Ends.{LineLost, ChanceMatch, BadTap, EndsBadly}
 use Rattle.line_tap.proofs.Coding.{samples-tell}
+use Rattle.link_run.proofs.Only.{same-side}
+use Rattle.line_run.proofs.Resulting.{line_text}
 
 pub record OnceLaws : Type 0 where
   pub heard : HeardOnce
@@ -20,24 +22,17 @@ pub record OnceLaws : Type 0 where
 
 -- ---- one slot
 
-pub behind-same : {X : Type 0} (front a b : List X) → front ++ a ≡ front ++ b → a ≡ b
-behind-same [] a b e = e
-behind-same (x ∷ front) a b e = behind-same front a b cc
-
 pub holds-once : OnceLaws → (c : Wire) (check : Check) (role : Role) (ts : List Turn) (body : List ℕ) (s others : Sent)
     → HEAD + TAIL < c.symbols → c.dlci < 64 → HoldsNext c check role ts body s → HoldsNext c check role ts body others → s ≡ others
 holds-once laws c check role ts body s others long low h k =
     let phase : ℕ = phase_behind c role ts in
     let bits = samples-tell laws.points (tap_of (mode_of role)) (bits_of c role ts ++ next_bits c check role ts s)
     (bits_of c role ts ++ next_bits c check role ts others) _ h.modulated k.modulated in
-    let next : next_bits c check role ts s ≡ next_bits c check role ts others = behind-same (bits_of c role ts) _ _ bits in
+    let next : next_bits c check role ts s ≡ next_bits c check role ts others = same-behind (bits_of c role ts) _ _ bits in
     let small : phase < 8 = phase-low (4 * c.symbols) 0 (slots_of (4 * c.symbols) (signals c role ts)) (omega arith) in
     laws.slots check role c.dlci c.symbols phase s others low small long h.codable k.codable next
 
 -- ---- one turn
-
-side-same : (s t : Side) → s.heard ≡ t.heard → s.check ≡ t.check → s.sent ≡ t.sent → s.given ≡ t.given → s ≡ t
-side-same s t a b e g = grind (arith)
 
 turn-same : (t u : Turn) → ((role : Role) → of role t ≡ of role u) → t ≡ u
 turn-same t u e = turns t.orig u.orig t.answ u.answ (e Originator) (e Answerer)
@@ -58,7 +53,7 @@ heard-same laws x ts t u h k role =
 one-turn : OnceLaws → (x : Tapping) (ts : List Turn) (t u : Turn) → Hears x ts t → Hears x ts u
     → ((role : Role) → (of role t).sent ≡ (of role u).sent) → t ≡ u
 one-turn laws x ts t u h k e =
-    turn-same t u (λ role. side-same (of role t) (of role u) (heard-same laws x ts t u h k role) (h.checks role ∙ sym (k.checks role))
+    turn-same t u (λ role. same-side (of role t) (of role u) (heard-same laws x ts t u h k role) (h.checks role ∙ sym (k.checks role))
     (e role) (h.given role ∙ ap (given_to role ts) (heard-same laws x ts t u h k role) ∙ sym (k.given role)))
 
 one-going : OnceLaws → (x : Tapping) (ts : List Turn) (t u : Turn) → IsInLimits x.script → GoesOn x ts t → GoesOn x ts u → t ≡ u
@@ -96,10 +91,6 @@ pub data Cause : Type 0 where
   Whole : Cause
   Refused : Role → Cause
   On_line : LineEnd → Cause
-
-abbrev pub line_text : List Turn → LineEnd → List ℕ
-line_text ts (lines.LineLost role symbol) = trace_text ts
-line_text ts (lines.ChanceMatch role) = trace_text ts ++ chance_line (length ts) role
 
 abbrev pub end_of : ℕ → Cause → TapEnd
 end_of n Whole = IsDone (n + 1)

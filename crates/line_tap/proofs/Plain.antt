@@ -1,7 +1,7 @@
 -- Turns of a run without what the line doesn't tell: the meant numbers, and the checks of frames that have no numbers.
 use Rattle.line_tap.proofs.Cited.{arith, ◌≡◌, ℕ, zero, suc, ◌-◌, ◌*◌, Bool, true, cond, List, [], ◌∷◌, ◌++◌, length, map, drop, refl, ◌∙◌}
-use Rattle.line_tap.proofs.Cited.{ap, Option, Some, length-map, drop-map, option_map, is_some, ◌||◌, signal_bits, Check, Sixteen}
-use Rattle.line_tap.proofs.Cited.{has_number, Frame, Heard, Sent, Wire, signals, bits_of, IsHeardOf, IsHeardWell, HeardIn, told, given_in}
+use Rattle.line_tap.proofs.Cited.{ap, Option, length-map, drop-map, option_map, is_some, ◌||◌, signal_bits, Check, Sixteen, has_number}
+use Rattle.line_tap.proofs.Cited.{Frame, Heard, Sent, Wire, signals, bits_of, IsHeardOf, IsHeardWell, HeardIn, told, AllChecked, given_in}
 use Rattle.line_tap.proofs.Cited.{given_breaks, check_by, judged_by, taking_in, received, given_to, has_passed, is_xid, Spoken, Side, Turn}
 use Rattle.line_tap.proofs.Cited.{side_line, turn_text, trace_text, signal_of, of, Role, Originator, Answerer, Terms}
 use Rattle.std.proofs.Common.{slice_get}
@@ -11,6 +11,7 @@ use Rattle.link_run.specs.Carried.{sent_in, sent_ago}
 use Rattle.link_run.specs.Overheard.{passes_in}
 use Rattle.line_run.specs.Sampled.{signal_in, signals_before, bits_before, ArrivesAs}
 use Rattle.line_run.specs.Sampled.{LosesLine}
+use Rattle.link_run.proofs.Overhearing.{HasCheck}
 
 -- a slot, an end in a turn, a turn, as the line tells them
 abbrev pub plain_slot : Check → Spoken → Spoken
@@ -79,14 +80,6 @@ plain-text check (t ∷ ts) =
     ∙ ap (λ l. l ++ turn_text (length ts) t) (plain-text check ts)
 
 -- ---- the slots, where each frame with numbers has that check
-
-abbrev pub HasCheck : Check → Option Spoken → Type 0
-HasCheck check o = (slot : Spoken) (frame : Frame) → o ≡ Some slot → slot.sent ≡ slots.Frame frame → has_number frame ≡ true
-    → slot.check ≡ check
-
-abbrev pub AllChecked : Check → Role → List Turn → Type 0
-AllChecked check role [] = Unit {0}
-AllChecked check role (t ∷ ts) = HasCheck check (of role t).sent × AllChecked check role ts
 
 checked-drop : (check : Check) (role : Role) (n : ℕ) (ts : List Turn) → AllChecked check role ts → AllChecked check role (drop n ts)
 checked-drop check role zero ts h = h

@@ -2,7 +2,7 @@
 use Rattle.line_tap.proofs.Cited.{◌≡◌, inl, ℕ, ◌+◌, ◌-◌, ◌<◌, arith, List, [], ◌∷◌, ◌++◌, length, sym, subst, concat, HEAD, TAIL, LineLost}
 use Rattle.line_tap.proofs.Cited.{ChanceMatch, BadTap, Stop, Own, Read, Write, Say, NoMemory, KeepsTaken, Left, TapEnd, EndsBy, TapNames}
 use Rattle.line_tap.proofs.Cited.{outputs_of, IsReady, TapAfter, AreReadTo, GoesOnBy, EndsInTurn, EndsReading, StopsInTurn, StopsReadingIn}
-use Rattle.line_tap.proofs.Cited.{Tapping, tapping, line_of, terms_of, held_of, left_of, got_in, added, no_octets, Tap, received, Turn}
+use Rattle.line_tap.proofs.Cited.{Tapping, tapping, line_of, terms_of, left_of, got_in, added, no_octets, Tap, held_of, received, Turn}
 use Rattle.line_tap.proofs.Cited.{trace_text, turn_text, ScriptValue, FolderState, HoldEach, Both, of, Role, Originator, Answerer}
 use Rattle.outside_calls.specs.Folder.{GoesOn}
 use Rattle.outside_calls.specs.Outputs.{Creates, Holds}

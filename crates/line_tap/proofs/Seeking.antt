@@ -12,9 +12,8 @@ use Rattle.bit_stuffing.specs.declared.piece.Piece.TheVariants.{Whole}
 use Rattle.bit_stuffing.specs.Found.{found_at, listed}
 use Rattle.bit_stuffing.specs.Pieces.{content, EndsWhole}
 use Rattle.bit_stuffing.proofs.Found.{pieces-more, found-place}
-use Rattle.bit_stuffing.proofs.Sent.{pieces-stay}
+use Rattle.bit_stuffing.proofs.Sent.{pieces-stay, wholes-append}
 use Rattle.bit_stuffing.proofs.Stuffed.{is_stuffed}
-use Rattle.sample_line.proofs.Finding.{wholes-append}
 use Rattle.sample_line.proofs.Standing.{slot-part}
 use Rattle.command_base.proofs.Hearing.{octet-fours as two-quads}
 

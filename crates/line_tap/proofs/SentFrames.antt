@@ -1,15 +1,13 @@
 -- A frame that octets spell can be sent.
-use Rattle.line_tap.proofs.Cited.{arith, ℕ, ◌<◌, Bool, List, ◌∷◌, ◌++◌, length, Option, Some, None, Result, subst, take-append_seam}
-use Rattle.line_tap.proofs.Cited.{All-take, All-tail, IfSome, result_ok, AreOctets, Check, SpellsFrame, checked, address_of, control_octet}
-use Rattle.line_tap.proofs.Cited.{information_of, spelled, tail_octets, parts_of, IsSendable, Frame, CanBeSent, Role}
+use Rattle.line_tap.proofs.Cited.{arith, ℕ, ◌<◌, Bool, List, ◌∷◌, Option, Some, None, Result, subst, All-tail, IfSome, result_ok, AreOctets}
+use Rattle.line_tap.proofs.Cited.{Check, SpellsFrame, checked, address_of, control_octet, information_of, spelled, tail_octets, parts_of}
+use Rattle.line_tap.proofs.Cited.{IsSendable, Frame, CanBeSent, Role}
 use Rattle.std.specs.Prelude.{IfOk, ◌≡◌}
 use Rattle.lapm_frames.specs.declared.fault.CheckedFault.{CheckedFault}
 use Rattle.lapm_frames.specs.declared.sent.Sent.TheVariants as sent
 use Rattle.lapm_frames.specs.Frame.{numbered, numbers_before}
 use Rattle.lapm_frames.proofs.Checking.{spelled-checked}
-
-front-octets : (a b : List ℕ) → AreOctets (a ++ b) → AreOctets a
-front-octets a b h = subst AreOctets (take-append_seam a b) (All-take (λ octet. octet < 256) (length a) (a ++ b) h)
+use Rattle.line_ends.proofs.Handing.{append-left}
 
 info-octets : (nr : Option ℕ) (pf : Bool) (info : List ℕ) → AreOctets (numbers_before nr pf info) → AreOctets info
 info-octets None pf info h = h
@@ -18,7 +16,7 @@ info-octets (Some nr) pf info h = All-tail (λ octet. octet < 256) (numbered nr 
 pub spells-sendable : (check : Check) (sender : Role) (dlci : ℕ) (whole : List ℕ) (frame : Frame) → AreOctets whole
     → SpellsFrame check sender dlci whole frame → IsSendable (sent.Frame frame)
 spells-sendable check sender dlci whole frame small h =
-    let front : AreOctets h.octets = front-octets h.octets h.passes.check_octets (subst AreOctets h.passes.whole_is small) in
+    let front : AreOctets h.octets = append-left h.octets h.passes.check_octets (subst AreOctets h.passes.whole_is small) in
     let all : AreOctets (spelled frame sender dlci) = subst AreOctets h.spelling.1 front in
     let address : ℕ = address_of (parts_of frame).command sender dlci in
     let behind : AreOctets (control_octet (parts_of frame) ∷ tail_octets (parts_of frame)) =

@@ -2,11 +2,11 @@
 use Rattle.line_tap.proofs.Cited.{◌≡◌, ℕ, suc, ◌+◌, ◌-◌, ◌*◌, ◌<◌, ◌≤◌, Bool, true, cond, List, [], ◌∷◌, ◌++◌, length, take, arith}
 use Rattle.line_tap.proofs.Cited.{length-append, refl, sym, ◌∙◌, ap, subst, Some, mul-suc, common_steps, length-map, take_all, concat}
 use Rattle.line_tap.proofs.Cited.{option_map, opening, phase_after, HEAD, TAIL, Signal, slots_of, signal_bits, with_check, Check, Sixteen}
-use Rattle.line_tap.proofs.Cited.{checked, has_number, spelled, Frame, Chance, Sent, Modulates, signals-more, tap-some, Left, AreFit}
-use Rattle.line_tap.proofs.Cited.{OneMoreFits, CodableFits, CodableIsSendable, SpelledInOctets, Wire, signals, bits_of, IsHeardOf}
-use Rattle.line_tap.proofs.Cited.{IsHeardWell, HeardIn, LineEnd, ScriptsHaveDelays, SlotsHaveRoom, EndsWhole, EndsLine, EndsOnLine, EndsBy}
-use Rattle.line_tap.proofs.Cited.{tapping, phase_behind, next_bits, octets_of, HoldsNext, Hears, Tells, chance_line, check_by, judged_by}
-use Rattle.line_tap.proofs.Cited.{given_to, Spoken, Turn, IsSilent, trace_text, ScriptValue, IsInLimits, delay_of, samples_in, bits_behind}
+use Rattle.line_tap.proofs.Cited.{checked, has_number, spelled, Frame, Chance, Sent, Modulates, signals-more, Left, AreFit, OneMoreFits}
+use Rattle.line_tap.proofs.Cited.{CodableFits, CodableIsSendable, SpelledInOctets, Wire, signals, bits_of, IsHeardOf, IsHeardWell, HeardIn}
+use Rattle.line_tap.proofs.Cited.{LineEnd, ScriptsHaveDelays, SlotsHaveRoom, EndsWhole, EndsLine, EndsOnLine, EndsBy, tapping, phase_behind}
+use Rattle.line_tap.proofs.Cited.{next_bits, octets_of, HoldsNext, Hears, Tells, chance_line, AllChecked, check_by, judged_by, given_to}
+use Rattle.line_tap.proofs.Cited.{Spoken, Turn, IsSilent, trace_text, ScriptValue, IsInLimits, delay_of, samples_in, tap-some, bits_behind}
 use Rattle.line_tap.proofs.Cited.{mode_of, signal_of, IsCodable, tap_of, Both, of, other, Role, Originator, Answerer, NoDistanceIsEqual}
 use Rattle.line_tap.proofs.Cited.{Terms}
 use Rattle.std.proofs.Math.Nat.{mul_assoc}
@@ -29,7 +29,7 @@ use Rattle.line_run.specs.Recorded.{IsRecorded}
 use Rattle.line_run.proofs.Bits.{bits-more}
 use Rattle.line_tap.specs.Laws.{AreCoded, RecordingsTellRuns}
 use Rattle.line_tap.proofs.Plain.{plain_slot, plain, plains, plain-heard, plain-check, plain-given, plain-sent, plain-judged}
-use Rattle.line_tap.proofs.Plain.{plain-received, plain-given_to, plain-text, AllChecked, plain-signal, plain-signals}
+use Rattle.line_tap.proofs.Plain.{plain-received, plain-given_to, plain-text, plain-signal, plain-signals}
 use Rattle.line_tap.proofs.Plain.{heard_of-plain, well-plain, heard_in-plain, loses-plain}
 use Rattle.sample_line.proofs.Once.{length-modulated}
 use Rattle.line_tap.proofs.Coding.{modulates-front, recorded-back}

@@ -4,8 +4,8 @@ use Rattle.line_tap.proofs.Cited.{length-append, refl, sym, ◌∙◌, ap, subst
 use Rattle.line_tap.proofs.Cited.{ReadTo, Stop, Heard, KeepsTaken, Left, Slot, IsIdle, EndsLine, Leaves, LastHears, IsFirstRefused}
 use Rattle.line_tap.proofs.Cited.{TapNames, recording_of, inputs_of, outputs_of, AreReadTo, AreReadOut, HearsThese, HearsSo, InTurn}
 use Rattle.line_tap.proofs.Cited.{silent_in, EndsInTurn, EndsReading, StopsInTurn, StopsReadingIn, IsBehind, IsReady, IsToGo, TapAfter}
-use Rattle.line_tap.proofs.Cited.{GoesOnBy, going_in, Tapping, tapping, line_of, octets_of, Tells, held_of, left_of, added, AddsGot}
-use Rattle.line_tap.proofs.Cited.{Hearing, Tap, chance_line, Turn, IsSilent, trace_text, turn_text, OnlyPuts-trans, OnlyPuts-one}
+use Rattle.line_tap.proofs.Cited.{GoesOnBy, going_in, Tapping, tapping, line_of, octets_of, Tells, left_of, added, AddsGot, Hearing, Tap}
+use Rattle.line_tap.proofs.Cited.{chance_line, held_of, Turn, IsSilent, trace_text, turn_text, OnlyPuts-trans, OnlyPuts-one}
 use Rattle.line_tap.proofs.Cited.{KeepsEach-reads, inputs-kept, AddPart-next, FolderState, OnlyReads, OnlyWrites, Appended, PartlyAppended}
 use Rattle.line_tap.proofs.Cited.{octets_at, AreApartFrom, KeepsEach, OnlyPuts, header_of, HEADER, mode_of, Both, of, Role, Originator}
 use Rattle.line_tap.proofs.Cited.{Answerer}

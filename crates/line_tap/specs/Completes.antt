@@ -14,8 +14,8 @@ use Rattle.command_base.specs.declared.status.Status.{Status}
 use Rattle.command_base.specs.declared.status.Status.TheVariants.{NoMemory}
 use Rattle.command_base.specs.Sound.{IsSound}
 use Rattle.line_tap.specs.Names.{TapNames, inputs_of, outputs_of}
-use Rattle.line_tap.specs.Turn.{held_of}
 use Rattle.line_tap.specs.Answers.{answer_of}
+use Rattle.line_world.specs.Turns.{held_of}
 
 -- The inputs are told: a script of at most 65,536 octets, and two recordings of at most 268,435,456, which are these octets behind their headers.
 pub record AreRight (f : FolderState) (n : TapNames) (script : ScriptValue) (bodies : Both (List ℕ)) : Type 0 where

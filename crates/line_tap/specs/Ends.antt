@@ -9,7 +9,7 @@ use Rattle.line_texts.specs.LineText.{chance_line}
 use Rattle.link_run.specs.Run.{Turn, IsSilent}
 use Rattle.link_run.specs.Trace.{trace_text}
 use Rattle.link_run.specs.Listened.{check_by, judged_by, received}
-use Rattle.line_run.specs.Sampled.{IsHeardOf, IsHeardWell, LosesLine, LineEnd}
+use Rattle.line_run.specs.Sampled.{LineEnd}
 use Rattle.line_run.specs.Sampled as lines
 use Rattle.line_run.specs.Ends.{RunEnd, Left}
 use Rattle.line_run.specs.Ends as runs

@@ -16,8 +16,8 @@ use Rattle.command_base.specs.Job.{Shared}
 use Rattle.command_base.specs.Lines.{turns_line}
 use Rattle.line_tap.specs.Answers.{stop_by}
 use Rattle.line_tap.specs.Names.{TapNames, inputs_of, outputs_of}
-use Rattle.line_tap.specs.Turn.{held_of}
 use Rattle.line_tap.specs.Turns.{KnowsBodies}
+use Rattle.line_world.specs.Turns.{held_of}
 
 -- The script and both recordings of a tap are those of the folder.
 pub record AreOf (f : FolderState) (n : TapNames) (script : ScriptValue) (bodies : Both (List ℕ)) : Type 0 where

@@ -21,7 +21,8 @@ use Rattle.run_inputs.specs.declared.limits.Limits.{Limits}
 use Rattle.run_inputs.specs.Inputs.{Opens, RefusesOwn, FailsToRead}
 use Rattle.line_tap.specs.Names.{TapNames, inputs_of, outputs_of, recordings_of}
 use Rattle.line_tap.specs.Tap.{AreReadTo}
-use Rattle.line_tap.specs.Turns.{TapEnds, TapStops, TapStopsReading, no_octets}
+use Rattle.line_tap.specs.Turns.{TapEnds, TapStops, TapStopsReading}
+use Rattle.line_tap.specs.Turn.{no_octets}
 use Rattle.line_tap.specs.declared.limits.TheConstants.{LIMITS}
 use Rattle.line_tap.specs.Headers.{HasHeader, HasNoHeader}
 

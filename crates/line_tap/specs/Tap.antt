@@ -27,7 +27,7 @@ use Rattle.line_world.specs.declared.directions.LineEnd.{LineEnd}
 use Rattle.line_world.specs.Lines.{AreWaiting, HaveRoom}
 use Rattle.line_tap.specs.declared.reader.SlotReader.{SlotReader}
 use Rattle.line_tap.specs.Tapping.{Tapping, tapping, line_of, terms_of, octets_of, HoldsNext, Tells, told}
-use Rattle.line_tap.specs.Ends.{TapEnd, EndsBy, EndsLine, HoldsNone, IsFirstRefused}
+use Rattle.line_tap.specs.Ends.{TapEnd, EndsBy, EndsLine, IsFirstRefused}
 use Rattle.line_tap.specs.Ends as ends
 use Rattle.command_base.specs.declared.status.Status.TheVariants.{BadTap}
 use Rattle.command_base.specs.declared.stop.Stop.{Stop}
@@ -42,8 +42,9 @@ use Rattle.line_tap.specs.End.{ReadsOn, Slot, slot_as}
 use Rattle.line_tap.specs.EndListener.{IsIdle, ListensFor, ListensToo}
 use Rattle.line_tap.specs.Answers.{stop_by}
 use Rattle.line_tap.specs.Names.{TapNames, recording_of, outputs_of}
-use Rattle.line_tap.specs.Turn.{held_of, left_of, added, AddsGot, AddsTurn, AddsChance}
+use Rattle.line_tap.specs.Turn.{left_of, added, AddsGot, AddsTurn, AddsChance}
 use Rattle.line_world.specs.Faults.{end_of}
+use Rattle.line_world.specs.Turns.{held_of}
 
 -- ---- what was read of the recordings
 

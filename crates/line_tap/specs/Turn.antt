@@ -14,10 +14,7 @@ use Rattle.line_run.specs.Ends.{Left}
 use Rattle.line_tap.specs.Tapping.{Tapping, line_of, terms_of, octets_of, Hears, GoesOn, Tells}
 use Rattle.line_tap.specs.Ends.{IsChanceMatch}
 use Rattle.line_tap.specs.Names.{TapNames, outputs_of}
-
--- what is left of each output
-abbrev pub held_of : Left → List (List ℕ)
-held_of left = left.got.orig ∷ left.got.answ ∷ left.trace ∷ []
+use Rattle.line_world.specs.Turns.{held_of}
 
 -- what turns leave, with this text
 abbrev pub left_of : Tapping → List Turn → List ℕ → Left
@@ -59,14 +56,15 @@ pub record AddsTurn (x : Tapping) (ts : List Turn) (more : Left) : Type 0 where
   pub makes : MakesTurn x ts turn
   pub is : more ≡ added x ts turn (turn_text (length ts) turn)
 
-abbrev pub nothing_got : Both (List ℕ)
-nothing_got = record { orig = []; answ = [] }
+-- nothing was read
+abbrev pub no_octets : Both (List ℕ)
+no_octets = record { orig = []; answ = [] }
 
 -- or the line of a chance match alone.
 pub record AddsChance (x : Tapping) (ts : List Turn) (more : Left) : Type 0 where
   pub role : Role
   pub ends : IsChanceMatch x ts role
-  pub is : more ≡ record { got = nothing_got; trace = chance_line (length ts) role }
+  pub is : more ≡ record { got = no_octets; trace = chance_line (length ts) role }
 
 -- what the turn after these adds, as far as it was made
 abbrev pub Adds : Tapping → List Turn → Left → Type 0

@@ -1,5 +1,5 @@
 -- What the turns of a tap come to that are made over a folder.
-use Rattle.std.specs.Prelude.{◌≡◌, ℕ, IsTrue, List, [], ◌++◌, Result, Ok, Err}
+use Rattle.std.specs.Prelude.{◌≡◌, ℕ, IsTrue, List, ◌++◌, Result, Ok, Err}
 use Rattle.std.specs.Option.{MatchOption}
 use Rattle.outside_calls.specs.Folder.{FolderState, octets_at}
 use Rattle.outside_calls.specs.Outputs.{HoldEach}
@@ -16,7 +16,8 @@ use Rattle.line_tap.specs.Answers.{stop_by}
 use Rattle.command_base.specs.declared.stop.Stop.{Stop}
 use Rattle.command_base.specs.declared.stop.Stop.TheVariants.{Own, Read, Write, Say, NoMemory}
 use Rattle.line_tap.specs.Names.{TapNames, recording_of, outputs_of}
-use Rattle.line_tap.specs.Turn.{held_of, StopsAfter, StopsReading}
+use Rattle.line_tap.specs.Turn.{StopsAfter, StopsReading}
+use Rattle.line_world.specs.Turns.{held_of}
 
 -- these octets stand behind the headers of both recordings
 abbrev pub KnowsBodies : FolderState → TapNames → Both (List ℕ) → Type 0
@@ -53,7 +54,3 @@ StopsBy script start now n NoMemory = ⊥
 abbrev pub TurnsEnd : ScriptValue → FolderState → FolderState → TapNames → Result ℕ Stop → Type 0
 TurnsEnd script start now n (Ok turns) = TapEnds script start now n (ends.IsDone turns)
 TurnsEnd script start now n (Err stop) = StopsBy script start now n stop
-
--- nothing was read
-abbrev pub no_octets : Both (List ℕ)
-no_octets = record { orig = []; answ = [] }

@@ -8,7 +8,7 @@ ghost use Rattle.command_base.specs.Stops.{EndCounts, WriteFails};
 ghost use Rattle.command_base.specs.Apart.{are_apart};
 ghost use Rattle.line_tap.specs.Names.{named, inputs_of, outputs_of, recordings_of};
 ghost use Rattle.line_tap.specs.Tap.{IsReady, TapAfter};
-ghost use Rattle.line_tap.specs.Turns.{no_octets};
+ghost use Rattle.line_tap.specs.Turn.{no_octets};
 ghost use Rattle.line_tap.specs.declared.limits.TheConstants.{LIMITS};
 ghost use Rattle.line_tap.specs.Outcomes.{Ends, IsBegun, tap_job};
 ghost use Rattle.line_tap.specs.Headline.{Headline};

@@ -14,7 +14,7 @@ ghost use Rattle.line_tap.specs.Tapping.{Tapping, Tells, tapping};
 ghost use Rattle.line_tap.specs.Ends.{EndsLine};
 ghost use Rattle.line_tap.specs.Names.{named, inputs_of, outputs_of, recordings_of};
 ghost use Rattle.line_tap.specs.EndListener.{IsIdle, HasTaken};
-ghost use Rattle.line_tap.specs.Turns.{no_octets};
+ghost use Rattle.line_tap.specs.Turn.{no_octets};
 
 use crate::end::TappedEnd;
 use crate::limits::{DLCI, TAP_LIMIT};

@@ -6,7 +6,8 @@ ghost use Rattle.command_base.specs.Stops.{EndCounts};
 ghost use Rattle.line_tap.specs.Tapping.{tapping};
 ghost use Rattle.line_tap.specs.Names.{named, inputs_of, outputs_of, recordings_of};
 ghost use Rattle.line_tap.specs.Tap.{IsReady, TapAfter, AreReadTo};
-ghost use Rattle.line_tap.specs.Turns.{TurnsEnd, no_octets};
+ghost use Rattle.line_tap.specs.Turns.{TurnsEnd};
+ghost use Rattle.line_tap.specs.Turn.{no_octets};
 
 use crate::names::TapWords;
 use crate::step::TapStep;

@@ -1,6 +1,8 @@
 -- The texts of frames and of lines fit their lists.
-use Rattle.std.proofs.Common.{◌≡◌, ℕ, ◌+◌, ◌^◌, ◌<◌, ◌≤◌, Bool, true, false, if◌then◌else◌, List, [], ◌++◌, length, codes, decimal, arith}
-use Rattle.std.proofs.Common.{length-append, Option, Some, None, Result, Ok, Err, refl, sym, subst}
+use Rattle.line_texts.proofs.Names.{◌≡◌, ◌+◌, ◌≤◌, ◌++◌, length, codes, refl, sym, subst, if_numbered, if_informed, information_words}
+use Rattle.line_texts.proofs.Names.{direction_word, poll_word, text_of, slot_word, heard_word, sent_word, break_word, is_chance}
+use Rattle.std.proofs.Common.{ℕ, ◌^◌, ◌<◌, Bool, true, false, if◌then◌else◌, List, [], decimal, arith}
+use Rattle.std.proofs.Common.{length-append, Option, Some, None, Result, Ok, Err}
 use Rattle.std.specs.Prelude.{IfSome}
 use Rattle.std.proofs.lemmas.Fmt.{length-decimal-le}
 use Rattle.frame_check.specs.Octets.{AreOctets}
@@ -21,10 +23,10 @@ use Rattle.lapm_frames.specs.declared.sent.Sent.{Sent}
 use Rattle.lapm_frames.specs.declared.sent.Sent.TheVariants as slots
 use Rattle.lapm_frames.specs.declared.heard.Heard.{Heard}
 use Rattle.lapm_frames.specs.declared.heard.Heard.TheVariants.{Nothing, Passed, Lost, Chance}
-use Rattle.line_texts.specs.FrameText.{IsInformation, IsPrintable, number_word, if_numbered, if_informed, if_word, break_in, break_words}
-use Rattle.line_texts.specs.FrameText.{information_words, direction_word, poll_word, frame_text, text_of}
-use Rattle.line_texts.specs.LineText.{IsPrintableSlot, IsPrintableHeard, IsPrintableLine, slot_word, heard_word, sent_word, break_word}
-use Rattle.line_texts.specs.LineText.{line_begins, trace_line, chance_line, is_chance, line_text}
+use Rattle.line_texts.specs.FrameText.{IsInformation, IsPrintable, number_word, if_word, break_in, break_words}
+use Rattle.line_texts.specs.FrameText.{frame_text}
+use Rattle.line_texts.specs.LineText.{IsPrintableSlot, IsPrintableHeard, IsPrintableLine}
+use Rattle.line_texts.specs.LineText.{line_begins, trace_line, chance_line, line_text}
 use Rattle.line_texts.specs.declared.trace_line.TraceLine.{TraceLine}
 use Rattle.line_texts.specs.declared.words.TheConstants.{TEXT}
 
@@ -113,7 +115,7 @@ short-direction None true = omega arith
 short-direction None false = omega arith
 short-direction (Some ns) command = omega arith
 
-short-poll : (pf : Bool) → length (poll_word pf) ≤ 4
+pub short-poll : (pf : Bool) → length (poll_word pf) ≤ 4
 short-poll true = omega arith
 short-poll false = omega arith
 
@@ -170,11 +172,11 @@ short-sent : (sent : Option Sent) → IfSome sent IsPrintableSlot → length (se
 short-sent None h = omega arith
 short-sent (Some s) h = short-slot s h
 
-short-break : (given : Option ℕ) → IfSome given (λ units. units < 256) → length (break_word given) ≤ 10
+pub short-break : (given : Option ℕ) → IfSome given (λ units. units < 256) → length (break_word given) ≤ 10
 short-break None h = omega arith
 short-break (Some units) h = short-number (codes " break=") units h
 
-short-role : (role : Role) → length (role_word role) ≤ 4
+pub short-role : (role : Role) → length (role_word role) ≤ 4
 short-role Originator = omega arith
 short-role Answerer = omega arith
 

@@ -20,7 +20,6 @@ pub use Rattle.lapm_frames.specs.declared.heard.Heard.{Heard}
 pub use Rattle.lapm_frames.specs.declared.heard.Heard.TheVariants.{Chance}
 pub use Rattle.lapm_frames.specs.declared.seen.Seen.{Seen}
 pub use Rattle.lapm_frames.specs.declared.sent.Sent.{Sent}
-pub use Rattle.line_run.proofs.Leaving.{hearing-in}
 pub use Rattle.line_run.specs.LineLaws.{OneIsCarried, SamplesAreCarried}
 pub use Rattle.line_run.specs.Names.{Written, inputs_of, outputs_of, received_of, written}
 pub use Rattle.line_run.specs.Recorded.{Tapes, tapes_of}
@@ -55,6 +54,7 @@ pub use Rattle.link_account.specs.Hear.{hear}
 pub use Rattle.link_account.specs.Numbers.{IsNumbered}
 pub use Rattle.link_account.specs.Speak.{Said, speak}
 pub use Rattle.link_account.specs.declared.setup.Setup.{Setup}
+pub use Rattle.link_run.proofs.Only.{hearing-of}
 pub use Rattle.link_run.specs.Counts.{lost_in}
 pub use Rattle.link_run.specs.End.{BreakLine, asked, asked_at, delivered, deliveries, has_finished, is_busy, is_closed, is_ready}
 pub use Rattle.link_run.specs.End.{is_released, offered_at}

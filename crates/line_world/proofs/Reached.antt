@@ -1,9 +1,9 @@
 -- Where the turns of a run have come.
 use Rattle.line_world.proofs.Cited.{◌≡◌, inl, inr, ℕ, ◌+◌, ◌-◌, ◌≤◌, ◌<◌, ◌^◌, List, [], ◌∷◌, ◌++◌, length, take, refl, sym, ◌∙◌, ap, subst}
-use Rattle.line_world.proofs.Cited.{arith, length-take, concat-append, concat, hearing-in, Written, inputs_of, outputs_of, Tapes, tapes_of}
-use Rattle.line_world.proofs.Cited.{LineRun, wire_of, link_of, both_sent_by, RunFault, chance_line, octets_of, HoldTapes, HoldTapesPartly}
-use Rattle.line_world.proofs.Cited.{added, GoesOnBy, EndsInTurn, StopsReading, Stops, IsWriting, KnowsFiles, WorldAfter, script_of, turn_of}
-use Rattle.line_world.proofs.Cited.{World, deliveries, Outcome, Done, Going, Broken, Accounts, Turn, LastTurn, start, Hears, turn_text}
+use Rattle.line_world.proofs.Cited.{arith, length-take, concat-append, concat, Written, inputs_of, outputs_of, Tapes, tapes_of, LineRun}
+use Rattle.line_world.proofs.Cited.{wire_of, link_of, both_sent_by, RunFault, chance_line, octets_of, HoldTapes, HoldTapesPartly, added}
+use Rattle.line_world.proofs.Cited.{GoesOnBy, EndsInTurn, StopsReading, Stops, IsWriting, KnowsFiles, WorldAfter, script_of, turn_of, World}
+use Rattle.line_world.proofs.Cited.{hearing-of, deliveries, Outcome, Done, Going, Broken, Accounts, Turn, LastTurn, start, Hears, turn_text}
 use Rattle.line_world.proofs.Cited.{ScriptValue, Holds-kept, Holds-more, HoldsPart-more, OnlyPuts-refl, OnlyPuts-trans, inputs-kept}
 use Rattle.line_world.proofs.Cited.{CountsStand-refl, CountsStand-trans, FolderState, octets_at, GoesOn, KeepsName, CountsStand}
 use Rattle.line_world.proofs.Cited.{AreApartFrom, Holds, KeepsEach, OnlyPuts, AddEach, Both, of, Role, Originator, Answerer, file_at}
@@ -158,7 +158,7 @@ run-so w script n tapes old now r = subst (λ s. LineRun (wire_of s) (link_of s 
 abbrev pub none_got : Both (List ℕ)
 none_got = record { orig = []; answ = [] }
 
-kept-none : (now next : FolderState) (name octets : List ℕ) → GoesOn now next → Holds now name octets → KeepsName now next name
+pub kept-none : (now next : FolderState) (name octets : List ℕ) → GoesOn now next → Holds now name octets → KeepsName now next name
     → Holds next name (octets ++ [])
 kept-none now next name octets on holds kept = grind (arith, append-nil)
 
@@ -185,7 +185,7 @@ module _ (delivers : HearingsDeliver) (w v : World) (n : Written) (tapes : Tapes
       leaves = leaves-so e.mid (trace_text (e.turn ∷ r.turns));
     },
     held-turn delivers (link_of (script_of w) r.files) r.turns r.ends e.turn e.mid now next n r.world.modems.run.run
-        (hearing-in (link_of (script_of v) e.others) r.turns r.ends e.turn e.mid outcome e.makes.is) only.goes_on r.holds e.writes,
+        (hearing-of (link_of (script_of v) e.others) r.turns r.ends e.turn e.mid outcome e.makes.is) only.goes_on r.holds e.writes,
   )
 
   -- the run is done

@@ -1,10 +1,7 @@
 -- What is touched where some names stand behind others.
 use Rattle.line_world.proofs.Cited.{arith, inl, inr, ℕ, List, [], ◌∷◌, ◌++◌, sym, FolderState, AreApart, OnlyPuts, KeepsEach}
 use Rattle.outside_calls.specs.Outputs.{IsNoneOf, AreNoneOf, SomeRose}
-
-none-front : (name : List ℕ) (front behind : List (List ℕ)) → IsNoneOf name (front ++ behind) → IsNoneOf name front
-none-front name [] behind apart = tt
-none-front name (first ∷ front) behind apart = (apart.0, none-front name front behind apart.1)
+use Rattle.outside_calls.proofs.Putting.{none-front}
 
 none-behind : (name : List ℕ) (front behind : List (List ℕ)) → IsNoneOf name (front ++ behind) → IsNoneOf name behind
 none-behind name [] behind apart = apart

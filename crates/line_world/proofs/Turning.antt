@@ -1,10 +1,10 @@
 -- A whole turn.
 use Rattle.line_world.proofs.Cited.{arith, ◌≡◌, inl, inr, ℕ, ◌+◌, ◌<◌, List, [], ◌∷◌, length, refl, sym, ◌∙◌, ap, subst, Result, Ok, Err}
-use Rattle.line_world.proofs.Cited.{Heard, hearing-in, SamplesAreCarried, OneIsCarried, Written, outputs_of, received_of, Wire, HeardIn}
-use Rattle.line_world.proofs.Cited.{IsHeardOf, link_of, ScriptsMayPlay, ScriptsHaveDelays, Carried, RunFault, HaveArrived, AreCounted}
-use Rattle.line_world.proofs.Cited.{AreIdle, AreWithin, octets_of, Overhears, HasGone, HearsThese, AddsPart, SpeaksLast, turn_in, AreKept}
-use Rattle.line_world.proofs.Cited.{Stops, StopsReading, EndsInTurn, GoesOnBy, IsWriting, added, IsReading, StayKnown, Lines, Modems, Step}
-use Rattle.line_world.proofs.Cited.{Counts, check_of, lost_in, Outcome, TurnIs, Broken, Accounts, Turn, Hears, turn_text, IsInLimits}
+use Rattle.line_world.proofs.Cited.{Heard, SamplesAreCarried, OneIsCarried, Written, outputs_of, received_of, Wire, HeardIn, IsHeardOf}
+use Rattle.line_world.proofs.Cited.{link_of, ScriptsMayPlay, ScriptsHaveDelays, Carried, RunFault, HaveArrived, AreCounted, AreIdle}
+use Rattle.line_world.proofs.Cited.{AreWithin, octets_of, Overhears, HasGone, HearsThese, AddsPart, SpeaksLast, turn_in, AreKept, Stops}
+use Rattle.line_world.proofs.Cited.{StopsReading, EndsInTurn, GoesOnBy, IsWriting, added, IsReading, StayKnown, Lines, Modems, Step, Counts}
+use Rattle.line_world.proofs.Cited.{check_of, hearing-of, lost_in, Outcome, TurnIs, Broken, Accounts, Turn, Hears, turn_text, IsInLimits}
 use Rattle.line_world.proofs.Cited.{AddEach-next, AddPart-next, AddPart-none, AddPart-longer, FolderState, OnlyWrites, OnlyPuts, AddEach}
 use Rattle.line_world.proofs.Cited.{Both, of, other, LinkFault, Role, Originator, Answerer}
 use Rattle.outside_calls.specs.Outputs.{AddPart}
@@ -59,7 +59,7 @@ making laws c files ts ends heard mid limits o = record {
     m = grind (arith, first, runs-over, heard-first)
 
     hears : Hears (length ts) ends m.turn m.mid
-    hears = hearing-in (link_of c.script files) ts ends m.turn m.mid m.outcome m.is
+    hears = hearing-of (link_of c.script files) ts ends m.turn m.mid m.outcome m.is
 
     first-hears : Hears (length ts) ends first mid
     first-hears = hears-in c files ts ends mid heard none-sent o

@@ -1,13 +1,11 @@
 -- Hearing keeps a play good.
-use Rattle.std.proofs.Common.{◌≡◌, ℕ, ◌≤◌, ◌||◌, Bool, true, false, cond, List, ◌∷◌, arith, refl, sym, ◌∙◌, ap, subst, Option, Some, None}
-use Rattle.std.proofs.Common.{Result, Ok, Err}
-use Rattle.link_account.proofs.Names.{Account, Answer, Answerer, Closed, Connected, Detecting, Disc, Dm, Establishing, Frame, I, LinkFault}
-use Rattle.link_account.proofs.Names.{Negotiating, Originator, Phase, Rej, Releasing, Rnr, Role, Rr, Sabme, Sent, Setup, Slot, Srej, Ua}
-use Rattle.link_account.proofs.Names.{Xid, agree, arrives, connected, hear, is_originator, offer_in, on_closed, on_connected, on_detecting}
-use Rattle.link_account.proofs.Names.{on_disc, on_establishing, on_frame, on_negotiating, on_nothing, on_pattern, on_releasing, on_sabme}
-use Rattle.link_account.proofs.Names.{on_seen, on_xid_command, on_xid_response, other, owing, peer_reset, trying, window_for, without_adp}
-use Rattle.link_account.proofs.Names.{written}
-use Rattle.lapm_frames.specs.declared.frame.Frame.TheVariants.{Frmr, Test}
+use Rattle.link_account.proofs.Names.{◌≡◌, ℕ, ◌≤◌, ◌||◌, Bool, true, false, cond, List, ◌∷◌, arith, refl, sym, ◌∙◌, ap, subst, Option, Some}
+use Rattle.link_account.proofs.Names.{None, Result, Ok, Err, Frame, Disc, Dm, I, Rej, Rnr, Rr, Sabme, Srej, Ua, Xid, Frmr, Test, Sent}
+use Rattle.link_account.proofs.Names.{Account, window_for, connected, hear, on_closed, on_connected, on_detecting, on_disc, on_establishing}
+use Rattle.link_account.proofs.Names.{on_frame, on_negotiating, on_nothing, on_pattern, on_releasing, on_sabme, on_seen, on_xid_command}
+use Rattle.link_account.proofs.Names.{on_xid_response, owing, peer_reset, trying, without_adp, Slot, arrives, Answer, Phase, Closed}
+use Rattle.link_account.proofs.Names.{Connected, Detecting, Establishing, Negotiating, Releasing, Setup, is_originator, other, LinkFault}
+use Rattle.link_account.proofs.Names.{Role, Answerer, Originator, offer_in, written, agree}
 use Rattle.link_account.proofs.Ends.{Goes}
 use Rattle.link_account.proofs.Linked.{IsNumbered, IsLinked, HearsWell, hears-linked, counts_as_numbered}
 use Rattle.link_account.proofs.Good.{rank, DueA, IsFresh, PlaceO, PlaceA, NoSabme, terms_of, Good, linked-o, linked-a, lost-o, lost-a}

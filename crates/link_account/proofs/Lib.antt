@@ -2,13 +2,13 @@ pub mod Names
 pub mod Events
 pub mod SpeakWays
 pub mod HearWays
-mod Flow
+pub mod Flow
 mod Ends
 mod Linked
 mod Good
 mod Hearing
 mod Speaking
-mod Playing
+pub mod Playing
 mod Breaking
 mod BreakPlaying
 mod SaidNumbers

@@ -37,7 +37,7 @@ pub use Rattle.link_account.specs.Account.{fresh, is_connected, piece_size, want
 pub use Rattle.link_account.specs.Hear.{connected, ends_wait, hear, hurrying, on_closed, on_connected, on_detecting, on_disc}
 pub use Rattle.link_account.specs.Hear.{on_establishing, on_frame, on_i, on_negotiating, on_nothing, on_number, on_pattern, on_ready}
 pub use Rattle.link_account.specs.Hear.{on_rej, on_releasing, on_rnr, on_sabme, on_seen, on_srej, on_word, on_xid_command, on_xid_response}
-pub use Rattle.link_account.specs.Hear.{owing, pausing, replying, taking, then_in, timer_after, trying, without_adp}
+pub use Rattle.link_account.specs.Hear.{owing, pausing, peer_reset, replying, taking, then_in, timer_after, trying, without_adp}
 pub use Rattle.link_account.specs.Laws.{AcknowledgesTaken, AgreesOnSrej, AnswersGiven, BreaksForWantAlone, GivesBreaksInOrder, IsBreakOf}
 pub use Rattle.link_account.specs.Laws.{IsInRange, IsTakenBy, KnownByNumber, MayPlay, ReceivesAsAgreed, SaysNumbers, SendsBreaksTaken}
 pub use Rattle.link_account.specs.Laws.{SendsInRange, SendsWhatWasOffered, TakesByNumber, TakesInOrder, WantsAnswers, has_begun, played}
@@ -65,4 +65,3 @@ pub use Rattle.xid_params.specs.Terms.{agree}
 pub use Rattle.xid_params.specs.declared.offer.Offer.{Offer}
 pub use Rattle.xid_params.specs.declared.terms.Terms.{Terms}
 pub use borrow.Author.Tests.{eqb-true, ltb-true}
-pub use Rattle.link_account.specs.Hear.{peer_reset}

@@ -1,10 +1,11 @@
 -- Speaking keeps a play good.
-use Rattle.std.proofs.Common.{◌≡◌, ℕ, ◌≤◌, ◌&&◌, Bool, true, false, List, [], ◌∷◌, ◌++◌, length, arith, refl, sym, ◌∙◌, ap, subst, Option}
-use Rattle.std.proofs.Common.{Some, None, Result, Ok, Err, ◌⊎◌, inl, inr}
-use Rattle.link_account.proofs.Names.{Account, Answer, Answerer, BadAck, Closed, Connected, Detecting, Disc, Dm, Establishing, Frame}
-use Rattle.link_account.proofs.Names.{Incoming, LinkFault, Negotiating, NotDetected, Originator, Outgoing, OwnBreaks, PeerRefused}
-use Rattle.link_account.proofs.Names.{PeerReset, Phase, Releasing, Role, Sabme, Said, Sent, Setup, Slot, Spent, Ua, Wait, Xid, false≢true}
-use Rattle.link_account.proofs.Names.{frame_for, is_originator, next_expected, says, speak, trying, written}
+use Rattle.link_account.proofs.Names.{◌≡◌, ℕ, ◌≤◌, ◌&&◌, Bool, true, false, List, [], ◌∷◌, ◌++◌, length, arith, refl, sym, ◌∙◌, ap, subst}
+use Rattle.link_account.proofs.Names.{Option, Some, None, Result, Ok, Err, ◌⊎◌, inr, false≢true, OwnBreaks, Frame, Disc, Dm, Sabme, Ua, Xid}
+use Rattle.link_account.proofs.Names.{Sent, Incoming, next_expected, Outgoing, Account, Wait, trying, Slot, Said, frame_for, says, speak}
+use Rattle.link_account.proofs.Names.{Answer, Phase, Closed, Connected, Detecting, Establishing, Negotiating, Releasing, Setup}
+use Rattle.link_account.proofs.Names.{is_originator, LinkFault, BadAck, NotDetected, PeerRefused, PeerReset, Spent, Role, Answerer}
+use Rattle.link_account.proofs.Names.{Originator, written}
+use Rattle.std.proofs.Common.{inl}
 use Rattle.link_account.proofs.Flow.{IsAskable, all_snoc}
 use Rattle.link_account.proofs.Ends.{segment_of, asked_of, Goes, line-quiet, back-told}
 use Rattle.link_account.proofs.Linked.{Linked, Same, IsNumbered, IsLinked, SaysWell, steps-well}

@@ -2,7 +2,7 @@
 
 /// An answer that is due: to a pattern, to an XID command, to a SABME or DISC, and to a DISC that finds no link. Each that becomes
 /// due takes the place of the one before. `pf` is that of the command that it answers.
-#[derive(Clone, Copy, PartialEq, Eq)]
+#[derive(Clone, Copy)]
 pub enum Answer {
     /// The answerer's pattern.
     Adp,

@@ -3,7 +3,7 @@
 use crate::Answer;
 
 /// What an end owes at once. What its receiver owes is of that part.
-#[derive(Clone, Copy, PartialEq, Eq)]
+#[derive(Clone, Copy)]
 pub struct Owes {
     /// The answer to a pattern, an offer or a U command; the latest takes the place of others.
     pub answer: Option<Answer>,

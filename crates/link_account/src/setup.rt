@@ -4,7 +4,7 @@ use shared_terms::Role;
 use xid_params::Offer;
 
 /// How an end is set up: what it is and offers, how often it tries, and its timer's length in turns.
-#[derive(Clone, Copy, PartialEq, Eq)]
+#[derive(Clone, Copy)]
 pub struct Setup {
     /// Which end it is.
     pub role: Role,

@@ -1,11 +1,6 @@
 -- What a turn of one link leaves of the other's names.
-use Rattle.link_pair.proofs.Names.{arith, ◌≡◌, ◌≢◌, ℕ, List, IsTrue, sym, Written, outputs_of, RunFault, FaultCountsOver, KnowsFiles}
-use Rattle.link_pair.proofs.Names.{HoldLeft, all_inputs, all_outputs, Progress, FolderState, KeepsName, GoesOn, AreApartFrom, IsNoneOf}
-use Rattle.link_pair.proofs.Names.{OnlyPuts, Both}
-use Rattle.outside_calls.proofs.OnlyOutputs.{told_earlier}
-use Rattle.outside_calls.proofs.Steps.{octets-kept}
-use Rattle.turn_bound.specs.Limits.{file_limit}
-use Rattle.stations.specs.Station.{file_at}
+use Rattle.link_pair.proofs.Names.{arith, ◌≢◌, ℕ, List, sym, Written, outputs_of, RunFault, FaultCountsOver, KnowsFiles, HoldLeft}
+use Rattle.link_pair.proofs.Names.{all_inputs, all_outputs, Progress, FolderState, AreApartFrom, IsNoneOf, OnlyPuts, Both}
 use Rattle.line_run.specs.Names.{inputs_of}
 
 -- no output is another one, nor an input
@@ -35,11 +30,6 @@ second-beside n m given = grind (arith)
 
 pub first-beside : (n m : Written) → AllApart n m → IsBeside n m
 first-beside n m given = grind (arith)
-
--- what is known and held of it stays so
-one-known : (a b : FolderState) (name file : List ℕ) → GoesOn a b → KeepsName a b name
-    → (IsTrue (a.tells name) → file ≡ file_at a name file_limit) → IsTrue (b.tells name) → file ≡ file_at b name file_limit
-one-known a b name file on kept known told = grind (arith, told_earlier, octets-kept)
 
 pub known-beside : (a b : FolderState) (m n : Written) (files : Both (List ℕ)) → IsBeside m n → OnlyPuts a b (outputs_of n)
     → KnowsFiles a m files → KnowsFiles b m files

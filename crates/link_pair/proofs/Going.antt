@@ -1,13 +1,13 @@
 -- A link of a pair that goes on, or ends in its turn.
 use Rattle.link_pair.proofs.Names.{◌≡◌, inl, inr, ℕ, suc, ◌-◌, List, [], ◌∷◌, ◌++◌, length, refl, sym, ap, subst, arith, Option, Some, None}
-use Rattle.link_pair.proofs.Names.{Result, Ok, Err, append-nil, concat, Signal, hearing-in, left_of, leaves-so, Left, RunsTo, EndsInTurn}
-use Rattle.link_pair.proofs.Names.{Written, outputs_of, Wire, LineRun, wire_at, link_of, Carried, and_sent, RunFault, chance_line, IsApart}
-use Rattle.link_pair.proofs.Names.{knows-later, none_got, LinesWait, HaveArrived, AreDue, AreWithin, CountsOver, AddsTurn, held_of}
-use Rattle.link_pair.proofs.Names.{KnowsFiles, Lines, Modems, check_of, run_end, StandsFor, left_by, HoldLeft, HalfAt, HalfIsReady, HasCome}
-use Rattle.link_pair.proofs.Names.{IsEndedByLine, LinkStops, LinkStopsReading, IsStopped, HalfEnds, idle_turn, lasting, Progress, Goes}
-use Rattle.link_pair.proofs.Names.{Ended, turns_on_line, last_ends, IsByLink, IdlesFor, Lasts, Half, LinkEnd, deliveries, Outcome, Done}
-use Rattle.link_pair.proofs.Names.{Broken, Accounts, Turn, trace_text, ScriptValue, Holds-kept, Holds-more, HoldsPart-more, HoldEach-kept}
-use Rattle.link_pair.proofs.Names.{FolderState, GoesOn, KeepsName, OnlyPuts, Holds, HoldEach, Both, of, Role, Originator, Answerer}
+use Rattle.link_pair.proofs.Names.{Result, Ok, Err, append-nil, concat, Signal, left_of, leaves-so, Left, RunsTo, EndsInTurn, Written}
+use Rattle.link_pair.proofs.Names.{outputs_of, Wire, LineRun, wire_at, link_of, Carried, and_sent, RunFault, chance_line, IsApart}
+use Rattle.link_pair.proofs.Names.{knows-later, none_got, kept-none, LinesWait, HaveArrived, AreDue, AreWithin, CountsOver, AddsTurn}
+use Rattle.link_pair.proofs.Names.{held_of, KnowsFiles, Lines, Modems, check_of, run_end, StandsFor, left_by, HoldLeft, HalfAt, HalfIsReady}
+use Rattle.link_pair.proofs.Names.{HasCome, IsEndedByLine, LinkStops, LinkStopsReading, IsStopped, HalfEnds, idle_turn, lasting, Progress}
+use Rattle.link_pair.proofs.Names.{Goes, Ended, turns_on_line, last_ends, IsByLink, IdlesFor, Lasts, Half, LinkEnd, hearing-of, deliveries}
+use Rattle.link_pair.proofs.Names.{Outcome, Done, Broken, Accounts, Turn, trace_text, ScriptValue, Holds-kept, Holds-more, HoldsPart-more}
+use Rattle.link_pair.proofs.Names.{HoldEach-kept, FolderState, OnlyPuts, Holds, HoldEach, Both, of, Role, Originator, Answerer}
 use Rattle.outside_calls.proofs.Putting.{HoldEach-add, HoldPart-add}
 use Rattle.shared_terms.specs.declared.fault.LinkFault.TheVariants as causes
 use Rattle.link_run.specs.Laws.{HearingsDeliver, SpeakingTakesNothing}
@@ -112,10 +112,6 @@ pub record Around (old new : FolderState) (n : Written) (files : Both (List ℕ)
   pub knows : KnowsFiles old n files
   pub holds : HoldLeft old n (Goes ts ends)
 
-pub kept-none : (now next : FolderState) (name octets : List ℕ) → GoesOn now next → Holds now name octets → KeepsName now next name
-    → Holds next name (octets ++ [])
-kept-none now next name octets on holds kept = grind (arith, append-nil)
-
 abbrev more_of : Accounts → List ℕ → Left
 more_of mid text = record { got = record { orig = concat (deliveries mid.orig); answ = concat (deliveries mid.answ) }; trace = text }
 
@@ -156,7 +152,7 @@ module _ (delivers : HearingsDeliver) (speaks : SpeakingTakesNothing) (m : Modem
       → HoldEach new (outputs_of n) (held_of (left_of e.mid (trace_text (e.turn ∷ ts))))
   last-held outcome number e =
       held-turn delivers (link_of c.script files) ts ends e.turn e.mid old new n run.run
-      (hearing-in (link_of c.script e.others) ts ends e.turn e.mid outcome e.makes.is) a.only.goes_on a.holds e.writes
+      (hearing-of (link_of c.script e.others) ts ends e.turn e.mid outcome e.makes.is) a.only.goes_on a.holds e.writes
 
   ended : (outcome : Outcome) (found : LinkEnd) (turn : ℕ) (e : turns.EndsInTurn m l c links streams old new n files ts ends outcome turn)
       → (by : EndsBy c (link_of c.script e.others) ts ends (run_end found) (left_of e.mid (trace_text (e.turn ∷ ts))))

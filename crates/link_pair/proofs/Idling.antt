@@ -2,8 +2,8 @@
 use Rattle.link_pair.proofs.Names.{◌≡◌, inl, inr, ℕ, suc, ◌-◌, ◌<◌, List, [], ◌++◌, length, refl, sym, ◌∙◌, ap, subst, arith, Option, Some}
 use Rattle.link_pair.proofs.Names.{None, append-nil, false≢true, is_some, Signal, Check, Heard, Chance, RunEnd, Left, Written, outputs_of}
 use Rattle.link_pair.proofs.Names.{Wire, IsHeardOf, LineEnd, EndsLine, EndsLineBy, wire_at, link_of, Carried, and_sent, RunFault}
-use Rattle.link_pair.proofs.Names.{chance_line, IsApart, knows-later, none_got, LinesWait, HaveArrived, held_of, KnowsFiles, Lines}
-use Rattle.link_pair.proofs.Names.{check_of, StandsFor, HoldLeft, HasCome, IsEndedByLine, LinkStops, IsStopped, HalfEnds, idle_turn}
+use Rattle.link_pair.proofs.Names.{chance_line, IsApart, knows-later, none_got, kept-none, LinesWait, HaveArrived, held_of, KnowsFiles}
+use Rattle.link_pair.proofs.Names.{Lines, check_of, StandsFor, HoldLeft, HasCome, IsEndedByLine, LinkStops, IsStopped, HalfEnds, idle_turn}
 use Rattle.link_pair.proofs.Names.{lasting, Progress, Goes, Ended, turns_on_line, HearsIdly, IdlesFor, HasEnded, Lasts, Half, LinkEnd}
 use Rattle.link_pair.proofs.Names.{Accounts, Turn, ScriptValue, Holds-kept, Holds-more, HoldsPart-more, FolderState, Holds, HoldEach}
 use Rattle.link_pair.proofs.Names.{KeepsEach, Both, of, other, Role, Originator, Answerer}
@@ -19,7 +19,6 @@ use Rattle.line_world.proofs.Folders.{receives-none, lines-only}
 use Rattle.link_pair.proofs.Pairs.Agreeing.{length-lasting}
 use Rattle.line_world.specs.Turn.{IsWriting}
 use Rattle.link_pair.specs.Half.{HasStopped}
-use Rattle.link_pair.proofs.Going.{kept-none}
 
 -- ---- flags of both ends
 

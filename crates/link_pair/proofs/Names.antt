@@ -24,7 +24,6 @@ pub use Rattle.line_ends.proofs.Hearing.{agree-on}
 pub use Rattle.line_ends.proofs.RunLaws.{RunLaws, may-run, runs-over}
 pub use Rattle.line_ends.specs.Causes.{LostLinksWereStarved}
 pub use Rattle.line_ends.specs.Completes.{AreOfOctets, DisplacesNoneIsFaint, IsFaint}
-pub use Rattle.line_run.proofs.Leaving.{hearing-in}
 pub use Rattle.line_run.proofs.Resulting.{compare}
 pub use Rattle.line_run.proofs.Slots.{SentAgo, sent-ago}
 pub use Rattle.line_run.proofs.WhatIsLeft.{leaves-so, left-is, left_of}
@@ -40,7 +39,7 @@ pub use Rattle.line_run.specs.Unhindered.{ChecksAgree}
 pub use Rattle.line_run.specs.declared.fault.RunFault.{RunFault}
 pub use Rattle.line_texts.specs.LineText.{chance_line}
 pub use Rattle.line_world.proofs.Folders.{IsApart}
-pub use Rattle.line_world.proofs.Reached.{knows-later, none_got}
+pub use Rattle.line_world.proofs.Reached.{kept-none, knows-later, none_got}
 pub use Rattle.line_world.specs.Lines.{AreDue, HaveArrived, LinesWait}
 pub use Rattle.line_world.specs.Link.{AreWithin}
 pub use Rattle.line_world.specs.Turn.{CountsOver, FaultCountsOver}
@@ -49,7 +48,7 @@ pub use Rattle.line_world.specs.World.{KnowsFiles}
 pub use Rattle.line_world.specs.declared.lines.Lines.{Lines}
 pub use Rattle.line_world.specs.declared.modems.Modems.{Modems}
 pub use Rattle.link_account.specs.Account.{check_of}
-pub use Rattle.link_pair.specs.Answers.{answer_of, result_of}
+pub use Rattle.link_pair.specs.Answers.{answer_of, last_turn_of, result_of}
 pub use Rattle.link_pair.specs.Ends.{AreFiles, Ends, EndsBy, IsBegun, RanTo, StopsInRound, pair_job}
 pub use Rattle.link_pair.specs.Half.{Follows, HalfAt, HalfEnds, HalfIsReady, HasCome, HoldLeft, IsEndedByLine, IsStopped, LinkStops}
 pub use Rattle.link_pair.specs.Half.{LinkStopsReading, StandsFor, left_by, run_end}
@@ -71,6 +70,7 @@ pub use Rattle.link_pair.specs.declared.half.Half.{Half}
 pub use Rattle.link_pair.specs.declared.half.LinkEnd.{LinkEnd}
 pub use Rattle.link_pair.specs.declared.two_links.Endings.{Endings}
 pub use Rattle.link_pair.specs.declared.two_links.Pair.{Pair}
+pub use Rattle.link_run.proofs.Only.{hearing-of}
 pub use Rattle.link_run.specs.Carried.{sent_ago}
 pub use Rattle.link_run.specs.End.{deliveries}
 pub use Rattle.link_run.specs.Outcomes.{Broken, Done, Going, Outcome, TurnIs}
@@ -83,7 +83,7 @@ pub use Rattle.outside_calls.proofs.Holding.{Holds-kept, Holds-more, HoldsPart-m
 pub use Rattle.outside_calls.proofs.OnlyOutputs.{OnlyOutputs-trans}
 pub use Rattle.outside_calls.proofs.Putting.{HoldEach-kept, OnlyPuts-refl, OnlyPuts-trans, SomeRose-earlier}
 pub use Rattle.outside_calls.proofs.Steps.{CountsStand-refl, CountsStand-trans}
-pub use Rattle.outside_calls.specs.Folder.{CountsStand, FolderState, GoesOn, KeepsName, octets_at}
+pub use Rattle.outside_calls.specs.Folder.{CountsStand, FolderState, GoesOn, octets_at}
 pub use Rattle.outside_calls.specs.Outputs.{AreApartFrom, CreatesPart, HoldEach, Holds, IsNoneOf, KeepsAll, KeepsEach, OnlyOutputs}
 pub use Rattle.outside_calls.specs.Outputs.{OnlyPuts}
 pub use Rattle.run_inputs.specs.Inputs.{RefusesOwn}

@@ -1,12 +1,12 @@
 -- However a pair ends, each received file is as it was, or holds the beginning of the file of the other end of its link.
 use Rattle.link_pair.proofs.Names.{◌≡◌, inl, inr, ℕ, suc, List, [], ◌++◌, Some, Result, Ok, Err, refl, sym, ◌∙◌, ap, subst, arith}
-use Rattle.link_pair.proofs.Names.{append-nil, concat, Stop, RunLaws, may-run, runs-over, hearing-in, Left, Written, Wire, LineRun, link_of}
-use Rattle.link_pair.proofs.Names.{AddsTurn, held_of, result_of, AreFiles, StopsInRound, EndsBy, left_by, LinkStops, LinkStopsReading}
-use Rattle.link_pair.proofs.Names.{first_wire, second_wire, Which, First, Second, BothDone, firsts_at, ArePrefixes, PairsLeavePrefixes}
+use Rattle.link_pair.proofs.Names.{append-nil, concat, Stop, RunLaws, may-run, runs-over, Left, Written, Wire, LineRun, link_of, AddsTurn}
+use Rattle.link_pair.proofs.Names.{held_of, result_of, AreFiles, StopsInRound, EndsBy, left_by, LinkStops, LinkStopsReading, first_wire}
+use Rattle.link_pair.proofs.Names.{second_wire, Which, First, Second, BothDone, firsts_at, ArePrefixes, PairsLeavePrefixes}
 use Rattle.link_pair.proofs.Names.{DonePairsAreWhole, FaintPairsAreIsolated, Progress, Goes, Ended, turns_in, Lasts, PairAt, Names}
-use Rattle.link_pair.proofs.Names.{LastTurns, deliveries, Link, Accounts, Turn, BreaksAreOctets, ScriptValue, IsInLimits, delay_of}
-use Rattle.link_pair.proofs.Names.{FolderState, GoesOn, Holds, HoldEach, KeepsAll, CreatesPart, LIMITS, Both, of, IsPrefixOf, other, Role}
-use Rattle.link_pair.proofs.Names.{Originator, Answerer}
+use Rattle.link_pair.proofs.Names.{LastTurns, hearing-of, deliveries, Link, Accounts, Turn, BreaksAreOctets, ScriptValue, IsInLimits}
+use Rattle.link_pair.proofs.Names.{delay_of, FolderState, GoesOn, Holds, HoldEach, KeepsAll, CreatesPart, LIMITS, Both, of, IsPrefixOf}
+use Rattle.link_pair.proofs.Names.{other, Role, Originator, Answerer}
 use Rattle.std.proofs.lemmas.List.Folds.{concat-append}
 use Rattle.outside_calls.specs.Outputs.{HoldsPart, HoldPart}
 use Rattle.link_run.specs.Laws.{HoldPrefixes, TakesWhatPassed}
@@ -55,7 +55,7 @@ turn-prefix : HeadLaws → (c : Wire) (files : Both (List ℕ)) (ts : List Turn)
     → IsPrefixOf (of role (left_by (Goes ts ends)).got ++ of role more.got) (of (other role) files)
 turn-prefix laws c files ts ends more h run a role =
     let link : Link = link_of c.script files in
-    let hears = hearing-in link ts ends a.turn a.mid a.outcome a.is in
+    let hears = hearing-of link ts ends a.turn a.mid a.outcome a.is in
     let whole : HoldPrefixes link a.mid =
     laws.runs.hears link (delay_of c.script) ts ends a.turn a.mid (runs-over laws.runs c files ts ends h run)
     (laws.runs.one c ts a.turn a.heard) hears

@@ -26,7 +26,7 @@ use shared_terms::{Both, NoMemory, Role};
 use std::alloc::Global;
 
 /// How a link of a pair ended, and in which turn.
-#[derive(Clone, Copy, PartialEq, Eq)]
+#[derive(Clone, Copy)]
 pub enum LinkEnd {
     /// Both files have crossed.
     Done { turn: u64 },

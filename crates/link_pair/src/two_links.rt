@@ -34,7 +34,7 @@ enum WhichLink {
 }
 
 /// How both links of a pair ended.
-#[derive(Clone, Copy, PartialEq, Eq)]
+#[derive(Clone, Copy)]
 pub struct Endings {
     /// The first one.
     pub first: LinkEnd,

@@ -9,11 +9,7 @@ use Rattle.link_account.proofs.Names.{AllByRecursion}
 use Rattle.link_account.proofs.Names.{next_expected, Repeat}
 use borrow.Author.Tests.{eqb-true}
 use Rattle.link_run.specs.Taken.{is_among, beyond, missing_from, missing, info_of, infos_from}
-
--- what is held rises from a number on
-abbrev pub Rises : ℕ → List Held → Type 0
-Rises low [] = Unit {0}
-Rises low (h ∷ hs) = (low ≤ h.number) × Rises (h.number + 1) hs
+use Rattle.link_account.proofs.Flow.{IsRising}
 
 same-not : (m n : ℕ) → m ≢ n → nat_eq m n ≡ false
 same-not m n h = grind (arith)
@@ -21,11 +17,11 @@ same-not m n h = grind (arith)
 same-is : (m n : ℕ) → m ≡ n → nat_eq m n ≡ true
 same-is m n e = grind (arith, nat_tests)
 
-rises-low : (low m : ℕ) (hs : List Held) → m ≤ low → Rises low hs → Rises m hs
+rises-low : (low m : ℕ) (hs : List Held) → m ≤ low → IsRising low hs → IsRising m hs
 rises-low low m [] h r = tt
 rises-low low m (x ∷ hs) h r = (omega (arith, h, r.0), r.1)
 
-below-not : (low k : ℕ) (hs : List Held) → Rises low hs → k < low → is_held k hs ≡ false
+below-not : (low k : ℕ) (hs : List Held) → IsRising low hs → k < low → is_held k hs ≡ false
 below-not low k [] r h = refl
 below-not low k (x ∷ hs) r h =
     let here : nat_eq x.number k ≡ false = same-not x.number k (λ e. omega (arith, e, h, r.0)) in
@@ -40,11 +36,11 @@ run-held r k (x ∷ hs) low high = go (nat_eq x.number r) refl (run-held (r + 1)
         → k < r + length (cond b (x.info ∷ run_from (r + 1) hs) []) → (nat_eq x.number k || is_held k hs) ≡ true
     go x e ih h = grind (arith)
 
-run-stops : (r : ℕ) (hs : List Held) → Rises r hs → is_held (r + length (run_from r hs)) hs ≡ false
+run-stops : (r : ℕ) (hs : List Held) → IsRising r hs → is_held (r + length (run_from r hs)) hs ≡ false
 run-stops r [] h = refl
 run-stops r (x ∷ hs) h = go (nat_eq x.number r) refl (run-stops (r + 1) hs)
   where
-    go : (b : Bool) → nat_eq x.number r ≡ b → (Rises (r + 1) hs → is_held (r + 1 + length (run_from (r + 1) hs)) hs ≡ false)
+    go : (b : Bool) → nat_eq x.number r ≡ b → (IsRising (r + 1) hs → is_held (r + 1 + length (run_from (r + 1) hs)) hs ≡ false)
         → (nat_eq x.number (r + length (cond b (x.info ∷ run_from (r + 1) hs) [])) || is_held
         (r + length (cond b (x.info ∷ run_from (r + 1) hs) [])) hs) ≡ false
     go b e ih = grind (arith, eqb-true, rises-low, same-not, same-is, below-not)
@@ -58,12 +54,12 @@ rest-held r k (x ∷ hs) h = go (nat_eq x.number r) refl (rest-held (r + 1) k hs
         → is_held k (cond b (rest_from (r + 1) hs) (x ∷ hs)) ≡ (nat_eq x.number k || is_held k hs)
     go b e ih l = grind (arith, eqb-true, same-not)
 
-rest-rises : (r : ℕ) (hs : List Held) → Rises r hs → Rises (r + length (run_from r hs) + 1) (rest_from r hs)
+rest-rises : (r : ℕ) (hs : List Held) → IsRising r hs → IsRising (r + length (run_from r hs) + 1) (rest_from r hs)
 rest-rises r [] h = tt
 rest-rises r (x ∷ hs) h = go (nat_eq x.number r) refl (rest-rises (r + 1) hs)
   where
-    go : (b : Bool) → nat_eq x.number r ≡ b → (Rises (r + 1) hs → Rises (r + 1 + length (run_from (r + 1) hs) + 1) (rest_from (r + 1) hs))
-        → Rises (r + length (cond b (x.info ∷ run_from (r + 1) hs) []) + 1) (cond b (rest_from (r + 1) hs) (x ∷ hs))
+    go : (b : Bool) → nat_eq x.number r ≡ b → (IsRising (r + 1) hs → IsRising (r + 1 + length (run_from (r + 1) hs) + 1) (rest_from (r + 1) hs))
+        → IsRising (r + length (cond b (x.info ∷ run_from (r + 1) hs) []) + 1) (cond b (rest_from (r + 1) hs) (x ∷ hs))
     go b e ih = grind (arith, eqb-true, rises-low, same-is)
 
 -- one more is held
@@ -75,14 +71,14 @@ with-held s k (x ∷ hs) = go (nat_lt s.number x.number) (with-held s k hs)
         → is_held k (cond b (s ∷ x ∷ hs) (x ∷ with_held s hs)) ≡ (nat_eq s.number k || (nat_eq x.number k || is_held k hs))
     go x ih = grind (arith)
 
-with-rises : (low : ℕ) (s : Held) (hs : List Held) → Rises low hs → low ≤ s.number → is_held s.number hs ≡ false
-    → Rises low (with_held s hs)
+with-rises : (low : ℕ) (s : Held) (hs : List Held) → IsRising low hs → low ≤ s.number → is_held s.number hs ≡ false
+    → IsRising low (with_held s hs)
 with-rises low s [] r l n = (l, tt)
 with-rises low s (x ∷ hs) r l n = go (nat_lt s.number x.number) refl (with-rises (x.number + 1) s hs r.1)
   where
     go : (b : Bool) → nat_lt s.number x.number ≡ b
-        → (x.number + 1 ≤ s.number → is_held s.number hs ≡ false → Rises (x.number + 1) (with_held s hs))
-        → Rises low (cond b (s ∷ x ∷ hs) (x ∷ with_held s hs))
+        → (x.number + 1 ≤ s.number → is_held s.number hs ≡ false → IsRising (x.number + 1) (with_held s hs))
+        → IsRising low (cond b (s ∷ x ∷ hs) (x ∷ with_held s hs))
     go b e ih = grind (arith, same-is)
 
 -- one more is kept
@@ -119,7 +115,7 @@ pub record TracksIn (ss : List Segment) (r : ℕ) (held : List Held) (srej : Boo
   pub below : (n : ℕ) → n < r → is_among n ss ≡ true
   pub next : is_among r ss ≡ false
   pub above : (n : ℕ) → r < n → is_among n ss ≡ is_held n held
-  pub rising : Rises (r + 1) held
+  pub rising : IsRising (r + 1) held
   pub plain : srej ≡ false → held ≡ []
 
 abbrev pub Tracks : List Segment → Incoming → Type 0

@@ -208,7 +208,7 @@ segment keeps ns info a new timer reply urgent e k =
       terms = λ o t. t;
     })
 
-answer-lengths : (turn number : ℕ) (b : OwnBreaks) → (after_answer turn number b).lengths ≡ b.lengths
+pub answer-lengths : (turn number : ℕ) (b : OwnBreaks) → (after_answer turn number b).lengths ≡ b.lengths
 answer-lengths turn number b = grind (arith)
 
 given-more : (o : Option ℕ) (lengths : List ℕ) → (more : List ℕ) × (with_given o lengths ≡ lengths ++ more) × (length more ≤ 1)

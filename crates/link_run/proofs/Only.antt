@@ -21,7 +21,7 @@ pub same-both : {A : Type 0} (x y : Both A) → ((r : Role) → of r x ≡ of r 
 same-both {A} x y h =
     ap (λ z. record { orig = z; answ = x.answ }) (h Originator) ∙ ap (λ z. record { orig = y.orig; answ = z }) (h Answerer)
 
-same-side : (s u : Side) → s.heard ≡ u.heard → s.check ≡ u.check → s.sent ≡ u.sent → s.given ≡ u.given → s ≡ u
+pub same-side : (s u : Side) → s.heard ≡ u.heard → s.check ≡ u.check → s.sent ≡ u.sent → s.given ≡ u.given → s ≡ u
 same-side s u h c p g = grind (arith)
 
 -- the same is heard by each end
@@ -75,7 +75,7 @@ one_run link (t ∷ ts) (u ∷ us) ends others h k e =
     (ap (λ z. z ∷ ts) s.turns ∙ ap (λ l. u ∷ l) ih.0, s.ends)
 
 -- what becomes of a turn
-hearing-of : (link : Link) (ts : List Turn) (before : Accounts) (t : Turn) (mid : Accounts) (a : Outcome) → TurnIs link ts before t mid a
+pub hearing-of : (link : Link) (ts : List Turn) (before : Accounts) (t : Turn) (mid : Accounts) (a : Outcome) → TurnIs link ts before t mid a
     → Hears (length ts) before t mid
 hearing-of link ts before t mid a h = grind (arith)
 

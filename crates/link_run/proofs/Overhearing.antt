@@ -125,11 +125,11 @@ hears_agreed_check laws link delay ts ends t mid v c h role frame = at-role role
         (h Answerer).check_is ∙ answ-agreed link ts ts ends k (numbered-o link.orig.setup (rank ends.orig.phase) frame n s)
 
 -- all slots with numbers that a role sent in these turns have that check
-abbrev HasCheck : Check → Option Spoken → Type 0
+abbrev pub HasCheck : Check → Option Spoken → Type 0
 HasCheck check o = (slot : Spoken) (frame : Frame) → o ≡ Some slot → slot.sent ≡ slots.Frame frame → has_number frame ≡ true
     → slot.check ≡ check
 
-abbrev AllChecked : Check → Role → List Turn → Type 0
+abbrev pub AllChecked : Check → Role → List Turn → Type 0
 AllChecked check role [] = Unit {0}
 AllChecked check role (t ∷ ts) = HasCheck check (of role t).sent × AllChecked check role ts
 
@@ -351,7 +351,7 @@ ignores : (p : Phase) (command pf : Bool) (info : List ℕ) (turn : ℕ) (a : Ac
     → on_frame p (Ui command pf info) turn a ≡ Ok a
 ignores p command pf info turn a e = grind (arith)
 
-same-ok : (r : Result Account LinkFault) (x y : Account) → r ≡ Ok x → r ≡ Ok y → x ≡ y
+pub same-ok : (r : Result Account LinkFault) (x y : Account) → r ≡ Ok x → r ≡ Ok y → x ≡ y
 same-ok r x y e k = grind (arith)
 
 pub early_breaks_are_ignored : KnowingLaws → EarlyBreaksAreIgnored

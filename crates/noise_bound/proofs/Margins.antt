@@ -46,7 +46,7 @@ measures-more mode old modulator octets octet samples first second low high pric
     }
 
 -- distances from points are what labels cost
-distances-cost : (labels : List ℕ) (samples : List Sample) → distances (map point_of labels) samples ≡ cost far_from labels samples
+pub distances-cost : (labels : List ℕ) (samples : List Sample) → distances (map point_of labels) samples ≡ cost far_from labels samples
 distances-cost [] samples = refl
 distances-cost (label ∷ labels) [] = refl
 distances-cost (label ∷ labels) (sample ∷ samples) = ap (λ n. distance_of (point_of label) sample + n) (distances-cost labels samples)

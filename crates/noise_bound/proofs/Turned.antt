@@ -1,12 +1,13 @@
 -- A near recording after a quarter turn, and what both release.
-use Rattle.noise_bound.proofs.Names.{ℕ, ◌+◌, ◌<◌, List, ◌++◌, map, take, drop, arith, append_assoc, Option, Some, None, sym, ◌∙◌, ap, subst}
-use Rattle.noise_bound.proofs.Names.{eqb-true, take-append-drop, heard, IsReleased, at_any, v32_code, all_states_turn, only, sure}
-use Rattle.noise_bound.proofs.Names.{sure_of_any, IsNear, IsPrefixOf, quarter_turned, turned_label, Sample}
+use Rattle.noise_bound.proofs.Names.{ℕ, zero, suc, ◌+◌, ◌<◌, List, ◌++◌, map, take, drop, arith, append_assoc, Option, Some, None, sym, ◌∙◌}
+use Rattle.noise_bound.proofs.Names.{ap, subst, eqb-true, take-append-drop, heard, IsReleased, at_any, v32_code, all_states_turn, only}
+use Rattle.noise_bound.proofs.Names.{sure, sure_of_any, IsNear, IsPrefixOf, quarter_turned, turned_label, Sample}
 use Rattle.trellis_tables.specs.Rotation.{rotated}
 use Rattle.trellis_tables.proofs.Rotations.{rotated-lt, one_start_turns, turn_keeps_cost}
-use Rattle.line_coding.specs.QuarterTurns.{StartsTurn}
+use Rattle.line_coding.specs.QuarterTurns.{StartsTurn, turned_by}
 use Rattle.line_coding.proofs.TurnedLabels.{labels-small, leads-within}
 use Rattle.line_coding.proofs.TurnedSequences.{sequences_turn}
+use Rattle.line_coding.proofs.TurnedLines.{labels_turned}
 use Rattle.noise_bound.proofs.Near.{near-front, releases-near, releases-near_of_any}
 use Rattle.noise_bound.specs.Turned.{BothRelease}
 use Rattle.noise_bound.specs.Laws.{NearTurns}
@@ -21,6 +22,14 @@ near-turns bound starts turned_starts labels samples turn h =
       sequence = (sequences_turn starts turned_starts samples labels h.end turn in_end small).0 h.sequence;
       near = omega (arith, turn_keeps_cost labels samples small, h.near);
     }
+
+-- and after several
+pub turned-near : (bound turns : ℕ) (labels : List ℕ) (samples : List Sample) → IsNear bound at_any labels samples
+    → IsNear bound at_any (labels_turned turns labels) (turned_by turns samples)
+turned-near bound zero labels samples h = h
+turned-near bound (suc turns) labels samples h =
+    near-turns bound at_any at_any (labels_turned turns labels) (turned_by turns samples) all_states_turn
+    (turned-near bound turns labels samples h)
 
 one-turns : (start : ℕ) → start < 8 → StartsTurn (only start) (only (rotated start))
 one-turns start low = record {

@@ -4,7 +4,7 @@ use crate::forms::Form;
 use shared_terms::Role;
 
 /// The slots that a role sends in `count` turns from `from` on.
-#[derive(Clone, Copy, PartialEq, Eq)]
+#[derive(Clone, Copy)]
 pub struct Loss {
     /// The end that sends.
     pub role: Role,
@@ -15,7 +15,7 @@ pub struct Loss {
 }
 
 /// One offset for `count` symbols of a role from `from` on.
-#[derive(Clone, Copy, PartialEq, Eq)]
+#[derive(Clone, Copy)]
 pub struct Hit {
     /// The end that sends.
     pub role: Role,
@@ -30,7 +30,7 @@ pub struct Hit {
 }
 
 /// Offsets drawn from a seed for `count` symbols of a role from `from` on, each part at most `amplitude` from zero.
-#[derive(Clone, Copy, PartialEq, Eq)]
+#[derive(Clone, Copy)]
 pub struct Noise {
     /// The end that sends.
     pub role: Role,
@@ -45,7 +45,7 @@ pub struct Noise {
 }
 
 /// A break that a role's user asks for from a turn on. Its length is in units of 10 ms.
-#[derive(Clone, Copy, PartialEq, Eq)]
+#[derive(Clone, Copy)]
 pub struct Break {
     /// The end whose user asks.
     pub role: Role,
@@ -56,7 +56,7 @@ pub struct Break {
 }
 
 /// The `count` turns from `from` on in which a role's user asks for a pause.
-#[derive(Clone, Copy, PartialEq, Eq)]
+#[derive(Clone, Copy)]
 pub struct Pause {
     /// The end whose user asks.
     pub role: Role,

@@ -1,7 +1,8 @@
 -- What an output holds after one step more.
-use Rattle.std.proofs.Common.{◌∙◌, inl, inr, ℕ, List, [], ◌++◌, Some, refl, sym, ap, subst, append-nil, append_assoc}
+use Rattle.outside_calls.proofs.Names.{◌∙◌, inl, inr, ℕ, List, [], ◌++◌, Some, refl, sym, ap, subst, FolderState, GoesOn, KeepsName, Adds}
+use Rattle.outside_calls.proofs.Names.{Appended, PartlyAppended}
+use Rattle.std.proofs.Common.{append-nil, append_assoc}
 use Rattle.shared_terms.specs.Prefix.{IsPrefixOf}
-use Rattle.outside_calls.specs.Folder.{FolderState, GoesOn, KeepsName, Adds, Appended, PartlyAppended}
 use Rattle.outside_calls.proofs.Steps.{octets-held}
 use Rattle.outside_calls.specs.Outputs.{Holds, HoldsFront, HoldsPart}
 use Rattle.outside_calls.proofs.OnlyOutputs.{told_earlier}
@@ -45,8 +46,3 @@ pub HoldsFront-longer : (f : FolderState) (name octets longer : List ℕ) → Ho
     → HoldsFront f name longer
 HoldsFront-longer f name octets longer holds p told =
     let h = holds told in (h.0, (h.1.0 ++ p.0, sym (append_assoc h.0 h.1.0 p.0) ∙ ap (λ xs. xs ++ p.0) h.1.1 ∙ p.1), h.2)
-
-pub HoldsFront-kept : (a b : FolderState) (name octets : List ℕ) → GoesOn a b → HoldsFront a name octets → KeepsName a b name
-    → HoldsFront b name octets
-HoldsFront-kept a b name octets g holds kept told =
-    let was = told_earlier g name told in let h = holds was in (h.0, h.1, kept was ∙ h.2)

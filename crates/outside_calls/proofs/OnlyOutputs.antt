@@ -1,8 +1,9 @@
 -- What follows from several steps over one output, and over several.
-use Rattle.std.proofs.Common.{◌∙◌, ℕ, List, [], ◌∷◌, IsTrue, refl, subst}
-use Rattle.outside_calls.specs.Folder.{FolderState, GoesOn, OnlyReads, OnlyWrites, OnlySays}
+use Rattle.outside_calls.proofs.Names.{◌∙◌, ℕ, List, [], ◌∷◌, refl, subst, FolderState, GoesOn, OnlyReads, OnlyWrites, OnlyOutputs}
+use Rattle.std.proofs.Common.{IsTrue}
+use Rattle.outside_calls.specs.Folder.{OnlySays}
 use Rattle.outside_calls.proofs.Steps.{GoesOn-refl, GoesOn-trans, KeepsName-trans}
-use Rattle.outside_calls.specs.Outputs.{OnlyOutput, OnlyOutputs}
+use Rattle.outside_calls.specs.Outputs.{OnlyOutput}
 
 -- a name that is told was told before
 pub told_earlier : {a b : FolderState} → GoesOn a b → (n : List ℕ) → IsTrue (b.tells n) → IsTrue (a.tells n)

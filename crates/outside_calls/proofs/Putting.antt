@@ -1,9 +1,10 @@
 -- What several steps in a row leave of several outputs.
-use Rattle.std.proofs.Common.{◌≡◌, ◌≤◌, inl, inr, ◌∙◌, ℕ, List, [], ◌∷◌, ◌++◌, Some, refl, sym, ap, subst, arith}
-use Rattle.outside_calls.specs.Folder.{FolderState, GoesOn, KeepsName, OnlyReads, OnlyWrites, Adds, PartlyAppended, Rose}
+use Rattle.outside_calls.proofs.Names.{inl, inr, ◌∙◌, ℕ, List, [], ◌∷◌, ◌++◌, Some, refl, sym, ap, subst, arith, FolderState, GoesOn}
+use Rattle.outside_calls.proofs.Names.{KeepsName, OnlyReads, OnlyWrites, Adds, PartlyAppended, Rose, OnlyOutputs}
+use Rattle.std.proofs.Common.{◌≡◌, ◌≤◌}
 use Rattle.outside_calls.proofs.Steps.{GoesOn-refl, GoesOn-trans, told_later, KeepsName-trans, octets-kept, Adds-kept, kept-PartlyAppended}
 use Rattle.outside_calls.proofs.Steps.{PartlyAppended-none, Rose-later}
-use Rattle.outside_calls.specs.Outputs.{IsNoneOf, AreNoneOf, AreApart, OnlyPuts, OnlyOutputs, SomeRose, KeepsEach, AddEach, AddPart}
+use Rattle.outside_calls.specs.Outputs.{IsNoneOf, AreNoneOf, AreApart, OnlyPuts, SomeRose, KeepsEach, AddEach, AddPart}
 use Rattle.outside_calls.specs.Outputs.{HoldEach, HoldPart, joined}
 use Rattle.outside_calls.proofs.Holding.{Holds-kept, Holds-add, HoldsPart-more}
 
@@ -49,7 +50,7 @@ OnlyPuts-one a b front name behind w = record {
 -- ---- inputs are kept
 
 -- a name that is none of some is none of the first of them
-none-front : (name : List ℕ) (front behind : List (List ℕ)) → IsNoneOf name (front ++ behind) → IsNoneOf name front
+pub none-front : (name : List ℕ) (front behind : List (List ℕ)) → IsNoneOf name (front ++ behind) → IsNoneOf name front
 none-front name [] behind apart = tt
 none-front name (first ∷ front) behind apart = (apart.0, none-front name front behind apart.1)
 

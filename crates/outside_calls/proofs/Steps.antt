@@ -1,8 +1,9 @@
 -- What follows from several calls of a folder in a row.
 use Rattle.std.specs.Prelude.{◌≡◌, ℕ, ◌≤◌, IsTrue, List, [], ◌++◌, Some, unwrap_or, refl}
-use Rattle.std.proofs.Common.{sym, ◌∙◌, ap, subst, arith, inl, inr}
-use Rattle.outside_calls.specs.Folder.{FolderState, held_at, octets_at, GoesOn, KeepsName, OnlyReads, Adds, Appended, PartlyAppended}
-use Rattle.outside_calls.specs.Folder.{FaultsStand, CountsStand, Rose}
+use Rattle.outside_calls.proofs.Names.{sym, ◌∙◌, ap, subst, arith, inl, inr, FolderState, GoesOn, KeepsName, OnlyReads, Adds, Appended}
+use Rattle.outside_calls.proofs.Names.{PartlyAppended, Rose}
+use Rattle.outside_calls.specs.Folder.{held_at, octets_at}
+use Rattle.outside_calls.specs.Folder.{FaultsStand, CountsStand}
 
 -- nothing happened
 pub GoesOn-refl : (a : FolderState) → GoesOn a a

@@ -2,41 +2,17 @@
 use Rattle.std.proofs.Common.{◌≡◌, ◌≢◌, ℕ, ◌-◌, ◌≤◌, min, Bool, true, false, cond, List, [], ◌++◌, length, take, drop, Some}
 use Rattle.std.proofs.Common.{refl, sym, ap, subst, ◌∙◌, arith, inl, inr, ◌⊎◌, unwrap_or, Result, Ok, Err, length-drop}
 use Rattle.std.specs.Prelude.{IsTrue, IfOk, OnOk}
-use Rattle.std.specs.FinMap.{get, insert, get-insert, slice_cmp-IsAntisymmetric, nat_cmp-IsAntisymmetric}
+use Rattle.std.specs.FinMap.{get, insert}
 use Rattle.std.specs.Str.{bytes_eq}
-use Rattle.std.specs.Ordering.{nat_cmp, is_eq, eq_by_cmp}
-use Rattle.std.specs.Cmp.{eq_by_cmp_equiv}
-use Rattle.std.specs.Cmp.Lexicographic.{slice_cmp, nat_list_cmp_total}
-use Rattle.std.specs.declared.cmp.Ordering.{Ordering}
-use Rattle.std.specs.declared.cmp.Ordering.TheVariants.{Less, Equal, Greater}
 use Rattle.std.proofs.lemmas.Slice.Eq.{bytes_eq-Decides}
-use Rattle.outside_calls.specs.Folder.{Files, FolderState, held_at, octets_at, KeepsName, OnlyReads, OnlyWrites}
+use Rattle.outside_calls.specs.Folder.{FolderState, held_at, octets_at, KeepsName, OnlyReads, OnlyWrites}
 use Rattle.frame_check.specs.Octets.{AreOctets}
 use Rattle.outside_calls.specs.Folder.{ReadsFront, TellsOctets, Appended, Created}
 use Rattle.outside_calls.specs.declared.folder.FolderFault.{FolderFault}
 use Rattle.program_folders.specs.Audited.{Swallowed, audit_tells, sum_of, audit_state}
+use Rattle.program_folders.proofs.Stored.{get-insert_same, get-insert_other}
 
 -- ---- finite maps
-
-is_Equal : (r : Ordering) → is_eq r ≡ true → r ≡ Equal
-is_Equal Less e = cc
-is_Equal Equal e = refl
-is_Equal Greater e = cc
-
-tied : (q bs : List ℕ) → eq_by_cmp (slice_cmp nat_cmp) q bs ≡ true → q ≡ bs
-tied q bs same = slice_cmp-IsAntisymmetric nat_cmp-IsAntisymmetric q bs (is_Equal (slice_cmp nat_cmp q bs) same)
-
-untied : (q bs : List ℕ) (b : Bool) → eq_by_cmp (slice_cmp nat_cmp) q bs ≡ b → q ≢ bs → b ≡ false
-untied q bs true e apart = absurd (apart (tied q bs e))
-untied q bs false e apart = refl
-
-pub at-name : (m : Files) (name xs : List ℕ) → get (insert m name xs) name ≡ Some xs
-at-name m name xs =
-    get-insert nat_list_cmp_total m name xs name ∙ ap (λ b. cond b (Some xs) (get m name)) ((eq_by_cmp_equiv nat_list_cmp_total).refl name)
-
-pub at-other : (m : Files) (name xs q : List ℕ) → q ≢ name → get (insert m name xs) q ≡ get m q
-at-other m name xs q apart =
-    get-insert nat_list_cmp_total m name xs q ∙ ap (λ b. cond b (Some xs) (get m q)) (untied q name _ refl apart)
 
 -- ---- names
 
@@ -79,7 +55,7 @@ module _ (n : Swallowed) where
   reads-trace i text r name at before after count e c f told =
       let o : octets_at (audit_state i n text r) name ≡ text =
       ap (λ (q : List ℕ). octets_at (audit_state i n text r) q) (same-name name n.trace e)
-      ∙ ap (λ o. unwrap_or o []) (at-name i.held n.trace text) in
+      ∙ ap (λ o. unwrap_or o []) (get-insert_same i.held n.trace text) in
       subst (λ (t : List ℕ). (count ≡ min (length before) (length (drop at t))) × (after ≡ take count (drop at t) ++ drop count before))
       (sym o)
       (c ∙ ap (λ k. min (length before) k) (sym (length-drop at text)), f)
@@ -89,7 +65,7 @@ module _ (n : Swallowed) where
       → ReadsFront (audit_state i n text r) name at before after count
   reads-on i text r name at before after count e f t =
       let o : octets_at (audit_state i n text r) name ≡ octets_at i name =
-      ap (λ o. unwrap_or o []) (at-other i.held n.trace text name (other-name name n.trace e)) in
+      ap (λ o. unwrap_or o []) (get-insert_other i.held n.trace text name (other-name name n.trace e)) in
       subst (λ (t : List ℕ). (count ≡ min (length before) (length (drop at t))) × (after ≡ take count (drop at t) ++ drop count before))
       (sym o)
       (f (told i name e t))
@@ -101,11 +77,11 @@ module _ (n : Swallowed) where
     where
       go : (b : Bool) → bytes_eq name n.trace ≡ b → get (insert j.held n.trace text) name ≡ get (insert i.held n.trace text) name
       go true e =
-          ap (get (insert j.held n.trace text)) (same-name name n.trace e) ∙ at-name j.held n.trace text ∙ sym (at-name i.held n.trace text)
+          ap (get (insert j.held n.trace text)) (same-name name n.trace e) ∙ get-insert_same j.held n.trace text ∙ sym (get-insert_same i.held n.trace text)
           ∙ ap (get (insert i.held n.trace text)) (sym (same-name name n.trace e))
       go false e =
-          at-other j.held n.trace text name (other-name name n.trace e) ∙ k (told i name e t)
-          ∙ sym (at-other i.held n.trace text name (other-name name n.trace e))
+          get-insert_other j.held n.trace text name (other-name name n.trace e) ∙ k (told i name e t)
+          ∙ sym (get-insert_other i.held n.trace text name (other-name name n.trace e))
 
   tells-on : (i j : FolderState) (name : List ℕ) → j.tells name ≡ i.tells name → audit_tells j n name ≡ audit_tells i n name
   tells-on i j name e =
@@ -147,14 +123,14 @@ module _ (n : Swallowed) where
     };
     names = λ q apart t.
         let other : q ≢ n.trace = λ s. apart (s ∙ sym (same-name name n.trace e)) in
-        at-other i.held n.trace text' q other ∙ sym (at-other i.held n.trace text q other);
+        get-insert_other i.held n.trace text' q other ∙ sym (get-insert_other i.held n.trace text q other);
     said = refl;
     read_faults = λ q. refl;
   }
 
   pub trace-is : (i : FolderState) (text : List ℕ) (r : ℕ) (name : List ℕ) → bytes_eq name n.trace ≡ true
       → held_at (audit_state i n text r) name ≡ Some text
-  trace-is i text r name e = ap (get (insert i.held n.trace text)) (same-name name n.trace e) ∙ at-name i.held n.trace text
+  trace-is i text r name e = ap (get (insert i.held n.trace text)) (same-name name n.trace e) ∙ get-insert_same i.held n.trace text
 
   pub creates : (i : FolderState) (text : List ℕ) (r : ℕ) (name : List ℕ) → bytes_eq name n.trace ≡ true
       → Created (audit_state i n text r) (audit_state i n [] r) name
@@ -200,6 +176,6 @@ module _ (n : Swallowed) where
       → bytes_eq name n.trace ≡ false → OnOk result (TellsOctets i name) → OnOk result (TellsOctets (audit_state i n text r) name)
   tells-inner i text r name (Ok value) e h = λ t.
       let o : octets_at (audit_state i n text r) name ≡ octets_at i name =
-      ap (λ o. unwrap_or o []) (at-other i.held n.trace text name (other-name name n.trace e)) in
+      ap (λ o. unwrap_or o []) (get-insert_other i.held n.trace text name (other-name name n.trace e)) in
       subst AreOctets (sym o) (h (told i name e t))
   tells-inner i text r name (Err fault) e h = tt

@@ -5,7 +5,8 @@ use Rattle.std.specs.Str.{bytes_eq}
 use Rattle.std.proofs.lemmas.Slice.Eq.{bytes_eq-Decides}
 use Rattle.outside_calls.specs.Folder.{FolderState, held_at, octets_at}
 use Rattle.program_folders.specs.Audited.{Swallowed, audit_tells, audit_state}
-use Rattle.program_folders.proofs.Auditing.{at-name, at-other, told}
+use Rattle.program_folders.proofs.Auditing.{told}
+use Rattle.program_folders.proofs.Stored.{get-insert_same, get-insert_other}
 
 -- ---- what it holds
 
@@ -26,11 +27,11 @@ told-outside f n name o a t told = rw (other-is name n.trace t, other-is name n.
 
 pub octets-inside : (f : FolderState) (n : Swallowed) (text : List ℕ) (r : ℕ) (name : List ℕ) → name ≢ n.trace
     → octets_at (audit_state f n text r) name ≡ octets_at f name
-octets-inside f n text r name apart = ap (λ o. unwrap_or o []) (at-other f.held n.trace text name apart)
+octets-inside f n text r name apart = ap (λ o. unwrap_or o []) (get-insert_other f.held n.trace text name apart)
 
 -- and the trace's is told, and holds the text
 pub trace-told : (f : FolderState) (n : Swallowed) → IsTrue (audit_tells f n n.trace)
 trace-told f n = let e : bytes_eq n.trace n.trace ≡ true = (bytes_eq-Decides n.trace n.trace).1 refl in rw e refl
 
 pub trace-held : (f : FolderState) (n : Swallowed) (text : List ℕ) (r : ℕ) → held_at (audit_state f n text r) n.trace ≡ Some text
-trace-held f n text r = at-name f.held n.trace text
+trace-held f n text r = get-insert_same f.held n.trace text

@@ -60,7 +60,7 @@ cond-same : {X : Type 0} (b : Bool) (x y : X) → (b ≡ true → x ≡ y) → c
 cond-same true x y h = h refl
 cond-same false x y h = refl
 
-is_Equal : (r : Ordering) → is_eq r ≡ true → r ≡ Equal
+pub is_Equal : (r : Ordering) → is_eq r ≡ true → r ≡ Equal
 is_Equal Less e = cc
 is_Equal Equal e = refl
 is_Equal Greater e = cc
@@ -94,7 +94,7 @@ grown_err m n bs piece old w (Err e) u held grew =
     files_of-updates m n bs w u ∙ ap (insert (files_of m.entries) bs) grew
     ∙ insert-same (files_of m.entries) bs old.items (get-files_of m bs ∙ ap (option_map (λ v. v.items)) held)
 
-untied : (q bs : List ℕ) (b : Bool) → eq_by_cmp (slice_cmp nat_cmp) q bs ≡ b → q ≢ bs → b ≡ false
+pub untied : (q bs : List ℕ) (b : Bool) → eq_by_cmp (slice_cmp nat_cmp) q bs ≡ b → q ≢ bs → b ≡ false
 untied q bs true e apart = absurd (apart (tied q bs e))
 untied q bs false e apart = refl
 
@@ -104,7 +104,7 @@ get-insert_same m name xs =
     get-insert nat_list_cmp_total m name xs name ∙ ap (λ b. cond b (Some xs) (get m name)) ((eq_by_cmp_equiv nat_list_cmp_total).refl name)
 
 -- and each other name stays
-get-insert_other : (m : Files) (name xs q : List ℕ) → q ≢ name → get (insert m name xs) q ≡ get m q
+pub get-insert_other : (m : Files) (name xs q : List ℕ) → q ≢ name → get (insert m name xs) q ≡ get m q
 get-insert_other m name xs q apart =
     get-insert nat_list_cmp_total m name xs q ∙ ap (λ b. cond b (Some xs) (get m q)) (untied q name _ refl apart)
 

@@ -3,7 +3,7 @@ ghost use Rattle.std.specs.Prelude.{◌≡◌, ◌≤◌, ◌*◌};
 ghost use Rattle.recordings.specs.Recording.{samples_each};
 
 /// How fast a recorded modem sends, and by which code.
-#[derive(Clone, Copy, PartialEq, Eq)]
+#[derive(Clone, Copy)]
 pub enum Rate {
     /// 9600 bit/s with the trellis code of ITU-T V.32: four bits a sample.
     Trellis,

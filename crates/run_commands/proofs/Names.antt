@@ -34,14 +34,9 @@ pub use Rattle.line_run.specs.Recorded.{Tapes, tapes_of}
 pub use Rattle.line_run.specs.Sampled.{Wire}
 pub use Rattle.line_run.specs.Scripted.{link_of, wire_of}
 pub use Rattle.line_run.specs.declared.fault.RunFault.{RunFault}
-pub use Rattle.stations.specs.OneEnd.Heard.{slot_octets}
-pub use Rattle.stations.specs.OneEnd.Peer.{Broken, Closed, Going, Outcome, Past, PeerRun, PeerTurn, after, over, party_of}
-pub use Rattle.stations.specs.OneEnd.Single.{SingleAfter, file_limit, turn_of}
-pub use Rattle.stations.specs.OneEnd.Turn.{Makes}
 pub use Rattle.line_world.specs.Turn.{FaultCounts, FaultCountsOver}
 pub use Rattle.line_world.specs.Turns.{FaultEnds, RunEnds, held_of}
 pub use Rattle.line_world.specs.World.{KnowsFiles, WorldAfter, script_of}
-pub use Rattle.stations.specs.declared.one_end.single.Single.{Single}
 pub use Rattle.link_run.specs.Alone.{LoneHearingsDeliver, LoneSpeakingTakesNothing, LoneTurn}
 pub use Rattle.link_run.specs.End.{deliveries}
 pub use Rattle.link_run.specs.Run.{start}
@@ -82,3 +77,8 @@ pub use Rattle.shared_terms.specs.declared.fault.LinkFault.{LinkFault}
 pub use Rattle.shared_terms.specs.declared.limits.TheConstants.{FILE_LIMIT}
 pub use Rattle.shared_terms.specs.declared.role.Role.{Role}
 pub use Rattle.shared_terms.specs.declared.role.Role.TheVariants.{Answerer, Originator}
+pub use Rattle.stations.specs.OneEnd.Heard.{slot_octets}
+pub use Rattle.stations.specs.OneEnd.Peer.{Broken, Closed, Going, Outcome, Past, PeerRun, PeerTurn, after, over, party_of}
+pub use Rattle.stations.specs.OneEnd.Single.{SingleAfter, file_limit, turn_of}
+pub use Rattle.stations.specs.OneEnd.Turn.{Makes}
+pub use Rattle.stations.specs.declared.one_end.single.Single.{Single}

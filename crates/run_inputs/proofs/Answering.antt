@@ -1,16 +1,14 @@
 -- How a run ended that an answer is of, and that a job which has the answer stopped for it.
-use Rattle.std.proofs.Common.{◌≡◌, ◌∙◌, List, ℕ, Bool, true, false, is_some, Result, Ok, Err, refl, sym, ap}
+use Rattle.run_inputs.proofs.Names.{◌≡◌, ◌∙◌, List, ℕ, Result, Ok, Err, refl, sym, ap, Stop, FolderState, FolderFault}
+use Rattle.std.proofs.Common.{Bool, true, false, is_some}
 use Rattle.std.specs.Option.{MatchOption}
 use Rattle.std.proofs.lemmas.Bool.{false≢true}
-use Rattle.outside_calls.specs.Folder.{FolderState}
-use Rattle.outside_calls.specs.declared.folder.FolderFault.{FolderFault}
 use Rattle.outside_calls.specs.declared.folder.FolderFault.TheVariants as folder
 use Rattle.line_run.specs.Ends.{RunEnd, GivesUp, LineEnds}
 use Rattle.line_run.specs.Ends as runs
 use Rattle.command_base.specs.declared.status.Status.{Status}
 use Rattle.command_base.specs.declared.status.Status.TheVariants.{Done, ReadFault, WriteFault, NoMemory}
 use Rattle.command_base.specs.declared.status.Status.TheVariants.{LinkLost, NotDetected, LineLost, ChanceMatch}
-use Rattle.command_base.specs.declared.stop.Stop.{Stop}
 use Rattle.command_base.specs.declared.stop.Stop.TheVariants as stops
 use Rattle.command_base.specs.Job.{SaysLast}
 use Rattle.command_base.specs.Stops.{fault_status, end_status}

@@ -1,13 +1,14 @@
 -- The files of a run: those that are sent, as they were before it, and those that are received, however it ends.
-use Rattle.std.proofs.Common.{◌≡◌, inl, inr, ℕ, ◌≤◌, List, [], ◌++◌, IsTrue, refl, sym, ◌∙◌, ap, take, arith}
+use Rattle.run_inputs.proofs.Names.{◌≡◌, inl, inr, ℕ, ◌≤◌, List, [], ◌++◌, refl, sym, ◌∙◌, ap, arith, IsWithin, octets-kept, told_later}
+use Rattle.run_inputs.proofs.Names.{FolderState, octets_at}
+use Rattle.std.proofs.Common.{IsTrue, take}
 use Rattle.std.proofs.Common.{append_assoc}
 use Rattle.std.proofs.lemmas.List.{take_all}
 use Rattle.shared_terms.specs.Prefix.{IsPrefixOf}
-use Rattle.outside_calls.specs.Folder.{FolderState, octets_at, GoesOn, KeepsName}
+use Rattle.outside_calls.specs.Folder.{GoesOn, KeepsName}
 use Rattle.outside_calls.specs.Outputs.{Holds, HoldsPart, KeptOrEmpty}
-use Rattle.outside_calls.proofs.Steps.{KeepsName-trans, octets-kept, told_later}
+use Rattle.outside_calls.proofs.Steps.{KeepsName-trans}
 use Rattle.turn_bound.specs.Limits.{file_limit}
-use Rattle.command_base.specs.Inputs.{IsWithin}
 use Rattle.run_inputs.specs.Files.{KeptOrPrefix}
 
 -- a file as it was before all of them

@@ -1,4 +1,5 @@
+mod Names
 pub mod Answering
 pub mod Files
-mod Looking
+pub mod Looking
 mod Places

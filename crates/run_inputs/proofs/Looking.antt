@@ -1,20 +1,17 @@
 -- Lengths that are looked at one after the other.
-use Rattle.std.proofs.Common.{inl, inr, ℕ, ◌+◌, List, [], ◌∷◌, ◌++◌, Result, Ok, Err, OnOk, refl, sym, subst}
-use Rattle.outside_calls.specs.Folder.{FolderState, TellsOctets, OnlyReads, CountsStand}
-use Rattle.outside_calls.proofs.Steps.{CountsStand-trans}
-use Rattle.outside_calls.specs.declared.folder.FolderFault.{FolderFault}
+use Rattle.run_inputs.proofs.Names.{inl, inr, ℕ, ◌+◌, List, [], ◌∷◌, ◌++◌, Result, Ok, Err, OnOk, refl, sym, subst, stop-earlier, IsWithin}
+use Rattle.run_inputs.proofs.Names.{EndCounts, Stop, CountsStand-trans, FolderState, FolderFault, AreWithin, TellOctets, RefusesLengths}
+use Rattle.outside_calls.specs.Folder.{TellsOctets, OnlyReads, CountsStand}
 use Rattle.outside_calls.specs.declared.folder.FolderFault.TheVariants as folder
 use Rattle.outside_calls.specs.Outputs.{SomeRose}
 use Rattle.command_base.specs.declared.status.Status.TheVariants.{BadScript, TooLong}
-use Rattle.command_base.specs.declared.stop.Stop.{Stop}
 use Rattle.command_base.specs.declared.stop.Stop.TheVariants.{Own, Read, Write, Say, NoMemory}
-use Rattle.command_base.specs.Inputs.{IsWithin, IsNotWithin, FailsToHold}
-use Rattle.command_base.specs.Stops.{IsOwn, StopCounts, EndCounts}
-use Rattle.command_base.proofs.Jobs.{stop-earlier}
+use Rattle.command_base.specs.Inputs.{IsNotWithin, FailsToHold}
+use Rattle.command_base.specs.Stops.{IsOwn, StopCounts}
 use Rattle.command_base.proofs.Reading.{within-earlier, longer-earlier, octets-earlier}
 use Rattle.noise_script.specs.Script.{ScriptValue}
 use Rattle.run_inputs.specs.declared.limits.Limits.{Limits}
-use Rattle.run_inputs.specs.Lengths.{AreWithin, TellOctets, IsFirstLong, FailsInOrder, RefusesLengths}
+use Rattle.run_inputs.specs.Lengths.{IsFirstLong, FailsInOrder}
 use Rattle.run_inputs.specs.Scripts.{ReadsScript, RefusesScript, RefusesScriptOwn}
 use Rattle.run_inputs.specs.Inputs.{Opens, RefusesOwn, Refuses}
 
@@ -61,7 +58,7 @@ refused-later old mid new name names limit place (Say fault) r stand w why = why
 refused-later old mid new name names limit place NoMemory r stand w why = why
 
 -- what was counted of some inputs was counted of all that have them among them
-of-more : (old new : FolderState) (names more outputs : List (List ℕ)) (stop : Stop)
+pub of-more : (old new : FolderState) (names more outputs : List (List ℕ)) (stop : Stop)
     → (SomeRose old.read_faults new.read_faults names → SomeRose old.read_faults new.read_faults more)
     → StopCounts old new names outputs stop → StopCounts old new more outputs stop
 of-more old new names more outputs (Own answer) among counts = counts

@@ -1,5 +1,6 @@
 -- Eight words, each by its place.
-use Rattle.std.proofs.Common.{◌≡◌, ◌≤◌, ◌<◌, List, [], ◌∷◌, length, slice_index_or, sym, arith}
+use Rattle.run_inputs.proofs.Names.{◌≡◌, ◌≤◌, List, [], ◌∷◌, length, sym, arith}
+use Rattle.std.proofs.Common.{◌<◌, slice_index_or}
 
 pub eight : {A : Type 0} (words : List A) (a b c d e f g h : A) → 8 ≤ length words → length words < 9
     → a ≡ slice_index_or words 0 a → b ≡ slice_index_or words 1 b → c ≡ slice_index_or words 2 c → d ≡ slice_index_or words 3 d

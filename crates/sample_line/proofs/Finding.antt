@@ -1,21 +1,15 @@
 -- What is found once one more bit was read.
-use Rattle.sample_line.proofs.Names.{◌≡◌, inl, inr, ◌∙◌, ◌+◌, ℕ, zero, suc, ◌≤◌, Bool, List, take, [], ◌∷◌, ◌++◌, length, Option, Some}
-use Rattle.sample_line.proofs.Names.{None, refl, sym, ap, subst, arith, map, append-nil, length-append, append_assoc, map-append, take_all}
-use Rattle.sample_line.proofs.Names.{option_to_list, Found, listed, pieces_of, wholes, Whole, seen_at, Sight, sights_at, Check, Seen, Sent}
+use Rattle.sample_line.proofs.Names.{◌≡◌, inl, inr, ◌∙◌, ◌+◌, ℕ, Bool, List, [], ◌∷◌, ◌++◌, Option, Some}
+use Rattle.sample_line.proofs.Names.{None, refl, sym, ap, subst, map, append-nil, append_assoc, map-append}
+use Rattle.sample_line.proofs.Names.{option_to_list, Found, listed, pieces_of, wholes, Whole, Sight, sights_at, Check, Seen, Sent}
 use Rattle.sample_line.proofs.Names.{PassTheCheck, FoundBetween, Tallies, PatternsAreTallied, PiecesAreTallied, Tally, Role}
-use Rattle.std.proofs.lemmas.List.{take-append-le}
-use Rattle.detection.specs.Sights.{sights_before, sights_of}
+use Rattle.detection.specs.Sights.{sights_of}
 use Rattle.std.specs.Option.{option_map, option_map_or}
 use Rattle.bit_stuffing.specs.declared.piece.Piece.{Piece}
 use Rattle.bit_stuffing.specs.declared.piece.Piece.TheVariants.{Ragged, Aborted, TooLong, TooShort}
 use Rattle.bit_stuffing.specs.Sent.{octets_if_whole}
 use Rattle.sample_line.specs.Tallies.{TalliesBetween}
-
-pub wholes-append : (a b : List Found) → wholes (a ++ b) ≡ wholes a ++ wholes b
-wholes-append [] b = refl
-wholes-append (found ∷ a) b =
-    ap (λ xs. octets_if_whole found.piece found.octets ++ xs) (wholes-append a b)
-    ∙ sym (append_assoc (octets_if_whole found.piece found.octets) (wholes a) (wholes b))
+use Rattle.bit_stuffing.proofs.Sent.{wholes-append}
 
 passing-append : (check : Check) (a b octets others : List (List ℕ)) → PassTheCheck check a octets → PassTheCheck check b others
     → PassTheCheck check (a ++ b) (octets ++ others)
@@ -23,26 +17,6 @@ passing-append check [] b octets others h k = subst (λ (xs : List (List ℕ)). 
 passing-append check (whole ∷ a) b octets others (inl h) k = inl (h.0, passing-append check a b octets others h.1 k)
 passing-append check (whole ∷ a) b octets others (inr h) k =
     inr (h.0, h.1 ++ others, h.2, ap (λ (xs : List (List ℕ)). xs ++ others) h.3, passing-append check a b h.1 others h.4 k)
-
--- one bit more adds what is seen at it
-before-front : (bits more : List Bool) (n : ℕ) → n ≤ length bits → sights_before (bits ++ more) n ≡ sights_before bits n
-before-front bits more zero h = refl
-before-front bits more (suc n) h =
-    let e : take (suc n) (bits ++ more) ≡ take (suc n) bits = take-append-le (suc n) bits more h in
-    rw (before-front bits more n (omega arith)) (ap (λ t. sights_before bits n ++ sights_at (suc n) (seen_at t)) e)
-
-pub sights-more : (bits : List Bool) (bit : Bool)
-    → sights_of (bits ++ bit ∷ []) ≡ sights_of bits ++ sights_at (length bits + 1) (seen_at (bits ++ bit ∷ []))
-unfolding sights_of
-sights-more bits bit =
-    let n : length (bits ++ bit ∷ []) ≡ suc (length bits) = omega (arith, length-append bits (bit ∷ [])) in
-    let m : suc (length bits) ≡ length bits + 1 = omega arith in
-    let all : take (suc (length bits)) (bits ++ bit ∷ []) ≡ bits ++ bit ∷ [] =
-    take_all (suc (length bits)) (bits ++ bit ∷ []) (omega (arith, n)) in
-    ap (sights_before (bits ++ bit ∷ [])) n
-    ∙ ap (λ t. sights_before (bits ++ bit ∷ []) (length bits) ++ sights_at (suc (length bits)) (seen_at t)) all
-    ∙ ap (λ t. t ++ sights_at (suc (length bits)) (seen_at (bits ++ bit ∷ []))) (before-front bits (bit ∷ []) (length bits) (omega arith))
-    ∙ ap (λ k. sights_before bits (length bits) ++ sights_at k (seen_at (bits ++ bit ∷ []))) m
 
 -- what passes of the whole piece that ends there
 pub whole-passes : (check : Check) (found : Option Found) (whole : List ℕ) (octets : List (List ℕ))

@@ -7,7 +7,6 @@ use Rattle.sample_line.proofs.Names.{IsWhatWasSent, IsOutcome, PassTheCheck, Fou
 use Rattle.sample_line.proofs.Names.{tap_of, Role, point_of, Sample}
 use Rattle.std.proofs.Common.{All}
 use Rattle.std.specs.List.{flat_map}
-use Rattle.std.proofs.Math.Seq.{take-nil}
 use Rattle.std.proofs.lemmas.List.{take-map}
 use Rattle.std.proofs.lemmas.List.Elements.{All-nil, All-take}
 use Rattle.frame_check.proofs.Checks.{fronts-one}
@@ -16,7 +15,7 @@ use Rattle.trellis_tables.specs.Encoder.{Encodes}
 use Rattle.trellis_tables.proofs.Codings.{Encodes_once, Encodes-take}
 use Rattle.exact_decoder.proofs.Surviving.Fronts.{released-once, stays-prefix}
 use Rattle.line_coding.specs.Demodulates.{line_of, Demodulates}
-use Rattle.line_coding.proofs.Readings.{comes-back, first-stay, four-each}
+use Rattle.line_coding.proofs.Readings.{comes-back, first-stay, four-each, take-fours}
 use Rattle.detection.specs.Sights.{sights_of}
 use Rattle.shared_terms.specs.declared.role.Role.TheVariants.{Originator, Answerer}
 use Rattle.lapm_frames.specs.declared.sent.Sent.TheVariants as sent
@@ -81,15 +80,6 @@ pub recorded-once : (script : ScriptValue) (sender : Role) (bits : List Bool) (s
 recorded-once script sender bits samples other h k =
     h.samples_are ∙ ap (displaced_from script sender 0)
     (modulates-once (tap_of (mode_of sender)) bits h.points k.points (tap-some sender) h.modulated k.modulated) ∙ sym k.samples_are
-
-take-fours : (n : ℕ) (quads : List ℕ) → take (4 * n) (flat_map (low_bits 4) quads) ≡ flat_map (low_bits 4) (take n quads)
-take-fours zero quads = refl
-take-fours (suc n) [] = take-nil (4 * suc n)
-take-fours (suc n) (quad ∷ quads) =
-    let four : 4 * suc n ≡ suc (suc (suc (suc (4 * n)))) = omega arith in
-    let first : take (4 * suc n) (flat_map (low_bits 4) (quad ∷ quads)) ≡ low_bits 4 quad ++ take (4 * n) (flat_map (low_bits 4) quads) =
-    ap (λ m. take m (flat_map (low_bits 4) (quad ∷ quads))) four in
-    first ∙ ap (λ xs. low_bits 4 quad ++ xs) (take-fours n quads)
 
 pub modulates-take : (tap n : ℕ) (bits : List Bool) (samples : List Sample) → 1 ≤ tap → Modulates tap bits samples
     → Modulates tap (take (4 * n) bits) (take n samples)
@@ -191,7 +181,7 @@ passing-once check (whole ∷ wholes) octets others (inr h) (inr k) =
     let rest : h.1 ≡ k.1 = passing-once check wholes h.1 k.1 h.4 k.4 in
     h.3 ∙ ap (λ (front : List ℕ). front ∷ h.1) same ∙ ap (λ (xs : List (List ℕ)). k.0 ∷ xs) rest ∙ sym k.3
 
-same-behind : {X : Type 0} (front a b : List X) → front ++ a ≡ front ++ b → a ≡ b
+pub same-behind : {X : Type 0} (front a b : List X) → front ++ a ≡ front ++ b → a ≡ b
 same-behind [] a b e = e
 same-behind (x ∷ front) a b e = same-behind front a b (head-tail _ _ _ _ e).1
 

@@ -10,7 +10,8 @@ use Rattle.std.proofs.lemmas.List.{get_or-take, get_or-drop, get_or_default, sam
 use Rattle.symbol_map.specs.Finite.{each_below, at_each}
 use Rattle.noise_script.specs.declared.offset.Offset.{Offset}
 use Rattle.noise_script.specs.Offsets.{nothing}
-use Rattle.sample_line.proofs.Standing.{same-sample, displaced-snoc, points-part}
+use Rattle.sample_line.proofs.Standing.{displaced-snoc, points-part}
+use Rattle.symbol_map.proofs.Distances.{same_sample}
 
 -- the labels that were unpacked are those of the slot
 pub unpacked : (slot labels : List ℕ) (at count : ℕ) → at + count ≤ length slot → count ≤ length labels
@@ -61,7 +62,7 @@ point-stays : (label : ℕ) → label < 32 → displaced nothing (point_of label
 point-stays label small =
     let parts = and_parts (same_number (displaced nothing (point_of label)).re (point_of label).re)
     (same_number (displaced nothing (point_of label)).im (point_of label).im) (at_each 32 stays all_stay label small) in
-    same-sample (displaced nothing (point_of label)) (point_of label) (same-number _ _ parts.0) (same-number _ _ parts.1)
+    same_sample (displaced nothing (point_of label)) (point_of label) (same-number _ _ parts.0) (same-number _ _ parts.1)
 
 displaced-append : (script : ScriptValue) (sender : Role) (symbol : ℕ) (points more : List Sample)
     → displaced_from script sender symbol (points ++ more)

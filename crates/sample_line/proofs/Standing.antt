@@ -1,5 +1,5 @@
 -- What the relations of the parts say of samples and bits.
-use Rattle.sample_line.proofs.Names.{◌≡◌, ◌∙◌, ◌+◌, ◌<◌, ℕ, ℤ, Bool, List, [], ◌∷◌, ◌++◌, length, map, take, None, refl, sym, ap, subst}
+use Rattle.sample_line.proofs.Names.{◌≡◌, ◌∙◌, ◌+◌, ◌<◌, ℕ, ℤ, Bool, List, [], ◌∷◌, ◌++◌, length, map, take, None, sym, ap, subst}
 use Rattle.sample_line.proofs.Names.{arith, get_or, append_assoc, map-append, line_bits, line_trellis, low_bits, Modulates, ScriptValue}
 use Rattle.sample_line.proofs.Names.{offset_of, Hears, mode_of, Gives, saturated, displaced, displaced_from, Records, Transmits, Hearer}
 use Rattle.sample_line.proofs.Names.{Transmitter, tap_of, Role, point_of, Sample}
@@ -23,9 +23,6 @@ displaced-snoc script sender symbol (first ∷ points) point =
 
 pub same-saturated : (result a b : ℤ) → result ≡ saturated a → a ≡ b → result ≡ saturated b
 same-saturated result a b e same = e ∙ ap saturated same
-
-pub same-sample : (a b : Sample) → a.re ≡ b.re → a.im ≡ b.im → a ≡ b
-same-sample a b r i = rw (r, i) refl
 
 -- a transmitter's samples are what is recorded of the bits whose points they were
 pub recorded : (transmitter : Transmitter) (script : ScriptValue) (bits : List Bool) (points samples : List Sample)

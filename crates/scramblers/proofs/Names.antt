@@ -7,8 +7,8 @@ pub use Rattle.std.proofs.lemmas.Grind.{common_steps}
 pub use Rattle.std.proofs.lemmas.Nat.{xor_lt}
 pub use Rattle.std.proofs.lemmas.Nat.Bits.{bit_at-lt, bit_at-suc, bit_at_cat_high, bit_at_cat_low, bit_at_lowest}
 pub use Rattle.std.specs.Int.{bit_at}
-pub use Rattle.frame_check.specs.Bits.{low_bits}
+pub use Rattle.frame_check.specs.Bits.{low_bits, number}
 pub use Rattle.frame_check.specs.Xor.{xor}
-pub use Rattle.scramblers.specs.Register.{Holds, number}
+pub use Rattle.scramblers.specs.Register.{Holds}
 pub use Rattle.scramblers.specs.Scrambles.{Descrambles, Scrambles}
 pub use Rattle.scramblers.specs.Stream.{bit_at_place, earlier}

@@ -1,7 +1,7 @@
 -- Bits that stand above a register go on a line and are descrambled, the lowest first.
 use Rattle.scramblers.proofs.Names.{◌≡◌, ◌∙◌, ℕ, zero, suc, ◌+◌, ◌-◌, ◌*◌, ◌/◌, ◌^◌, ◌<◌, ◌≤◌, ◌⊎◌, inl, inr, Bool, true, false, List, []}
 use Rattle.scramblers.proofs.Names.{◌∷◌, ◌++◌, length, arith, refl, sym, ap, subst, nat_eq, bit_xor, cases_lt, bit_at_cat_low}
-use Rattle.scramblers.proofs.Names.{bit_at_cat_high, bit_at_lowest, bit_at-suc, bit_at-lt, bit_at, low_bits, xor, number, Holds}
+use Rattle.scramblers.proofs.Names.{bit_at_cat_high, bit_at_lowest, bit_at-suc, bit_at-lt, bit_at, low_bits, number, xor, Holds}
 use Rattle.scramblers.proofs.Names.{Descrambles, earlier}
 use Rattle.std.proofs.Common.{append_assoc, append-nil}
 use Rattle.std.proofs.lemmas.Nat.{shr-shr}

@@ -1,6 +1,6 @@
 -- Four bits that are turned at once, as numbers.
 use Rattle.scramblers.proofs.Names.{◌≡◌, ◌∙◌, ℕ, zero, suc, ◌+◌, ◌-◌, ◌%◌, ◌<◌, ◌≤◌, Bool, true, false, List, length, arith, refl, ap}
-use Rattle.scramblers.proofs.Names.{nat_eq, bit_xor, bit_at-lt, bit_at, xor, number, earlier}
+use Rattle.scramblers.proofs.Names.{nat_eq, bit_xor, bit_at-lt, bit_at, number, xor, earlier}
 use Rattle.std.proofs.lemmas.Nat.Bits.{bit_at_xor}
 use Rattle.scramblers.proofs.Registers.{has_bit}
 use Rattle.scramblers.proofs.Streams.{AreTurned}

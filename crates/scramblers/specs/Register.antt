@@ -1,12 +1,8 @@
 -- What a register of the latest 23 bits of a line holds.
-use Rattle.std.specs.Prelude.{◌≡◌, ℕ, ◌-◌, ◌≤◌, Bool, true, false, List, length}
+use Rattle.std.specs.Prelude.{◌≡◌, ℕ, ◌-◌, ◌≤◌, Bool, List, length}
 use Rattle.std.specs.Int.{bit_at}
 use Rattle.scramblers.specs.Stream.{earlier}
-
--- a bit as a number
-abbrev pub number : Bool → ℕ
-number true = 1
-number false = 0
+use Rattle.frame_check.specs.Bits.{number}
 
 -- the register's high 23 bits are the line's latest ones, the last one highest
 pub record Holds (register : ℕ) (line : List Bool) : Type 0 where

@@ -5,7 +5,7 @@ pub const CALL_TAP: usize = 18;
 pub const ANSWER_TAP: usize = 5;
 
 /// Which modem sends: the one that called, with [`CALL_TAP`], or the one that answered, with [`ANSWER_TAP`].
-#[derive(Clone, Copy, PartialEq, Eq)]
+#[derive(Clone, Copy)]
 pub enum Mode {
     /// The originator sends: the second bit is 18 places back.
     Call,

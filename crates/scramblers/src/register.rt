@@ -3,7 +3,8 @@ ghost use Rattle.std.specs.Prelude.{◌≡◌, ℕ, ◌+◌, ◌-◌, ◌*◌, �
 ghost use Rattle.std.specs.Int.{bit_at};
 ghost use Rattle.frame_check.specs.Bits.{low_bits};
 ghost use Rattle.scramblers.specs.Stream.{earlier};
-ghost use Rattle.scramblers.specs.Register.{number, Holds};
+ghost use Rattle.frame_check.specs.Bits.{number};
+ghost use Rattle.scramblers.specs.Register.{Holds};
 
 /// How far back the older tap of every scrambler lies: the degree of the generating polynomials.
 pub const DEGREE: usize = 23;

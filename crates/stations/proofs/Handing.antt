@@ -58,7 +58,7 @@ writes-on a b c name h k = grind (arith)
 
 -- ---- deliveries, one by one
 
-at-front : (n : ℕ) (xs : List (List ℕ)) → n < length xs → drop n xs ≡ slice_index_or xs n [] ∷ drop (suc n) xs
+pub at-front : (n : ℕ) (xs : List (List ℕ)) → n < length xs → drop n xs ≡ slice_index_or xs n [] ∷ drop (suc n) xs
 at-front n [] h = absurd (omega (arith, h))
 at-front zero (x ∷ xs) h = refl
 at-front (suc n) (x ∷ xs) h = at-front n xs (omega (arith, h))

@@ -65,7 +65,7 @@ pub use Rattle.trace_audit.specs.Lines.{AreLines, ChancesHaveLines, TextsHaveLin
 pub use Rattle.trace_audit.specs.Pieces.{behind_heard, behind_sent, behind_shape}
 pub use Rattle.trace_audit.specs.Readable.{LinesAreRead, line_of}
 pub use Rattle.trace_audit.specs.Reading.{chance_parts}
-pub use Rattle.trace_audit.specs.Turns.{AreCompared, HasFew, IsReading, RunFound, RunIs, TurnMade, audit_inputs, held_by}
+pub use Rattle.trace_audit.specs.Turns.{AreCompared, HasFew, IsReading, RunFound, RunIs, TurnMade, audit_inputs, found_end, held_by}
 pub use Rattle.trace_audit.specs.Verdict.{DiffersIn, IsFound}
 pub use Rattle.trace_audit.specs.Words.{AuditNames, files_of, inputs_of, named}
 pub use Rattle.trace_audit.specs.Written.{IsReadable, IsReadableHeard, IsReadableSent, IsReadableSignal, parts_of_line, text_of_line}

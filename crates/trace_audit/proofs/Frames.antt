@@ -12,6 +12,7 @@ use Rattle.trace_audit.specs.Pieces.{behind_frame, behind_signal, behind_lost}
 use Rattle.trace_audit.specs.Grammar.{shape_of}
 use Rattle.trace_audit.proofs.Fronts.{chained, either, behind-is, front-rest}
 use Rattle.trace_audit.proofs.Shapes.{Stops, shape-reads, shape-is}
+use Rattle.line_texts.proofs.Fits.{short-poll}
 
 -- ---- names
 
@@ -201,9 +202,6 @@ sent-is text rest e =
 length-kind : (command : Bool) → length (kind_word command) ≤ 4
 length-kind command = grind (arith)
 
-length-poll : (pf : Bool) → length (poll_word pf) ≤ 4
-length-poll pf = grind (arith)
-
 length-number : (label : List ℕ) (n : ℕ) → n < count_bound → length (number_word label n) ≤ length label + 13
 length-number label n h = omega (
   arith,
@@ -234,23 +232,23 @@ length-shape Numbered w r =
     (length-number (codes " s=") w.ns (omega (arith, r.ns)))
     (two (number_word (codes " r=") w.nr) (poll_word w.pf ++ count_word w.count) 16 20
     (length-number (codes " r=") w.nr (omega (arith, r.nr)))
-    (two (poll_word w.pf) (count_word w.count) 4 16 (length-poll w.pf) (length-number (codes " n=") w.count r.count)))
+    (two (poll_word w.pf) (count_word w.count) 4 16 (short-poll w.pf) (length-number (codes " n=") w.count r.count)))
 length-shape Supervisory w r =
     let l = two (kind_word w.command) (number_word (codes " r=") w.nr ++ poll_word w.pf) 4 20 (length-kind w.command)
-    (two (number_word (codes " r=") w.nr) (poll_word w.pf) 16 4 (length-number (codes " r=") w.nr (omega (arith, r.nr))) (length-poll w.pf))
+    (two (number_word (codes " r=") w.nr) (poll_word w.pf) 16 4 (length-number (codes " r=") w.nr (omega (arith, r.nr))) (short-poll w.pf))
     in
     omega (arith, l)
-length-shape Commanding w r = let l = two (kind_word true) (poll_word w.pf) 4 4 (length-kind true) (length-poll w.pf) in omega (arith, l)
-length-shape Responding w r = let l = two (kind_word false) (poll_word w.pf) 4 4 (length-kind false) (length-poll w.pf) in omega (arith, l)
+length-shape Commanding w r = let l = two (kind_word true) (poll_word w.pf) 4 4 (length-kind true) (short-poll w.pf) in omega (arith, l)
+length-shape Responding w r = let l = two (kind_word false) (poll_word w.pf) 4 4 (length-kind false) (short-poll w.pf) in omega (arith, l)
 length-shape Rejecting w r =
     let l = two (kind_word false) (poll_word w.pf ++ count_word w.count) 4 20 (length-kind false)
-    (two (poll_word w.pf) (count_word w.count) 4 16 (length-poll w.pf) (length-number (codes " n=") w.count r.count)) in
+    (two (poll_word w.pf) (count_word w.count) 4 16 (short-poll w.pf) (length-number (codes " n=") w.count r.count)) in
     omega (arith, l)
 length-shape Exchanging w r =
     let l = two (kind_word w.command) (poll_word w.pf ++ count_word w.count) 4 20 (length-kind w.command)
-    (two (poll_word w.pf) (count_word w.count) 4 16 (length-poll w.pf) (length-number (codes " n=") w.count r.count)) in
+    (two (poll_word w.pf) (count_word w.count) 4 16 (short-poll w.pf) (length-number (codes " n=") w.count r.count)) in
     omega (arith, l)
-length-shape Unnumbered w r = grind (arith, two, length-kind, length-poll, length-information)
+length-shape Unnumbered w r = grind (arith, two, length-kind, short-poll, length-information)
 
 -- a text has an octet, and not many
 abbrev IsShort : ℕ → List ℕ → Type 0

@@ -16,10 +16,10 @@ use Rattle.link_run.specs.Outcomes.{TurnIs}
 use Rattle.line_run.specs.Sampled.{HeardIn}
 use Rattle.line_ends.specs.Plain.{IsPlainSent}
 use Rattle.line_run.proofs.Slots.{SentAgo, sent-ago}
-use Rattle.line_run.proofs.Leaving.{hearing-in}
 use Rattle.line_ends.proofs.Words.{Owes}
 use Rattle.line_ends.proofs.Slots.{plain-sent, short-sent}
 use Rattle.line_ends.proofs.Sending.{HoldBoth, holds-all, mid-holds-at}
+use Rattle.link_run.proofs.Only.{hearing-of}
 
 -- a plain frame of few octets is read
 few : (o : Option (List ℕ)) → length (unwrap_or o []) ≤ INFO → IfSome o (λ info. length info < count_bound)
@@ -65,7 +65,7 @@ module _ (laws : SendLaws) (script : ScriptValue) (files : Both (List ℕ)) (ts 
       → TurnIs (link_of script files) ts ends t mid outcome → length ts < 2 ^ 40 → (role : Role)
       → IsReadable (line_of (length ts) role (of role t))
   line-read t mid outcome heard is early role =
-      let hearing = hearing-in (link_of script files) ts ends t mid outcome is in
+      let hearing = hearing-of (link_of script files) ts ends t mid outcome is in
       let carries : Carries (delay_of script) ts t = laws.one (wire_of script) ts t heard in
       let from : Role = other role in
       let known : IsKnown (sent_ago (delay_of script from) from ts) = λ slot e.

@@ -4,14 +4,14 @@ use Rattle.trace_audit.proofs.Cited.{subst, take, arith, length-append, IsTrue, 
 use Rattle.trace_audit.proofs.Cited.{IsApart, knows-later, KnowsFiles, WorldAfter, script_of, turn_of, World, Turn, start, ScriptValue}
 use Rattle.trace_audit.proofs.Cited.{octets-kept, FolderState, OnlyReads, CountsStand, Both, Compared, HasWindow, IsFew, audited}
 use Rattle.trace_audit.proofs.Cited.{trace_limit, text_of, FirstDiffers, IsCut, trace_lines, TurnMade, AreCompared, HasFew, IsReading}
-use Rattle.trace_audit.proofs.Cited.{RunFound, RunIs, audit_inputs, IsFound, Comparison, Difference}
+use Rattle.trace_audit.proofs.Cited.{RunFound, RunIs, audit_inputs, found_end, IsFound, Comparison, Difference}
 use Rattle.std.proofs.Common.{◌*◌}
 use Rattle.std.specs.Prelude.{MatchResult}
 use Rattle.outside_calls.proofs.OnlyOutputs.{told_earlier}
 use Rattle.outside_calls.proofs.Putting.{OnlyPuts-reads}
 use Rattle.line_run.specs.Names.{inputs_of}
 use Rattle.line_world.proofs.Reached.{knows-told, files_at}
-use Rattle.trace_audit.specs.Turns.{ComesTo, found_end}
+use Rattle.trace_audit.specs.Turns.{ComesTo}
 
 -- two lines a turn
 trace-count : (ts : List Turn) → length (trace_lines ts) ≡ 2 * length ts

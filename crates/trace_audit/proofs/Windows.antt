@@ -23,9 +23,6 @@ differ a b e same = cc (sym e ∙ ap not ((bytes_eq-Decides a b).1 same))
 pub same-octets : (a b : List ℕ) → not (bytes_eq a b) ≡ false → a ≡ b
 same-octets a b e = (bytes_eq-Decides a b).0 (not-false (bytes_eq a b) e)
 
-pub equal : (a b : List ℕ) → bytes_eq a b ≡ true → a ≡ b
-equal a b e = (bytes_eq-Decides a b).0 e
-
 pub false-no : {b : Bool} → b ≡ false → b ≡ true → ⊥
 false-no e f = let n : false ≡ true = sym e ∙ f in cc
 

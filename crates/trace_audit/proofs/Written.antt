@@ -22,6 +22,7 @@ use Rattle.line_texts.specs.LineText.{slot_word, heard_word, sent_word}
 use Rattle.line_texts.specs.LineText.{line_text}
 use Rattle.trace_audit.specs.Written.{IsReadableFrame}
 use Rattle.trace_audit.proofs.Frames.{heard-short, sent-short}
+use Rattle.line_texts.proofs.Fits.{short-break, short-role}
 
 -- ---- breaks
 
@@ -142,9 +143,6 @@ slot-is-text (slots.Frame f) h = signal (frame (frame-is-text f h))
 sent-is-text : (sent : Option Sent) → IfSome sent IsReadableSent → IsSent (sent_word sent)
 sent-is-text sent h = grind (arith, none, slot-is-text)
 
-length-role : (role : Role) → length (role_word role) ≤ 4
-length-role role = grind (arith)
-
 length-begins : (turn : ℕ) (role : Role) → turn < count_bound → length (line_begins turn role) ≤ 19
 length-begins turn role low = omega (
   arith,
@@ -152,12 +150,8 @@ length-begins turn role low = omega (
   length-append {A = ℕ} (decimal turn ++ codes " ") (role_word role),
   length-append {A = ℕ} (decimal turn) (codes " "),
   length-decimal-le 13 turn (omega arith) (omega (arith, low)) (omega (arith, low)),
-  length-role role,
+  short-role role,
 )
-
-length-break : (given : Option ℕ) → IfSome given (λ units. units < 256) → length (break_word given) ≤ 10
-length-break None h = omega arith
-length-break (Some units) h = grind (arith, length-append, length-decimal-le)
 
 four : (a b c d : List ℕ) → a ++ b ++ codes " > " ++ c ++ d ≡ a ++ (b ++ (codes " > " ++ (c ++ d)))
 four a b c d = grind (arith, append_assoc)
@@ -178,7 +172,7 @@ plain-has-parts line h c =
           (length-begins line.turn line.role h.turn)
           (heard-short (heard_word line.arrived) heard).1
           (sent-short (sent_word line.sent) sent).1
-          (length-break line.given h.given);
+          (short-break line.given h.given);
       turn = h.turn;
       parts = inr (record {
         arrived = heard;

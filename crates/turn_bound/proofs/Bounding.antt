@@ -1,12 +1,12 @@
 use Rattle.std.proofs.lemmas.Nat.{mul-le}
-use Rattle.turn_bound.proofs.Names.{◌≡◌, ℕ, ◌+◌, ◌-◌, ◌*◌, Bool, true, false, nat_eq, arith, sym, ◌∙◌, ap, subst, Err, ◌⊎◌, ◌<◌, ◌≤◌, List}
-use Rattle.turn_bound.proofs.Names.{[], ◌∷◌, length, map, mul-le-mul_right, mul-le-mul_left, Role, Originator, Answerer, LinkFault}
-use Rattle.turn_bound.proofs.Names.{is_connected, speak, Arrived, AllByRecursion, Outgoing, of, Breaks, why-broken, Phase, Negotiating}
-use Rattle.turn_bound.proofs.Names.{Establishing, Releasing, User, releases, BusyLine, busy_turns, IsBroken, AnswersAtOnce, IsWithin}
+use Rattle.turn_bound.proofs.Names.{◌≡◌, ℕ, ◌+◌, ◌-◌, ◌*◌, Bool, false, arith, sym, ◌∙◌, ap, subst, Err, ◌⊎◌, ◌<◌, ◌≤◌, List, [], ◌∷◌}
+use Rattle.turn_bound.proofs.Names.{length, map, mul-le-mul_right, mul-le-mul_left, Role, Originator, Answerer, LinkFault, is_connected}
+use Rattle.turn_bound.proofs.Names.{speak, Arrived, AllByRecursion, Outgoing, of, Breaks, why-broken, Phase, Negotiating, Establishing}
+use Rattle.turn_bound.proofs.Names.{Releasing, User, releases, BusyLine, busy_turns, IsBroken, AnswersAtOnce, IsWithin}
 use Rattle.link_account.proofs.Names.{Account}
 use Rattle.link_run.proofs.Names.{served_at}
-use Rattle.turn_bound.proofs.Value.{Rates, AreRates, Runs, IsOf, Tries, Stands}
-use Rattle.turn_bound.specs.Spent.{since, IsTimely, SpendsOnTime}
+use Rattle.turn_bound.proofs.Value.{Rates, AreRates, IsOf, Tries, Stands}
+use Rattle.turn_bound.specs.Spent.{IsTimely, SpendsOnTime}
 use Rattle.turn_bound.proofs.OneTurn.{Hearing}
 use Rattle.turn_bound.specs.Offered.{HoldsFile, OffersWithin}
 use Rattle.turn_bound.specs.Limits.{IsShort, NoRunIsLong}
@@ -17,12 +17,6 @@ use Rattle.turn_bound.proofs.Soon.{ends-soon, stands-together}
 use Rattle.turn_bound.proofs.CalmRuns.{hears-in}
 use Rattle.turn_bound.proofs.AtMostOne.{none-due-run}
 use Rattle.turn_bound.proofs.Sizes.{within-run}
-
--- the arithmetic: a clock expires with its last try
-on-time : (z : Rates) (before turn count set tries period : ℕ) → AreRates z → Runs z before turn count set → tries ≡ z.tries
-    → period ≡ z.period → nat_eq turn (set + period) ≡ true → nat_eq count tries ≡ true
-    → ((turn - (tries + 1) * period) + z.whole ≡ turn) × (since z.period count set ≡ turn - (tries + 1) * period)
-on-time z before turn count set tries period y r et ep due spent' = grind (arith)
 
 -- Speaking: whatever the role and the phase.
 pub speaks-spend : (z : Rates) (turn : ℕ) (role : Role) (p : Phase) (release : Bool) (a : Account) (fault : LinkFault) → AreRates z

@@ -5,7 +5,7 @@ use Rattle.turn_bound.proofs.Names.{Answerer, Outgoing, Frame, I, Rr, Rnr, Rej, 
 use Rattle.turn_bound.proofs.Names.{hear, on_nothing, trying, size_for, window_for, connected, first_wait, on_xid_command, on_xid_response}
 use Rattle.turn_bound.proofs.Names.{timer_after, Owes, Phase, Connected, Detecting, Negotiating, Establishing, Releasing, Closed, Terms}
 use Rattle.link_account.proofs.Names.{Offer, agree, offer_in, OwnBreaks, after_answer}
-use Rattle.link_account.proofs.Names.{Account, Srej, Ua, Xid}
+use Rattle.link_account.proofs.Names.{Account, Srej, Xid}
 use Rattle.link_account.proofs.Names.{owing}
 use Rattle.xid_params.specs.Terms.{lowered, default_offer}
 use Rattle.xid_params.proofs.Allowed.{reads_allowed_always}
@@ -21,6 +21,7 @@ use Rattle.lapm_frames.specs.declared.seen.Seen.TheVariants.{Odp, Adp}
 use Rattle.lapm_sender.specs.Outgoing as outgoing
 use Rattle.lapm_receiver.specs.Incoming as incoming
 use Rattle.link_account.specs.declared.answer.Answer.TheVariants as answers
+use Rattle.link_run.proofs.Keeping.{answer-lengths}
 
 abbrev pub HasWindows : Offer → Type 0
 HasWindows o = (1 ≤ o.tx_window) × (1 ≤ o.rx_window)
@@ -29,7 +30,7 @@ HasWindows o = (1 ≤ o.tx_window) × (1 ≤ o.rx_window)
 pub read-windows : (info : List ℕ) (o : Offer) → offer_in info ≡ Some o → HasWindows o
 read-windows info o e = let k = reads_allowed_always info o e in (k.tx_window_low, k.rx_window_low)
 
-lowered-one : (srej : Bool) (w : ℕ) → 1 ≤ w → 1 ≤ lowered srej w
+pub lowered-one : (srej : Bool) (w : ℕ) → 1 ≤ w → 1 ≤ lowered srej w
 lowered-one b w h = grind (arith)
 
 pub agreed-windows : (o a : Offer) → HasWindows o → HasWindows a → (1 ≤ (agree o a).window_o) × (1 ≤ (agree o a).window_a)
@@ -79,9 +80,6 @@ pub quiet-well : (z : Rates) (total breaks turn : ℕ) (role : Role) (a : Accoun
     → HeardAs z total breaks turn 0 role Connected a Connected (record a { owes = o; their_breaks = t })
 quiet-well z total breaks turn role a h e o t ack = grind (arith, connected-well, same-heard, same-changed)
 
-answered-lengths : (turn number : ℕ) (b : OwnBreaks) → (after_answer turn number b).lengths ≡ b.lengths
-answered-lengths turn number b = grind (arith)
-
 -- numbers and words, of a Connected end
 module _ (z : Rates) (total breaks turn : ℕ) (role : Role) (a : Account) (y : AreRates z) (h : Linked z turn turn role a)
     (e : a.phase ≡ Connected)
@@ -124,7 +122,7 @@ module _ (z : Rates) (total breaks turn : ℕ) (role : Role) (a : Account) (y : 
 
   pub answer-well : (number : ℕ) → HeardAs z total breaks turn 0 role Connected a Connected
       (record a { own_breaks = after_answer turn number a.own_breaks })
-  answer-well number = grind (arith, connected-well, same-heard, answered-well, answered-lengths)
+  answer-well number = grind (arith, connected-well, same-heard, answered-well, answer-lengths)
 
 -- what lives counts
 pub linked-some : (z : Rates) (before turn : ℕ) (role : Role) (a : Account) → AreRates z → Linked z before turn role a

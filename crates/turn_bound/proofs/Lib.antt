@@ -3,7 +3,7 @@ pub mod Truths
 pub mod Value
 pub mod Light
 pub mod Run
-mod Lines
+pub mod Lines
 pub mod Sender
 pub mod Sending
 pub mod Hearing

@@ -43,7 +43,7 @@ two-most b = grind (arith)
 four-most : (b : Bool) → four_if b ≤ 4
 four-most b = grind (arith)
 
-one-most : (b : Bool) → one_if b ≤ 1
+pub one-most : (b : Bool) → one_if b ≤ 1
 one-most b = grind (arith)
 
 pub dues-most : (total : ℕ) (a : Account) → dues total a ≤ 15

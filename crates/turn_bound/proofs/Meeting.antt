@@ -1,14 +1,14 @@
 use Rattle.turn_bound.proofs.Names.{◌≡◌, ◌≤◌, ℕ, ◌&&◌, not, Bool, true, false, refl, sym, ◌∙◌, ap, arith, Ok, inl, inr, ◌||◌, List, [], ◌∷◌}
-use Rattle.turn_bound.proofs.Names.{◌++◌, length, subst, trying, Said, frame_for, ready_frame, nr_of, speak, AllByRecursion, Answerer}
-use Rattle.turn_bound.proofs.Names.{Frame, Sent, Slot, arrives, Steps, by-ways, next-keeps, steps-so, tries-alike, Phase, Releasing, Answer}
-use Rattle.turn_bound.proofs.Names.{is_closed, is_released, Connected}
+use Rattle.turn_bound.proofs.Names.{◌++◌, length, subst, all_weaker, trying, Said, frame_for, ready_frame, nr_of, speak, AllByRecursion}
+use Rattle.turn_bound.proofs.Names.{Answerer, Frame, Sent, Slot, arrives, Steps, by-ways, next-keeps, steps-so, tries-alike, Phase}
+use Rattle.turn_bound.proofs.Names.{Releasing, Answer, is_closed, is_released, Connected}
 use Rattle.turn_bound.proofs.Truths.{not-true}
 use Rattle.link_account.proofs.Names.{Account}
 use Rattle.link_run.proofs.Keeping.{stage}
 use Rattle.link_run.proofs.Saying.{Part, is-said}
 use Rattle.link_run.proofs.Speaking.{speaks-phase}
 use Rattle.turn_bound.proofs.MeetHear.{is_begun, is_ua_due, frame_ua, frame_disc, frame_final, of_frame, of_arrived, o-hears, a-hears}
-use Rattle.turn_bound.proofs.Value.{Rates, Stands, all_weaker}
+use Rattle.turn_bound.proofs.Value.{Rates, Stands}
 use Rattle.turn_bound.proofs.Run.{served_account, Link, State, Turn, GoingTurn, RunOf, start, arrival, left_on, slot_of, AreTogether}
 use Rattle.turn_bound.proofs.Serving.{serves-all}
 use Rattle.turn_bound.proofs.Falls.{Sound, Fits, state_after, after-is}

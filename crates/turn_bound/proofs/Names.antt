@@ -6,6 +6,7 @@ pub use Rattle.std.proofs.Math.Nat.{mul-le-mul_left, mul-le-mul_right}
 pub use Rattle.break_signals.specs.Breaks.{OwnBreaks, TheirBreaks, after_ack, after_answer, after_ask, after_brk, no_breaks, ticked, waits}
 pub use Rattle.lapm_sender.specs.Numbers.{with_number}
 pub use Rattle.lapm_sender.specs.Outgoing.{after_next, gone_back, is_whole, next_among, paused_at, sent_among, wait_ended}
+pub use Rattle.link_account.proofs.Flow.{all_weaker}
 pub use Rattle.link_account.proofs.HearWays.{ConnectedWays, EarlyWays, Numbers, Plain, acked, acked-keeps, acked_back, acked_back-keeps}
 pub use Rattle.link_account.proofs.HearWays.{numbered_with, numbers-alike, resumed-keeps, resumed-unpaused}
 pub use Rattle.link_account.proofs.Names.{AllByRecursion, Answerer, Arrived, BreakWord, Brk, Disc, Frame, Heard, I, Incoming, LinkFault}
@@ -13,6 +14,7 @@ pub use Rattle.link_account.proofs.Names.{Originator, Outgoing, Rej, Rnr, Role, 
 pub use Rattle.link_account.proofs.Names.{arrives, frame_for, hear, is_connected, is_originator, is_outstanding, is_some, kind_of, may_send}
 pub use Rattle.link_account.proofs.Names.{meant, nat_tests, next_number, nr_of, of, offset, on_nothing, other, ready_frame, resumed}
 pub use Rattle.link_account.proofs.Names.{slice_get, speak, speak_in, speak_linked, speak_releasing, trying, wanted, wants, without_adp}
+pub use Rattle.link_account.proofs.Playing.{is-linked}
 pub use Rattle.link_account.proofs.SpeakWays.{AllSaid, Breaks, Expired, NoWord, Steps, Tries, Ways, answers-unconnected, answers_alone}
 pub use Rattle.link_account.proofs.SpeakWays.{by-linked, by-tries, by-ways, linked-alike, linked-so, next-keeps, polling_at, retimed}
 pub use Rattle.link_account.proofs.SpeakWays.{steps-so, tries-alike, why-broken}

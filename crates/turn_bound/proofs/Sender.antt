@@ -7,6 +7,7 @@ use Rattle.link_account.proofs.Names.{Account}
 use Rattle.lapm_sender.specs.Numbers.{from_number}
 use Rattle.turn_bound.proofs.Value.{Rates, AreRates, Ticks, left, is_waiting, IsChosen, Sends, is_free, ends, sender_value, paid, cond-le}
 use Rattle.turn_bound.proofs.Value.{stopped, left-some, ticks-now}
+use Rattle.link_account.proofs.Flow.{with_number-all}
 
 -- whether hearing ended what the clock ran for
 abbrev pub ended : Outgoing → Outgoing → Bool
@@ -147,10 +148,6 @@ from_number-choices : (front high n : ℕ) (ns : List ℕ) → AllByRecursion (I
     → AllByRecursion (IsChosen n high) (from_number n ns)
 from_number-choices front high n [] all = tt
 from_number-choices front high n (m ∷ ms) all = grind (arith, from_number-choices front high n ms all.1)
-
-with_number-all : (P : ℕ → Type 0) (n : ℕ) (ns : List ℕ) → P n → AllByRecursion P ns → AllByRecursion P (with_number n ns)
-with_number-all P n [] h all = (h, tt)
-with_number-all P n (m ∷ ms) h all = grind (arith, with_number-all P n ms h all.1)
 
 same-bool : (a b : Bool) (out : Bool) (c : ℕ) → c ≡ cond (((a && not a) || (b && not b)) && out) 0 c
 same-bool a b out c = grind (arith)

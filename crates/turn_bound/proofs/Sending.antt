@@ -1,10 +1,10 @@
 use Rattle.turn_bound.proofs.Names.{◌≡◌, ℕ, ◌+◌, ◌<◌, ◌≤◌, ◌&&◌, ◌||◌, not, Bool, true, false, cond, nat_eq, nat_lt, List, [], ◌∷◌, length}
 use Rattle.turn_bound.proofs.Names.{arith, refl, ap, subst, Option, Some, None, ◌-◌, ◌*◌, ◌%◌, nat_le, ◌++◌, length-append, OwnBreaks}
-use Rattle.turn_bound.proofs.Names.{after_answer, after_ask, after_brk, ticked, waits, after_next, next_among, sent_among, is_some}
-use Rattle.turn_bound.proofs.Names.{AllByRecursion, nat_tests, Outgoing, is_outstanding, next_number, running}
+use Rattle.turn_bound.proofs.Names.{after_answer, after_ask, after_brk, ticked, waits, after_next, next_among, sent_among, all_weaker}
+use Rattle.turn_bound.proofs.Names.{is_some, AllByRecursion, nat_tests, Outgoing, is_outstanding, next_number, running}
 use Rattle.std.proofs.Common.{max}
 use Rattle.turn_bound.proofs.Value.{Rates, AreRates, Ticks, left, is_waiting, IsChosen, Sends, one_if, sender_value, tries_fit}
-use Rattle.turn_bound.proofs.Value.{ticks-later, all_weaker, Breaks, is_breaking, break_left, break_value, ends, paid}
+use Rattle.turn_bound.proofs.Value.{ticks-later, Breaks, is_breaking, break_left, break_value, ends, paid}
 
 -- The turn goes on to the next one.
 

@@ -12,6 +12,7 @@ use Rattle.turn_bound.proofs.Value.{lives, Unlinked, IsAck, IsSilent, Linked, Tr
 use Rattle.turn_bound.proofs.Sending.{offered-sends, ChangedWell, asked-well, same-breaks, ends-same}
 use Rattle.turn_bound.proofs.Sender.{ends-is}
 use Rattle.turn_bound.proofs.Hearing.{ends-both, same-unlinked}
+use Rattle.link_run.proofs.Finishing.{offers-none}
 
 -- what a user's file may change in a sender's part
 pub record Longer (connected : Bool) (o new : Outgoing) : Type 0 where
@@ -49,11 +50,6 @@ offer-times (suc n) file a =
     let k = offer-times n file b in
     let c : Account = offered_times n file b in grind (arith, more-longer)
 
--- after them none is wanted
-none-stays : (n : ℕ) (file : List ℕ) (a : Account) → wants a ≡ None → offered_times n file a ≡ a
-none-stays zero file a e = refl
-none-stays (suc n) file a e = subst (λ m. offered_times n file (offered_at file a m) ≡ a) (sym e) (none-stays n file a e)
-
 none-more : (n : ℕ) (file : List ℕ) (a : Account)
     → ((b : Account) → b.outgoing.front + b.outgoing.window ≤ length b.outgoing.pieces + n → wants (offered_times n file b) ≡ None)
     → a.outgoing.front + a.outgoing.window ≤ length a.outgoing.pieces + suc n → wants (offered_times (suc n) file a) ≡ None
@@ -61,10 +57,10 @@ none-more n file a again h =
     go (is_connected a.phase) refl a.outgoing.ended refl (nat_lt (length a.outgoing.pieces) (a.outgoing.front + a.outgoing.window)) refl
   where
     stays : wants a ≡ None → wants (offered_times n file a) ≡ None
-    stays e = ap wants (none-stays n file a e) ∙ e
+    stays e = ap wants (offers-none n file a e) ∙ e
 
     takes : (piece : List ℕ) → wants (offered_times n file (after_offer piece a)) ≡ None
-    takes [] = grind (arith, none-stays)
+    takes [] = grind (arith, offers-none)
     takes (octet ∷ octets) = again (after_offer (octet ∷ octets) a) (omega (arith, h, length-append {A = List ℕ}))
 
     go : (c : Bool) → is_connected a.phase ≡ c → (e : Bool) → a.outgoing.ended ≡ e → (l : Bool)

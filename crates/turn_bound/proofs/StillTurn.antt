@@ -3,14 +3,14 @@ use Rattle.turn_bound.proofs.Names.{◌∙◌, ap, Option, Some, None, Ok, ◌-�
 use Rattle.turn_bound.proofs.Names.{length-append, after_ack, is_whole, ConnectedWays, acked, numbered_with, is_some, nat_tests, Role}
 use Rattle.turn_bound.proofs.Names.{Outgoing, is_outstanding, Incoming, after_kind, kind_of, offset, Took, Arrived, hear, without_adp}
 use Rattle.turn_bound.proofs.Names.{next_number, BreakWord, Brk, is_originator, Said, frame_for, nr_of, may_send, ready_frame, wanted}
-use Rattle.turn_bound.proofs.Names.{is_connected, speak, speak_linked, AllSaid, Steps, break_waits, is_done, breaking, differs}
+use Rattle.turn_bound.proofs.Names.{is_connected, speak, speak_linked, is-linked, AllSaid, Steps, break_waits, is_done, breaking, differs}
 use Rattle.turn_bound.proofs.Names.{says_segment, says_word, tells, Connected, Answer, User, is_busy, has_finished, next_break, is_ready}
 use Rattle.turn_bound.proofs.Truths.{neither-first, and-second, is-true, or-false-both, not-true}
 use Rattle.link_account.proofs.Names.{OwnBreaks, after_answer, waits, Account}
 use Rattle.link_account.proofs.Names.{after_ask}
 use Rattle.link_account.proofs.Names.{ticked}
 use Rattle.turn_bound.proofs.Value.{Rates, is_waiting, Sends, is_free, one_if, Linked, two_if, dues, frame_weight}
-use Rattle.turn_bound.proofs.Value.{arrived_weight, AreRates, four_if, weight, connected-is, linked_lives, IsOf, Stands, Breaks}
+use Rattle.turn_bound.proofs.Value.{arrived_weight, AreRates, four_if, weight, linked_lives, IsOf, Stands, Breaks}
 use Rattle.turn_bound.proofs.Value.{is_breaking}
 use Rattle.turn_bound.proofs.Sender.{Heard, meant-range, heard-advanced, heard-resumed, acked-heard}
 use Rattle.link_account.proofs.HearWays.{by-linked}
@@ -20,6 +20,7 @@ use Rattle.turn_bound.proofs.Run.{served_account}
 use Rattle.turn_bound.proofs.Serving.{Served, serves-phase, serves-own}
 use Rattle.turn_bound.proofs.Speaking.{Spoke, spoke, untimed, linked-says, stopped}
 use Rattle.turn_bound.proofs.OneTurn.{Hearing, spoken-as}
+use Rattle.turn_bound.proofs.Lines.{one-most}
 
 -- where nothing is outstanding, what is heard leaves the front where it is
 free-same : (z : Rates) (total before turn : ℕ) (o new : Outgoing) (timer : Option ℕ) → Sends z before turn o timer → is_waiting o ≡ false
@@ -111,9 +112,6 @@ Pays total a special said =
     is_waiting said.account.outgoing ≡ false
     → dues total said.account + weight said.sent + one_if (is_free total a.outgoing) ≤ base a + one_if
     (is_free total a.outgoing && not special)
-
-one-most : (b : Bool) → one_if b ≤ 1
-one-most b = grind (arith)
 
 one-less : (b c : Bool) → one_if (b && c) ≤ one_if b
 one-less b c = grind (arith)
@@ -265,7 +263,7 @@ module _ {z : Rates} {user : User} {turn : ℕ} {role : Role} {a : Account} {arr
   stays e release {said} speaks after =
       let spoke = spoken-as i (length b.outgoing.pieces) release speaks (omega arith) in
       let linked : i.phase ≡ Connected =
-      connected-is i.phase
+      is-linked i.phase
       (is-true (is_connected i.phase)
       (λ f. let same : Connected ≡ i.phase = sym after ∙ (spoke.1.phase ∙ spoke.1.keeps f) in let wrong : true ≡ false =
       ap is_connected same ∙ f in cc)) in

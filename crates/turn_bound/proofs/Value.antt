@@ -1,7 +1,6 @@
-use Rattle.turn_bound.proofs.Names.{List, [], ◌∷◌, arith, mul-le-mul_left, mul-le-mul_right, no_breaks, is_some, AllByRecursion, Outgoing}
-use Rattle.turn_bound.proofs.Names.{is_outstanding, Role, Originator, Answerer, Frame, I, Rr, Rnr, Rej, Sabme, Ui, BreakWord, Brk, Sent}
-use Rattle.turn_bound.proofs.Names.{Arrived, is_connected, Setup, Phase, Detecting, Negotiating, Establishing, Connected, Releasing, Closed}
-use Rattle.turn_bound.proofs.Names.{Terms}
+use Rattle.turn_bound.proofs.Names.{arith, mul-le-mul_left, mul-le-mul_right, no_breaks, is_some, AllByRecursion, Outgoing, is_outstanding}
+use Rattle.turn_bound.proofs.Names.{Role, Originator, Answerer, Frame, I, Rr, Rnr, Rej, Sabme, Ui, BreakWord, Brk, Sent, Arrived}
+use Rattle.turn_bound.proofs.Names.{is_connected, Setup, Phase, Detecting, Negotiating, Establishing, Connected, Releasing, Closed, Terms}
 use Rattle.link_account.proofs.Names.{OwnBreaks, waits}
 use Rattle.link_account.proofs.Names.{Ack, BreakFault, word_in, Account}
 use Rattle.std.specs.Prelude.{◌≡◌, ℕ, ◌+◌, ◌-◌, ◌*◌, ◌<◌, ◌≤◌, Bool, true, false, not, cond, ◌&&◌, ◌||◌, nat_lt, length, Option, Some, None}
@@ -150,10 +149,6 @@ ticks-later z before turn count timer h = grind (arith)
 pub ticks-now : (z : Rates) (turn : ℕ) → Ticks z (turn + 1) turn 0 (Some turn)
 ticks-now z turn = record { tied = omega arith; started = omega arith; within = omega arith; tried = omega arith }
 
-pub all_weaker : {X : Type 0} (P Q : X → Type 0) (xs : List X) → ((x : X) → P x → Q x) → AllByRecursion P xs → AllByRecursion Q xs
-all_weaker P Q [] f h = tt
-all_weaker P Q (x ∷ xs) f h = (f x h.0, all_weaker P Q xs f h.1)
-
 -- the phases that an originator has before it, until it releases
 abbrev pub phases_left : Role → Phase → ℕ
 phases_left Answerer phase = 0
@@ -256,9 +251,6 @@ StandsIn Releasing Answerer z before turn a = ⊥
 
 abbrev pub Stands : Rates → ℕ → ℕ → Role → Phase → Account → Type 0
 Stands z before turn role p a = StandsIn p role z before turn a
-
-pub connected-is : (p : Phase) → is_connected p ≡ true → p ≡ Connected
-connected-is p e = grind (arith)
 
 -- by what phases are
 pub linked-of : (z : Rates) (before turn : ℕ) (role : Role) (p : Phase) (a : Account) → Stands z before turn role p a

@@ -2,12 +2,12 @@
 use Rattle.turn_bound.proofs.Names.{◌≡◌, ℕ, ◌+◌, ◌≤◌, ◌&&◌, ◌⊎◌, nat_eq, Bool, true, false, cond, List, [], ◌∷◌, map, length, inl, inr}
 use Rattle.turn_bound.proofs.Names.{arith, refl, sym, ◌∙◌, ap, subst, Ok, is_whole, nat_tests, Role, Originator, Answerer, is_originator}
 use Rattle.turn_bound.proofs.Names.{of, Outgoing, Arrived, is_connected, trying, Said, speak, speak_in, speak_linked, speak_releasing}
-use Rattle.turn_bound.proofs.Names.{Phase, Detecting, Negotiating, Establishing, Connected, Releasing, Closed, User, is_busy, is_released}
-use Rattle.turn_bound.proofs.Names.{has_finished, Link, Accounts, Turn, RunOf, arrival, releases, IsCarried, finished_at, served_ends}
-use Rattle.turn_bound.proofs.Names.{NeverBusy, KeepsTime}
+use Rattle.turn_bound.proofs.Names.{is-linked, Phase, Detecting, Negotiating, Establishing, Connected, Releasing, Closed, User, is_busy}
+use Rattle.turn_bound.proofs.Names.{is_released, has_finished, Link, Accounts, Turn, RunOf, arrival, releases, IsCarried, finished_at}
+use Rattle.turn_bound.proofs.Names.{served_ends, NeverBusy, KeepsTime}
 use Rattle.turn_bound.proofs.Truths.{and-two}
 use Rattle.link_account.proofs.Names.{Account}
-use Rattle.turn_bound.proofs.Value.{Rates, rates, AreRates, IsOf, Linked, Stands, arrived_weight, arrived_rnrs, unlinked-of, connected-is}
+use Rattle.turn_bound.proofs.Value.{Rates, rates, AreRates, IsOf, Linked, Stands, arrived_weight, arrived_rnrs, unlinked-of}
 use Rattle.turn_bound.proofs.Run.{served_account}
 use Rattle.turn_bound.proofs.Speaking.{spoke}
 use Rattle.turn_bound.proofs.MeetHear.{is_begun, of_arrived}
@@ -100,7 +100,7 @@ told-now z turn role release b said y s e open_ told = go (is_connected b.phase)
     go true h = by (release && is_originator b.setup.role) refl (subst (λ q. speak_in q turn release b ≡ Ok said) linked e)
       where
         linked : b.phase ≡ Connected
-        linked = connected-is b.phase h
+        linked = is-linked b.phase h
 
         by : (x : Bool) → release && is_originator b.setup.role ≡ x
             → cond x (speak_releasing turn (trying Releasing turn b)) (speak_linked turn b) ≡ Ok said → release ≡ true

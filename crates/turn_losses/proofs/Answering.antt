@@ -2,7 +2,7 @@ use Rattle.turn_losses.proofs.Names.{◌≡◌, ℕ, ◌%◌, ◌<◌, ◌&&◌,
 use Rattle.turn_losses.proofs.Names.{Some, None, Ok, ◌⊎◌, inl, inr, ◌+◌, length, Plain, ConnectedWays, numbered_with, acked, by-linked}
 use Rattle.turn_losses.proofs.Names.{Frame, I, Rnr, Outgoing, advanced, resumed, OwnBreaks, ticked, Account, hear, Arrived, Said, nr_of}
 use Rattle.turn_losses.proofs.Names.{speak_linked, Role, speak, of, ends_wait, Connected, is_busy, is_released, Link, of_arrived, Served}
-use Rattle.turn_losses.proofs.Names.{linked-says, Rates, Sends, rates, connected-is, linked-of, is_final}
+use Rattle.turn_losses.proofs.Names.{linked-says, Rates, Sends, rates, linked-of, is_final, is-linked}
 use Rattle.std.proofs.Common.{slice_index_or}
 use Rattle.link_account.proofs.Names.{is_outstanding}
 use Rattle.link_account.proofs.Names.{may_send, steps}
@@ -114,7 +114,7 @@ module _ {tries period : ℕ} {link : Link} {role : Role} {turn : ℕ} {a : Acco
       framed (arrivals.Frame frame) q f = by (frame_rnr frame) refl
         where
           t : AnswerHeard (frame_rnr frame) a mid
-          t = answer-hears turn a w frame mid (connected-is a.phase c) f q
+          t = answer-hears turn a w frame mid (is-linked a.phase c) f q
 
           s : Served turn (length (of role link).user.breaks) (is_busy turn (of role link).user.busy) mid b
           s = i.served
@@ -123,7 +123,7 @@ module _ {tries period : ℕ} {link : Link} {role : Role} {turn : ℕ} {a : Acco
           front = ap (λ o. o.front) s.longer.outgoing
 
           phase : b.phase ≡ Connected
-          phase = s.phase ∙ (t.phase ∙ connected-is a.phase c)
+          phase = s.phase ∙ (t.phase ∙ is-linked a.phase c)
 
           sends : Sends (rates tries period) (turn + 1) turn b.outgoing b.wait.timer
           sends = grind (arith, linked-of, rates, s, phase)
@@ -135,7 +135,7 @@ module _ {tries period : ℕ} {link : Link} {role : Role} {turn : ℕ} {a : Acco
           sent r o =
               let g : Segment b.outgoing.front b said =
               urgent-says turn b.outgoing.front b said (linked-says turn release b said phase c' speaks).0 unexpired
-              (s.answer ∙ (t.answer ∙ i.none_due.answer)) (s.reply ∙ (t.reply ∙ i.none_due.reply (ap is_released (connected-is a.phase c))))
+              (s.answer ∙ (t.answer ∙ i.none_due.answer)) (s.reply ∙ (t.reply ∙ i.none_due.reply (ap is_released (is-linked a.phase c))))
               (ap (λ v. v.poll) s.wait ∙ (t.poll ∙ p)) (ap (λ v. v.urgent) s.wait ∙ t.urgent r)
               (front-may (rates tries period) (turn + 1) turn b sends (s.numbered ∙ t.numbered)
               (ap (λ v. v.awaited) s.longer.outgoing ∙ t.awaited)

@@ -4,9 +4,9 @@ use Rattle.turn_losses.proofs.Names.{nat_le, List, [], ◌∷◌, length, arith,
 use Rattle.turn_losses.proofs.Names.{Heard, Turn, LosesSome, SpanLoses, IsLost, turn_at, is_lost, or-late, and-true, and-two}
 use Rattle.link_run.specs.Counts.{lost_in, lost_slots}
 use Rattle.turn_bound.proofs.Value.{one_if}
-use Rattle.turn_losses.proofs.Windows.{one-most}
 use Rattle.turn_losses.specs.Losses.{StarvedLosesMany, LosslessIsFed}
 use Rattle.turn_losses.proofs.Periods.{later-turn}
+use Rattle.turn_bound.proofs.Lines.{one-most}
 
 -- how many numbers below that one meet a test
 abbrev count_of : ℕ → (ℕ → Bool) → ℕ

@@ -2,7 +2,7 @@
 use Rattle.turn_losses.proofs.Names.{◌≡◌, ℕ, ◌+◌, Bool, true, false, cond, ◌∷◌, length, arith, refl, sym, ◌∙◌, ap, List, [], subst, Role}
 use Rattle.turn_losses.proofs.Names.{Originator, Answerer, of, waits, LinkFault, Spent, NotDetected, is_connected, Account, break_waits}
 use Rattle.turn_losses.proofs.Names.{served_at, is_busy, Link, Accounts, Turn, RunOf, said_at, IsCarried, Hears, BrokenTurn, serves-all}
-use Rattle.turn_losses.proofs.Names.{Served, connected-is, Rates, rates, IsOf, KeepsTime, LosesEach, OriginatorWantsAnswers}
+use Rattle.turn_losses.proofs.Names.{Served, Rates, rates, IsOf, KeepsTime, LosesEach, OriginatorWantsAnswers, is-linked}
 use Rattle.turn_losses.proofs.Names.{OriginatorIsStarved, OriginatorWantsPattern, UndetectedIsStarved, OriginatorWantsFrame}
 use Rattle.turn_losses.proofs.Names.{AnswererWantsAnswer, GivesUpForLosses}
 use Rattle.link_run.proofs.Names.{BreakLine, SpeaksAt}
@@ -43,7 +43,7 @@ gives-up laws tries period delay link ts before t mid role fault kt run cs broke
         → break_waits (served_at link (length ts) mid Originator).account ≡ false → (c : Bool) → is_connected mid.orig.phase ≡ c
         → IsForLosses tries period delay ts t c
     spent segment since b q true c =
-        let cm = connected-is mid.orig.phase c in
+        let cm = is-linked mid.orig.phase c in
         let no-break = waits-not Originator c q in
         record {
           each = longer tries (laws.orig tries period delay link ts before t mid segment since kt run cs b cm no-break);

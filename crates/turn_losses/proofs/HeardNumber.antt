@@ -3,7 +3,7 @@
 use Rattle.turn_losses.proofs.Names.{◌⊎◌, inl, inr, ◌≡◌, ℕ, ◌-◌, ◌<◌, ◌&&◌, ◌||◌, not, Bool, true, false, cond, arith, refl, sym, ◌∙◌, ap}
 use Rattle.turn_losses.proofs.Names.{Option, Ok, numbered_with, acked, acked_back, Plain, by-linked, nat_tests, Frame, I, Rr, Rej, Srej}
 use Rattle.turn_losses.proofs.Names.{Arrived, Outgoing, advanced, resumed, Incoming, BreakWord, Account, is_connected, hear, ends_wait}
-use Rattle.turn_losses.proofs.Names.{of_arrived, meant-range, heard-advanced, heard-resumed, acked-heard, or-false, connected-is, Rates}
+use Rattle.turn_losses.proofs.Names.{of_arrived, meant-range, heard-advanced, heard-resumed, acked-heard, or-false, Rates, is-linked}
 use Rattle.turn_losses.proofs.Names.{Sends, SetFrom, is_poll, is_final}
 use Rattle.lapm_sender.specs.Numbers.{with_number}
 use Rattle.link_account.specs.Hear.{timer_after}
@@ -117,7 +117,7 @@ module _ (turn : ℕ) (a : Account) where
 -- What hearing makes of the wait for a poll's answer, at a Connected end: a response with F = 1 ends it, and nothing else.
 pub await-hears : (arrived : Arrived) (turn : ℕ) (a mid : Account) → is_connected a.phase ≡ true → hear turn arrived a ≡ Ok mid
     → mid.outgoing.awaited ≡ cond (of_arrived is_final arrived) false a.outgoing.awaited
-await-hears arrived turn a mid c e = grind (arith, by-linked, connected-is)
+await-hears arrived turn a mid c e = grind (arith, by-linked, is-linked)
 
 -- What hearing makes of the retry count and the timer of a Connected end: the count is 0, or both are as they were.
 abbrev pub CountKept : Account → Account → Type 0
@@ -135,7 +135,7 @@ count-hears z arrived turn a mid c s e =
       brk = λ command pf info number length_octet q. inr (refl, refl);
       brkack = λ command pf info number length_octet q. inr (refl, refl);
       numbers = number-rows turn a _ (λ frame new incoming timer reply urgent n. n.clock z s);
-    }) (inr (refl, refl)) arrived mid (connected-is a.phase c) e
+    }) (inr (refl, refl)) arrived mid (is-linked a.phase c) e
 
 -- What hearing makes of the other end's pause, at a Connected end: where it begins the retry count is 0, and an answer to a poll ends it or
 -- begins it.
@@ -147,4 +147,4 @@ same : (x : Arrived) (a b : Account) → b.outgoing ≡ a.outgoing → of_arrive
 same x a b o f = grind (arith)
 
 pub paused-hears : (x : Arrived) (turn : ℕ) (a mid : Account) → is_connected a.phase ≡ true → hear turn x a ≡ Ok mid → PausedHeard x a mid
-paused-hears x turn a mid c e = grind (arith, by-linked, plain-frame, number-rows, connected-is)
+paused-hears x turn a mid c e = grind (arith, by-linked, plain-frame, number-rows, is-linked)

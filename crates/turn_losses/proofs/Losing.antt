@@ -2,7 +2,7 @@
 use Rattle.turn_losses.proofs.Names.{◌⊎◌, inl, inr, ◌≡◌, ℕ, ◌+◌, ◌-◌, ◌*◌, ◌<◌, ◌≤◌, Bool, true, false, ◌∷◌, length, arith, refl, sym, ◌∙◌}
 use Rattle.turn_losses.proofs.Names.{ap, Ok, ◌%◌, List, subst, cases_lt, nat_tests, Role, other, of, waits, Arrived, Account, is_connected}
 use Rattle.turn_losses.proofs.Names.{hear, Originator, Answerer, User, Turn, arrival, Carries, Link, Accounts, Hears, served_at, of_frame}
-use Rattle.turn_losses.proofs.Names.{of_arrived, served_account, serves-all, is_lost, clash, not-true, connected-is, unlinked-of, rates}
+use Rattle.turn_losses.proofs.Names.{of_arrived, served_account, serves-all, is_lost, clash, not-true, unlinked-of, rates, is-linked}
 use Rattle.turn_losses.proofs.Names.{StandTogether, EndRun, TwoEnds, TimedRun, end_of, is_linked, PeriodLoses, LosesEach}
 use Rattle.turn_losses.proofs.Periods.{once, loses-at, loses-last}
 use Rattle.turn_losses.proofs.PeriodLaws.{is-heard, was-sent, last-heard, two-ends, NoneLost}
@@ -23,7 +23,7 @@ pub last-ends : (user : User) (turn : ℕ) (released : Bool) (arrived : Arrived)
     → is_connected mid.phase ≡ true → waits a.own_breaks ≡ true → length a.own_breaks.lengths ≤ a.own_breaks.answered + 1
     → hear turn arrived a ≡ Ok mid → of_arrived (of_word (ack_of (number_of a))) arrived ≡ true
     → waits (served_account user turn released mid).own_breaks ≡ false
-last-ends user turn released arrived a mid ca cm w high h e = elim (break-heard arrived turn a mid (connected-is a.phase ca) cm h).own [
+last-ends user turn released arrived a mid ca cm w high h e = elim (break-heard arrived turn a mid (is-linked a.phase ca) cm h).own [
   | inl x ↦ clash (of_arrived (of_word (ack_of (number_of a))) arrived) e (x.1 w)
   | inr x ↦ by x.1
 ]
@@ -148,7 +148,7 @@ module _ {tries period : ℕ} {link : Link} {r : Role} {turn : ℕ} {a : Account
 
       from : (is_connected a.phase ≡ true) ⊎ (is_linked a.phase ≡ false) → LastWait tries period turn a
       from (inr u) = grind (arith, old-heard, unlinked-of, rates, waits-mid)
-      from (inl ca) = by (break-heard arrived turn a mid (connected-is a.phase ca) cm i.hears).own
+      from (inl ca) = by (break-heard arrived turn a mid (is-linked a.phase ca) cm i.hears).own
         where
           by : ((mid.own_breaks ≡ a.own_breaks) × Unanswered arrived a.own_breaks)
               ⊎ ((waits a.own_breaks ≡ true) × (mid.own_breaks ≡ answered_own turn a.own_breaks)) → LastWait tries period turn a

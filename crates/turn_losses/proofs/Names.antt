@@ -31,7 +31,7 @@ pub use Rattle.turn_bound.proofs.Speaking.{linked-says}
 pub use Rattle.turn_bound.proofs.Tied.{Tied, is_lost, keeps, link_of, state_of, tied, turn_of}
 pub use Rattle.turn_bound.proofs.Truths.{and-drop, and-not, and-second, and-true, and-two, clash, is-true, not-true, or-false, or-late}
 pub use Rattle.turn_bound.proofs.Truths.{unlinked-connected}
-pub use Rattle.turn_bound.proofs.Value.{AreRates, IsAck, IsOf, Rates, Sends, Stands, arrived_rnrs, connected-is, linked-of, rates}
+pub use Rattle.turn_bound.proofs.Value.{AreRates, IsAck, IsOf, Rates, Sends, Stands, arrived_rnrs, linked-of, rates}
 pub use Rattle.turn_bound.proofs.Value.{unlinked-of}
 pub use Rattle.turn_bound.specs.Due.{NoneDue}
 pub use Rattle.turn_bound.specs.Time.{KeepsTime}
@@ -43,3 +43,4 @@ pub use Rattle.turn_losses.specs.Losses.{OriginatorWantsPattern, PeriodLoses, Un
 pub use Rattle.turn_losses.specs.Polls.{is_final, is_poll}
 pub use Rattle.turn_losses.specs.Tries.{AnswererWantsAnswer, GivesUpForLosses, OriginatorWantsFrame}
 pub use Rattle.turn_bound.proofs.Serving.{serves-well}
+pub use Rattle.link_account.proofs.Playing.{is-linked}

@@ -2,8 +2,8 @@
 use Rattle.turn_losses.proofs.Names.{◌⊎◌, ◌≡◌, ℕ, ◌%◌, ◌<◌, ◌≤◌, Bool, true, false, List, length, length-append, arith, refl, sym, ◌∙◌, ap}
 use Rattle.turn_losses.proofs.Names.{subst, Option, Some, None, Ok, zero, suc, ◌+◌, by-linked, acked, acked_back, Plain, Frame, I, Rr, Rnr}
 use Rattle.turn_losses.proofs.Names.{Rej, meant, Outgoing, resumed, Incoming, Sent, Arrived, Account, is_connected, hear, Offer, IsAllowed}
-use Rattle.turn_losses.proofs.Names.{Phase, User, served_account, heard-advanced, heard-resumed, acked-heard, meant-range}
-use Rattle.turn_losses.proofs.Names.{unlinked-connected, Rates, Sends, connected-is, is_linked}
+use Rattle.turn_losses.proofs.Names.{Phase, User, served_account, heard-advanced, heard-resumed, acked-heard, meant-range, is-linked}
+use Rattle.turn_losses.proofs.Names.{unlinked-connected, Rates, Sends, is_linked}
 use Rattle.std.proofs.Common.{min}
 use Rattle.turn_bound.proofs.Sender.{Heard}
 use Rattle.link_account.proofs.Names.{after_take, after_kind, kind_of, offset}
@@ -141,7 +141,7 @@ numbers-heard z arrived turn a mid c s e = by-linked (λ x b. NumbersHeard x a b
   disc = λ pf r. heard-same _ a _ refl refl refl refl refl;
   brk = λ command pf info number length_octet q. heard-same _ a _ refl refl refl refl refl;
   brkack = λ command pf info number length_octet q. heard-same _ a _ refl refl refl refl refl;
-}) (heard-same _ a _ refl refl refl refl refl) arrived mid (connected-is a.phase c) e
+}) (heard-same _ a _ refl refl refl refl refl) arrived mid (is-linked a.phase c) e
 
 -- What a Connected end was offered fits into its window, which is one of seven bits.
 pub record Room (a : Account) : Type 0 where

@@ -3,7 +3,7 @@ use Rattle.turn_losses.proofs.Names.{◌⊎◌, inl, inr, ◌≡◌, ℕ, ◌%�
 use Rattle.turn_losses.proofs.Names.{None, Ok, zero, suc, ◌+◌, ◌≤◌, List, arith, after_asked, is_some, Outgoing, Incoming, OwnBreaks}
 use Rattle.turn_losses.proofs.Names.{Account, Said, nr_of, frame_for, ready_frame, speak_linked, Role, Sent, Arrived, is_connected, speak}
 use Rattle.turn_losses.proofs.Names.{IsAllowed, Steps, linked-alike, next-keeps, Answer, Link, fits, linked-says, rates, linked-of}
-use Rattle.turn_losses.proofs.Names.{connected-is, is_linked}
+use Rattle.turn_losses.proofs.Names.{is_linked, is-linked}
 use Rattle.link_account.specs.Account.{Wait}
 use Rattle.link_account.specs.Speak.{says_frame}
 use Rattle.turn_losses.proofs.NumberHear.{frame_nr, frame_ns, nr_sent, ns_sent, NumbersHeard, numbers-heard, Room, Fits, begins-roomy}
@@ -128,7 +128,7 @@ module _ {tries period : ℕ} {link : Link} {role : Role} {turn : ℕ} {a : Acco
   connected = ap is_connected (sym i.served.phase) ∙ polled.0
 
   numbers : NumbersSaid b.special b said
-  numbers = linked-numbers turn b said (linked-says turn release b said (connected-is b.phase polled.0) now speaks).0
+  numbers = linked-numbers turn b said (linked-says turn release b said (is-linked b.phase polled.0) now speaks).0
 
   room-said : Room mid → Room said.account
   room-said r = grind (arith, numbers)

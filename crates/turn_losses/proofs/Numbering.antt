@@ -14,6 +14,7 @@ use Rattle.turn_losses.proofs.NumberHear.{ns_sent, Room, Fits, fits-second}
 use Rattle.turn_losses.proofs.NumberTurn.{NumberTurn, number-turn, Begins, begins-turn}
 use Rattle.turn_losses.proofs.Acknowledged.{Counts}
 use Rattle.turn_losses.proofs.Expiries.{SendsFirst, end-answered}
+use Rattle.link_run.proofs.Ending.{allowed-both}
 
 -- what the laws of plays and of frames say
 pub record Plays : Type 0 where
@@ -42,9 +43,6 @@ taken-offered laws link m ends line p Answerer =
     let h = prefix-length _ _ (laws.in_order link.orig.setup link.answ.setup p.events m).1 in
     let x = ap (λ (a : Account). length a.outgoing.pieces) (p.is_at Answerer).account_is in
     let y = ap (λ (a : Account). length a.incoming.taken) (p.is_at Originator).account_is in grind (arith)
-
-pub allowed : (link : Link) → MayPlay link.orig.setup link.answ.setup → (r : Role) → IsAllowed (of r link).setup.offer
-allowed link m r = grind (arith)
 
 pub fits-at : Plays → (link : Link) (delay : Role → ℕ) (ts : List Turn) (ends : Accounts) → RunsOver link delay ts ends → (role : Role)
     → Fits (of role ends).terms
@@ -99,7 +97,7 @@ counts-of laws w m role = record {
         subst Begins (sym g.after)
         (begins-turn i (release_of w.link t (w.deed t).mid r) g.says (ap (λ (x : Account). is_connected x.phase) (sym g.after) ∙ cc')
         (unlinked-of (rates w.tries w.period) t t r (of r (w.state t)).phase (of r (w.state t)) i.stands ua).timer
-        (fits-terms r t l) (subst IsAllowed (ap (λ x. x.offer) (sym i.setup)) (allowed w.link m r)) ua)
+        (fits-terms r t l) (subst IsAllowed (ap (λ x. x.offer) (sym i.setup)) (allowed-both w.link m r)) ua)
 
     rooms : (r : Role) (t : ℕ) → t ≤ length w.ts → is_connected (of r (w.state t)).phase ≡ true → Room (of r (w.state t))
     rooms r zero l c = let wrong : true ≡ false = sym c ∙ none r in cc

@@ -2,7 +2,7 @@
 use Rattle.std.proofs.Common.{◌⊎◌, inl, inr, ◌≡◌, ◌≢◌, ℕ, zero, suc, ◌+◌, ◌-◌, ◌*◌, ◌<◌, ◌≤◌, ◌&&◌, ◌||◌, not, Bool, true, false, cond}
 use Rattle.std.proofs.Common.{nat_eq, max, List, ◌∷◌, length, arith, refl, sym, ◌∙◌, ap, subst, Some, None, Ok, Err}
 use Rattle.turn_bound.proofs.Truths.{and-two, clash, is-true}
-use Rattle.turn_bound.proofs.Value.{linked-of, connected-is}
+use Rattle.turn_bound.proofs.Value.{linked-of}
 use Rattle.turn_bound.proofs.Speaking.{stopped}
 use Rattle.link_account.proofs.Names.{cases_lt, nat_tests, Role, Originator, Answerer, is_originator, Outgoing, ReadsWritten, waits}
 use Rattle.link_account.proofs.Names.{Arrived, LinkFault, Spent, Account, is_connected, hear, trying, MayPlay, Said, speak, speak_in}
@@ -30,6 +30,7 @@ use Rattle.turn_losses.proofs.Moving.{asks, try-heard, linked-phase, answer-due}
 use Rattle.turn_losses.proofs.Trying.{TryTurn, TriesSo, Tried, tried, tries-so}
 use Rattle.turn_losses.proofs.Names.{Rates, rates, Sends, Stands, of_arrived, is_lost, PeriodLoses, LosesEach, is_linked, EndRun, TwoEnds}
 use Rattle.turn_losses.proofs.Names.{hears_final, TimedRun, end_of}
+use Rattle.link_account.proofs.Playing.{is-linked}
 
 abbrev IsFree : Account → Type 0
 IsFree a = (a.outgoing.awaited ≡ false) × (a.outgoing.paused ≡ false)
@@ -203,7 +204,7 @@ told-at reads w m (suc u) y q = subst (ToldIn w (end_of w Originator)) (next u)
 
         told : releases w.link u (w.deed u).mid ≡ true
         told = told-says u (releases w.link u (w.deed u).mid) (o.served u) g.said
-            (i.served.phase ∙ connected-is (o.mid u).phase connected-mid) g.says
+            (i.served.phase ∙ is-linked (o.mid u).phase connected-mid) g.says
             (ap (λ (a : Account). is_connected a.phase) (sym g.after) ∙ ap is_connected now)
 
         was : is_linked (o.account u).phase ≡ true → is_connected (o.account u).phase ≡ true
@@ -235,7 +236,7 @@ whole-stops w v b told f g = stopped m.wait.timer (sends.cause ∙ still (nat_lt
 
 disc-heard : (arrived : Arrived) (turn : ℕ) (a mid : Account) → a.setup.role ≡ Answerer → is_connected a.phase ≡ true
     → of_arrived (asks Releasing) arrived ≡ true → hear turn arrived a ≡ Ok mid → is_connected mid.phase ≡ false
-disc-heard arrived turn a mid r c k h = grind (arith, answer-due, connected-is)
+disc-heard arrived turn a mid r c k h = grind (arith, answer-due, is-linked)
 
 disc-closes : (w : TimedRun) → (u : ℕ) → u < length w.ts → is_connected (w.state u).answ.phase ≡ true
     → is_connected (w.state (u + 1)).answ.phase ≡ true → of_arrived (asks Releasing) (arrival (w.deed u).turn.answ.heard) ≡ true → ⊥
@@ -417,7 +418,7 @@ answerer-wants-answer laws reads wants tries period delay link ts before t mid s
       where
         by : (y : Bool) → is_released mid.orig.phase ≡ y → PeriodLoses period (length ts) (t ∷ ts) n
         by false f = later-loses period t ts n
-            ((wants tries period delay link ts before t mid segment since kt run cs broken (connected-is mid.answ.phase cm) quiet f).0 n
+            ((wants tries period delay link ts before t mid segment since kt run cs broken (is-linked mid.answ.phase cm) quiet f).0 n
             less)
         by true f = parted-each laws reads w run.may_play t mid cs broken.hearing cm (only-releasing mid.orig.phase f broken.going)
             (last-try laws w run.may_play t mid broken.hearing Answerer false _ cm quiet broken.broken.1) n less

@@ -4,7 +4,7 @@ use Rattle.turn_losses.proofs.Names.{◌-◌, ◌*◌, max, List, ◌∷◌, sub
 use Rattle.turn_losses.proofs.Names.{Account, is_connected, MayPlay, hear, cases_lt, Role, of, other, nat_tests, LinkFault, break_waits}
 use Rattle.turn_losses.proofs.Names.{Phase, Releasing, Closed, User, is_released, is_closed, served_at, Detecting, Establishing, Accounts}
 use Rattle.turn_losses.proofs.Names.{Turn, Hears, arrival, Carries, LosesSome, BrokenTurn, SpanLoses, IsStarved, turn_at, o-hears, is_begun}
-use Rattle.turn_losses.proofs.Names.{of_frame, of_arrived, served_account, is_lost, clash, is-true, not-true, connected-is, StandTogether}
+use Rattle.turn_losses.proofs.Names.{of_frame, of_arrived, served_account, is_lost, clash, is-true, not-true, StandTogether, is-linked}
 use Rattle.turn_losses.proofs.Names.{is_linked, TimedRun, end_of, EndRun, TwoEnds, PeriodLoses, GivesUpForLosses}
 use Rattle.turn_bound.proofs.Serving.{serves-own}
 use Rattle.turn_losses.proofs.PollHear.{linked-connected}
@@ -56,7 +56,7 @@ unasked w v l none t before b rel linked c = kept-in (λ u. waits (w.state u).an
         waits-are w Answerer u (omega (arith, hi, b)) now
         ∙ (ap waits (no-take w.link.answ.user u (is_released (w.deed u).mid.orig.phase) mid released)
         ∙ elim (break-heard ((end_of w Answerer).heard u) u (w.state u).answ mid
-        (connected-is (w.state u).answ.phase (on u lo (omega (arith, hi)))) (g.connected now) g.in_turn.hears).own [
+        (is-linked (w.state u).answ.phase (on u lo (omega (arith, hi)))) (g.connected now) g.in_turn.hears).own [
           | inl q ↦ ap waits q.0 ∙ f
           | inr x ↦ clash (waits (w.state u).answ.own_breaks) x.0 f
         ])
@@ -415,7 +415,7 @@ gives-up-starved laws tries period delay link ts before t mid role fault kt run 
             × (waits (served_at link turns mid r).account.own_breaks ≡ true) → IsStarved tries period delay (t ∷ ts)
         go Originator f x (c, w) = orig (mid-connected Originator c) w
             (connected-spends turns (release_of link turns mid Originator) (served_at link turns mid Originator).account f
-            (connected-is (served_at link turns mid Originator).account.phase c) (long Originator) x.broken)
+            (is-linked (served_at link turns mid Originator).account.phase c) (long Originator) x.broken)
         go Answerer f x (c, w) = answ (mid-connected Answerer c) w
             (connected-spends turns false (served_at link turns mid Answerer).account f
-            (connected-is (served_at link turns mid Answerer).account.phase c) (long Answerer) x.broken.1)
+            (is-linked (served_at link turns mid Answerer).account.phase c) (long Answerer) x.broken.1)

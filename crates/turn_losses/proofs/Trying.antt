@@ -5,7 +5,6 @@ use Rattle.turn_losses.proofs.Names.{Arrived, Account, MayPlay, Said, speak, Spe
 use Rattle.turn_losses.proofs.Names.{Establishing, Releasing, is_released, is_closed, arrival, Link, Accounts, served_at, releases, o-hears}
 use Rattle.turn_losses.proofs.Names.{is_begun, of_frame, of_arrived, clash, not-true, rates, Stands, is_linked, sent_or, EndRun, TwoEnds}
 use Rattle.turn_losses.proofs.Names.{TimedRun, end_of, LosesEach, OriginatorWantsFrame}
-use Rattle.turn_losses.proofs.Numbering.{allowed}
 use Rattle.turn_losses.proofs.Follows.{numbered-linked}
 use Rattle.turn_losses.proofs.Tracing.{release_of, EndTurn, end-turn, timed-run, last-turn, starts-fresh}
 use Rattle.turn_losses.proofs.PeriodLaws.{is-heard, two-ends, NoneLost}
@@ -18,6 +17,7 @@ use Rattle.turn_losses.proofs.Clocks.Ticked.{Begins, Expires, Stays}
 use Rattle.turn_losses.proofs.InTurn.{InTurn}
 use Rattle.turn_losses.proofs.Periods.{once, loses-of}
 use Rattle.turn_losses.proofs.Wanting.{all-but-one}
+use Rattle.link_run.proofs.Ending.{allowed-both}
 
 -- A turn after which an end tries: the try begins in it, or goes on unanswered, and goes again or not.
 abbrev pub GoesUnanswered : Phase → Arrived → Account → Type 0
@@ -146,7 +146,7 @@ tries-so reads w m p t u l f =
     subst (λ x. TryTurn w.period u p (arrival (w.deed u).turn.orig.heard) x (w.state u).orig (w.state (u + 1)).orig) (sym g.slot)
     (subst (TryTurn w.period u p (arrival (w.deed u).turn.orig.heard) g.said.sent (w.state u).orig) (sym g.after)
     (try-turn g.in_turn (release_of w.link u (w.deed u).mid Originator)
-    (ap is_some (reads w.link.orig.setup.offer (allowed w.link m Originator)))
+    (ap is_some (reads w.link.orig.setup.offer (allowed-both w.link m Originator)))
     g.says p t (ap (λ (x : Account). x.phase) (sym g.after) ∙ f)))
 
 -- an answerer can answer what is tried
@@ -162,7 +162,7 @@ pub answers-so : ReadsWritten → (w : TimedRun) → MayPlay w.link.orig.setup w
     → of_frame (moves_on p) (sent_or (w.deed u).turn.answ.sent) ≡ true
 answers-so reads w m p t u l f k = ap (of_frame (moves_on p)) g.slot ∙ says-due p u ((end_of w Answerer).served u) g.said g.in_turn.b_role
     (ap (λ x. is_some (offer_in (written x.offer))) g.in_turn.b_setup
-    ∙ ap is_some (reads w.link.answ.setup.offer (allowed w.link m Answerer)))
+    ∙ ap is_some (reads w.link.answ.setup.offer (allowed-both w.link m Answerer)))
     (moved p (w.deed u).mid.answ ((end_of w Answerer).served u) g.in_turn.served.phase g.in_turn.served.answer due) g.says
   where
     g : EndTurn w Answerer u

@@ -1,7 +1,7 @@
 -- Each turn of a run after which an end is Connected, by its breaks.
 use Rattle.turn_losses.proofs.Names.{◌⊎◌, inl, inr, ◌≡◌, ℕ, ◌+◌, ◌<◌, ◌≤◌, Bool, true, false, length, arith, refl, sym, ◌∙◌, ap, subst}
 use Rattle.turn_losses.proofs.Names.{is_some, cases_lt, Role, of, waits, Arrived, Account, is_connected, arrival, served_at, of_frame}
-use Rattle.turn_losses.proofs.Names.{linked-says, clash, linked-of, unlinked-of, IsAck, connected-is, Rates, rates, is_linked, sent_or}
+use Rattle.turn_losses.proofs.Names.{linked-says, clash, linked-of, unlinked-of, IsAck, Rates, rates, is_linked, sent_or, is-linked}
 use Rattle.turn_losses.proofs.Names.{TimedRun, end_of}
 use Rattle.turn_bound.proofs.Value.{Linked}
 use Rattle.turn_losses.proofs.Tracing.{release_of, TurnAt, EndTurn, end-turn}
@@ -54,7 +54,7 @@ turn-of w r u l c = moved (by (i.polls.from mid-connected))
     says : SaidBreaks u b g.said
     says = breaks-said u b g.said (subst (λ t. IsAck t.ack) (sym i.served.ack) mid-linked.ack)
         (linked-says u (release_of w.link u (w.deed u).mid r) b g.said (i.served.phase
-        ∙ connected-is mid.phase mid-connected) after g.says).0
+        ∙ is-linked mid.phase mid-connected) after g.says).0
 
     moved : (d : Deeds) × (d.answers ≡ is_some b.owes.answer) × BreakTurn w.period u arrived g.said.sent d a g.said.account
         × (waits g.said.account.own_breaks ≡ waits b.own_breaks) → (d : Deeds) × TurnOf w r u d
@@ -63,7 +63,7 @@ turn-of w r u l c = moved (by (i.polls.from mid-connected))
     by : (is_connected a.phase ≡ true) ⊎ (is_linked a.phase ≡ false) → (d : Deeds) × (d.answers ≡ is_some b.owes.answer)
         × BreakTurn w.period u arrived g.said.sent d a g.said.account × (waits g.said.account.own_breaks ≡ waits b.own_breaks)
     by (inl ca) = break-turn i g.said mid-linked.breaks.low (linked-of z u u r a.phase a i.stands ca).breaks.high (λ e. ca) (λ e. ca) after
-        (break-heard arrived u a mid (connected-is a.phase ca) mid-connected i.hears) says
+        (break-heard arrived u a mid (is-linked a.phase ca) mid-connected i.hears) says
     by (inr un) =
         let q = (unlinked-of z u u r a.phase a i.stands un).breaks in
         let s = old-heard arrived u a mid un i.hears in

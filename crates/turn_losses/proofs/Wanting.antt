@@ -3,7 +3,7 @@ use Rattle.turn_losses.proofs.Names.{◌⊎◌, inl, inr, ◌≡◌, ℕ, ◌+�
 use Rattle.turn_losses.proofs.Names.{subst, ◌≢◌, max, List, ◌∷◌, Role, other, of, waits, Arrived, LinkFault, Account, is_connected, speak}
 use Rattle.turn_losses.proofs.Names.{IsAllowed, MayPlay, cases_lt, Originator, Answerer, why-broken, Connected, Phase, Turn, Accounts}
 use Rattle.turn_losses.proofs.Names.{Hears, arrival, served_at, Link, releases, is_released, SpanLoses, IsStarved, of_arrived, clash}
-use Rattle.turn_losses.proofs.Names.{is-true, linked-of, connected-is, Rates, rates, Sends, Stands, StandTogether, is_linked, EndRun}
+use Rattle.turn_losses.proofs.Names.{is-true, linked-of, Rates, rates, Sends, Stands, StandTogether, is_linked, EndRun, is-linked}
 use Rattle.turn_losses.proofs.Names.{TwoEnds, TimedRun, end_of, past, PeriodLoses, LosesEach, OriginatorWantsAnswers, OriginatorIsStarved}
 use Rattle.turn_losses.proofs.Names.{AnswererWantsAnswers, is_poll}
 use Rattle.link_account.proofs.Names.{false≢true}
@@ -13,7 +13,7 @@ use Rattle.turn_losses.proofs.HeardNumber.{CountKept, count-hears}
 use Rattle.turn_losses.proofs.PeriodLaws.{two-ends, connected-since}
 use Rattle.turn_losses.proofs.Expiries.{period-loses, Uncleared, expiries}
 use Rattle.turn_losses.proofs.Acknowledged.{Counts}
-use Rattle.turn_losses.proofs.Numbering.{Plays, allowed, fits-at, counts-of}
+use Rattle.turn_losses.proofs.Numbering.{Plays, fits-at, counts-of}
 use Rattle.turn_losses.proofs.NumberHear.{begins-roomy}
 use Rattle.turn_losses.proofs.InTurn.{InTurn}
 use Rattle.turn_losses.proofs.Tracing.{last-turn, timed-run, silent-of, end-turn}
@@ -21,6 +21,7 @@ use Rattle.turn_bound.specs.Together.{Together}
 use Rattle.turn_losses.proofs.Clocks.{last}
 use Rattle.turn_losses.proofs.PollHear.{PollHeard, linked-connected}
 use Rattle.turn_losses.proofs.Follows.{numbered-linked}
+use Rattle.link_run.proofs.Ending.{allowed-both}
 
 -- the segments' clock expires with the last try
 pub record SpendsTries (turn : ℕ) (b : Account) : Type 0 where
@@ -86,7 +87,7 @@ module _ (laws : Plays) (w : TimedRun) (may : MayPlay w.link.orig.setup w.link.a
   last-tries = let i = last-turn w t mid hearing r in last-try-of i
       (λ u c. ((begins-roomy (arrival (of r t).heard) (length w.ts) (of r w.ends) (of r mid) u (fits-at laws w.link w.delay w.ts w.ends
       (record { may_play = may; delays = w.keeps.delays; carried = w.carried; run = w.run }) r)
-      (subst IsAllowed (ap (λ x. x.offer) (sym i.setup)) (allowed w.link may r)) i.hears).so c).2)
+      (subst IsAllowed (ap (λ x. x.offer) (sym i.setup)) (allowed-both w.link may r)) i.hears).so c).2)
 
   -- so it is where no break waits
   pub last-try : (release : Bool) (fault : LinkFault) → is_connected (of r mid).phase ≡ true
@@ -95,7 +96,7 @@ module _ (laws : Plays) (w : TimedRun) (may : MayPlay w.link.orig.setup w.link.a
       → LastTry w.tries w.period (length w.ts) (of r w.ends)
   last-try release fault cm quiet breaks = let i = last-turn w t mid hearing r in last-tries cm
       (connected-why (length w.ts) release (served_at w.link (length w.ts) mid r).account fault
-      (i.served.phase ∙ connected-is (of r mid).phase cm) (omega (arith, i.b_period, i.long)) quiet breaks)
+      (i.served.phase ∙ is-linked (of r mid).phase cm) (omega (arith, i.b_period, i.long)) quiet breaks)
 
 -- So where both ends stay Connected, something was lost in each of the last periods.
 pub wants-answers : (w : TimedRun) → (role : Role) → Counts (length w.ts) (end_of w role) (end_of w (other role))
@@ -132,7 +133,7 @@ wants-answers w role c l both n less = lost-at (expiries k c w.tries l.set l.con
 -- both ends stand together before each turn
 pub peer-connected-at : StandTogether → (w : TimedRun) → (u : ℕ) → u ≤ length w.ts → is_connected (w.state u).orig.phase ≡ true
     → is_connected (w.state u).answ.phase ≡ true
-peer-connected-at together w u l c = ap is_connected (by.answ (connected-is (w.state u).orig.phase c))
+peer-connected-at together w u l c = ap is_connected (by.answ (is-linked (w.state u).orig.phase c))
   where
     by : Together (w.state u)
     by = elim (cases_lt u (length w.ts)) [

@@ -1,5 +1,5 @@
 -- How often something happens in some turns that follow one another.
-use Rattle.turn_losses.proofs.Names.{◌⊎◌, inl, inr, ◌≡◌, ℕ, zero, suc, ◌+◌, ◌-◌, ◌<◌, ◌≤◌, Bool, true, false, cond, arith, refl, ap, ◌&&◌}
+use Rattle.turn_losses.proofs.Names.{◌⊎◌, inl, inr, ◌≡◌, ℕ, zero, suc, ◌+◌, ◌-◌, ◌<◌, ◌≤◌, Bool, true, false, arith, refl, ap, ◌&&◌}
 use Rattle.turn_losses.proofs.Names.{nat_le, sym, ◌∙◌, ◌*◌, subst, Option, Some, None, nat_tests, OwnBreaks, waits, is_connected, BreakWord}
 use Rattle.turn_losses.proofs.Names.{of_frame, of_arrived, not-true, and-two, and-drop, clash, EndRun, TwoEnds, sends_poll, sends_final}
 use Rattle.turn_losses.proofs.Names.{hears_final, is_poll}
@@ -11,16 +11,12 @@ use Rattle.turn_losses.proofs.BreakTurn.OwnTurn.{Stays, Ends, Takes, Expires}
 use Rattle.turn_losses.proofs.Words.{any_brk, of_word, ack_of, brk_of, pends_of, pends}
 use Rattle.turn_losses.proofs.Kept.{kept-in, until}
 use Rattle.turn_losses.proofs.Moving.{asks}
-
-abbrev pub one_if : Bool → ℕ
-one_if b = cond b 1 0
+use Rattle.turn_bound.proofs.Lines.{one-most}
+use Rattle.turn_bound.proofs.Value.{one_if}
 
 abbrev pub hits : (ℕ → Bool) → ℕ → ℕ → ℕ
 hits f from zero = 0
 hits f from (suc n) = hits f from n + one_if (f (from + n))
-
-pub one-most : (b : Bool) → one_if b ≤ 1
-one-most b = grind (arith)
 
 -- of hits that lie so far apart there is one at most in as many turns
 one-hit : (f : ℕ → Bool) (from n : ℕ) → 1 ≤ hits f from n → (t : ℕ) × (from ≤ t) × (t < from + n) × (f t ≡ true)

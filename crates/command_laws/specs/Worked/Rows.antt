@@ -1,19 +1,15 @@
 -- Settings of worked pairs.
-use Rattle.std.specs.Prelude.{◌≡◌, ℕ, true, false, is_some, List, [], ◌∷◌, length, replicate, Some}
+use Rattle.std.specs.Prelude.{◌≡◌, ℕ, true, is_some, List, [], ◌∷◌, length, replicate, Some}
 use Rattle.shared_terms.specs.Both.{Both}
 use Rattle.noise_script.specs.Script.{ScriptValue, delay_of, loses}
 use Rattle.link_run.specs.Outcomes.{Done}
 use Rattle.line_run.specs.Scripted.{link_of}
-use Rattle.xid_params.specs.declared.offer.Offer.{Offer}
 use Rattle.command_laws.specs.Worked.Made.{Way, Made, runs, all_turns}
 use Rattle.command_laws.specs.Worked.RunTraces.{plain_run}
 use Rattle.link_run.specs.Trace.{trace_text}
 use Rattle.line_run.specs.Ends.{Left}
 use Rattle.link_pair.specs.Pairs.Ends.{BothDone, PairRunsTo}
-
--- what an end offers unless a script says it
-abbrev pub plain_offer : Offer
-plain_offer = record { srej = false; check32 = false; tx_len = 128; rx_len = 128; tx_window = 15; rx_window = 15 }
+use Rattle.xid_params.specs.Terms.{default_offer}
 
 -- a script without lines
 abbrev pub no_lines : ScriptValue
@@ -21,8 +17,8 @@ no_lines = record {
   delay_orig = 1;
   delay_answ = 1;
   tries = 5;
-  offer_orig = plain_offer;
-  offer_answ = plain_offer;
+  offer_orig = default_offer;
+  offer_answ = default_offer;
   losses = [];
   hits = [];
   noises = [];

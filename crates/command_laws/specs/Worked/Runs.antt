@@ -13,6 +13,7 @@ use Rattle.lapm_frames.specs.declared.sent.Sent.{Sent}
 use Rattle.lapm_frames.specs.declared.sent.Sent.TheVariants as slots
 use Rattle.link_account.specs.Account.{wants, is_done, takes_own, break_waits, given_break}
 use Rattle.link_account.specs.Play.{Slot, Side, Play, Event, Speaks, Passes, Is_lost, Hears_nothing, Is_offered, Is_asked, Delivers, Gives_break, Is_busy, happens, play}
+use Rattle.link_run.specs.End.{is_released}
 
 -- a break that is to be asked from this turn on
 pub record Break : Type 0 where
@@ -125,20 +126,11 @@ offered_to role w =
 abbrev pub is_told_busy : ℕ → World → World
 is_told_busy turn w = record w { play = play (Is_busy Originator (is_among turn w.originator.busy) ∷ Is_busy Answerer (is_among turn w.answerer.busy) ∷ []) w.play }
 
--- the originator was told to release
-abbrev pub was_told : Phase → Bool
-was_told Detecting = false
-was_told Negotiating = false
-was_told Establishing = false
-was_told Connected = false
-was_told Releasing = true
-was_told Closed = true
-
 -- the first break that is ready is asked, and none once the originator was told to release
 abbrev pub asks_break : ℕ → Role → List Break → World → World
 asks_break turn role [] w = w
 asks_break turn role (b ∷ bs) w =
-    if not (was_told w.play.originator.account.phase) && (nat_le b.turn turn && takes_own turn (side role w.play).account)
+    if not (is_released w.play.originator.account.phase) && (nat_le b.turn turn && takes_own turn (side role w.play).account)
     then with_user role (record (user role w) { breaks = bs }) (record w { play = happens (Is_asked role turn b.length_octet) w.play })
     else w
 

@@ -1,7 +1,7 @@
 -- What a link came to over a channel in so many rounds is one thing.
-use Rattle.link_pair.proofs.Names.{◌≡◌, ◌≢◌, ◌⊎◌, inl, inr, ℕ, ◌<◌, List, ◌∷◌, length, arith, refl, sym, ◌∙◌, ap, subst, hearing-in}
-use Rattle.link_pair.proofs.Names.{compare, left_of, left-is, RunEnd, IsDone, LinkLost, NotDetected, Left, Wire, HeardIn, LineRun, LineEnd}
-use Rattle.link_pair.proofs.Names.{EndsLine, check_of, Progress, Ended, last_ends, IsByLink, HearsIdly, HasEnded, Lasts, Outcome, Going}
+use Rattle.link_pair.proofs.Names.{◌≡◌, ◌≢◌, ◌⊎◌, inl, inr, ℕ, ◌<◌, List, ◌∷◌, length, arith, refl, sym, ◌∙◌, ap, subst, compare, left_of}
+use Rattle.link_pair.proofs.Names.{left-is, RunEnd, IsDone, LinkLost, NotDetected, Left, Wire, HeardIn, LineRun, LineEnd, EndsLine}
+use Rattle.link_pair.proofs.Names.{check_of, Progress, Ended, last_ends, IsByLink, HearsIdly, HasEnded, Lasts, hearing-of, Outcome, Going}
 use Rattle.link_pair.proofs.Names.{Done, Broken, TurnIs, Link, Accounts, Turn, Hears, trace_text, of, other, Role, Originator, Answerer}
 use Rattle.shared_terms.specs.declared.fault.LinkFault.TheVariants as faults
 use Rattle.link_run.specs.Laws.{heard_in, OneOutcome}
@@ -36,7 +36,7 @@ same-turn : (laws : SameLaws) (c : Wire) (link : Link) (ts : List Turn) (ends : 
     → (t ≡ u) × (mid ≡ later) × (a ≡ b)
 same-turn laws c link ts ends t u mid later a b h k p q =
     laws.outcome link ts ends t u mid later a b h k
-    (same-heard laws c ts ends t u mid later (hearing-in link ts ends t mid a h) (hearing-in link ts ends u later b k) p q)
+    (same-heard laws c ts ends t u mid later (hearing-of link ts ends t mid a h) (hearing-of link ts ends u later b k) p q)
 
 -- how a link ended, by its last turn
 abbrev pub named : ℕ → Outcome → RunEnd

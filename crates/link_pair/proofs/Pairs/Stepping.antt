@@ -1,8 +1,8 @@
 -- Pairs turn by turn: what there was before the last turn, and that there was one thing.
 use Rattle.link_pair.proofs.Names.{◌≡◌, ◌⊎◌, inl, inr, ℕ, zero, suc, ◌+◌, ◌-◌, ◌*◌, ◌<◌, ◌≤◌, false, List, [], ◌∷◌, length, arith, refl}
-use Rattle.link_pair.proofs.Names.{sym, ap, subst, Some, false≢true, hearing-in, RunEnd, Left, link_of, wire_at, first_dlci, second_dlci}
-use Rattle.link_pair.proofs.Names.{slot_in, after_second, after_first, first_wire, second_wire, lasting, Which, First, Second, is_going}
-use Rattle.link_pair.proofs.Names.{firsts_at, Progress, Goes, Ended, turns_in, ends_in, turns_on_line, HearsIdly, IdlesFor, Lasts, PairAt}
+use Rattle.link_pair.proofs.Names.{sym, ap, subst, Some, false≢true, RunEnd, Left, link_of, wire_at, first_dlci, second_dlci, slot_in}
+use Rattle.link_pair.proofs.Names.{after_second, after_first, first_wire, second_wire, lasting, Which, First, Second, is_going, firsts_at}
+use Rattle.link_pair.proofs.Names.{Progress, Goes, Ended, turns_in, ends_in, turns_on_line, HearsIdly, IdlesFor, Lasts, PairAt, hearing-of}
 use Rattle.link_pair.proofs.Names.{Link, Accounts, Turn, start, ScriptValue, delay_of, Both, Role}
 use Rattle.link_pair.proofs.Pairs.Clear.{Beside}
 use Rattle.link_pair.proofs.Pairs.Same.{SameLaws, well-heard, EndedIs, ended-is, lasts-once}
@@ -29,7 +29,7 @@ before-ended script dlci beside link rounds ts ends end left h (inl e) =
       lasts = record { run = k.run; count = sym e };
       same = λ at role round l. refl;
       well = well-heard (wire_at script dlci beside) ts k.before k.last.last ends
-          (hearing-in link ts k.before k.last.last ends k.last.outcome k.last.is) k.last.heard;
+          (hearing-of link ts k.before k.last.last ends k.last.outcome k.last.is) k.last.heard;
       stays = λ g. absurd (false≢true (sym g));
     }
 before-ended script dlci beside link rounds ts ends end left h (inr l) =

@@ -1,7 +1,7 @@
 -- A role, a file and octets have one result at most.
 use Rattle.run_commands.proofs.Names.{◌≡◌, ◌≢◌, ◌∙◌, inl, inr, ℕ, ◌+◌, ◌<◌, List, [], ◌∷◌, length, refl, sym, ap, subst, arith, cases_lt}
-use Rattle.run_commands.proofs.Names.{Past, PeerTurn, Outcome, Going, Closed, Broken, party_of, LoneTurn, OneResult, PeerEnd, IsDone}
-use Rattle.run_commands.proofs.Names.{GivesUp, MakesTurn, RunsTo, left_after, slot_at, slots_before, other, Role}
+use Rattle.run_commands.proofs.Names.{LoneTurn, OneResult, PeerEnd, IsDone, GivesUp, MakesTurn, RunsTo, left_after, slot_at, slots_before}
+use Rattle.run_commands.proofs.Names.{other, Role, Past, PeerTurn, Outcome, Going, Closed, Broken, party_of}
 use Rattle.link_account.specs.Account.{Account}
 use Rattle.link_run.specs.Alone.{LoneRun}
 use Rattle.stations.specs.OneEnd.Peer.{HearsSlots}

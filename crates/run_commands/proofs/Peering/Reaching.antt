@@ -1,14 +1,14 @@
 -- From one turn to the next, and to the end of a run.
 use Rattle.run_commands.proofs.Names.{◌≡◌, inl, inr, ◌∙◌, ℕ, suc, ◌+◌, ◌*◌, ◌<◌, ◌≤◌, Bool, true, false, IsTrue, List, [], ◌∷◌, ◌++◌}
 use Rattle.run_commands.proofs.Names.{length, take, refl, sym, ap, subst, arith, append_assoc, length-append, cases_lt, take_all}
-use Rattle.run_commands.proofs.Names.{concat-append, concat, stop-earlier, IsWithin, ReadTo, ReadFails, StopCounts, Read, slot_octets, Past}
-use Rattle.run_commands.proofs.Names.{PeerRun, PeerTurn, Outcome, Going, Closed, Broken, party_of, after, over, SingleAfter, file_limit}
-use Rattle.run_commands.proofs.Names.{Makes, Single, LoneTurn, LoneHearingsDeliver, LoneSpeakingTakesNothing, deliveries, OnlyPuts-reads}
-use Rattle.run_commands.proofs.Names.{OnlyPuts-trans, GoesOn-trans, KeepsName-trans, octets-kept, told_later, CountsStand-trans}
-use Rattle.run_commands.proofs.Names.{FolderState, octets_at, GoesOn, KeepsName, OnlyReads, CountsStand, AreApart, AreNoneOf, AreApartFrom}
-use Rattle.run_commands.proofs.Names.{Holds, OnlyPuts, HoldPart, FolderFault, HoldLeft, PeerEnd, IsDone, GivesUp, MakesTurn, RunsTo}
-use Rattle.run_commands.proofs.Names.{left_of, left_after, slot_at, slots_before, Reached, fault_stop, Names, inputs_of, outputs_of}
-use Rattle.run_commands.proofs.Names.{turn_names, LinkFault, FILE_LIMIT, Role}
+use Rattle.run_commands.proofs.Names.{concat-append, concat, stop-earlier, IsWithin, ReadTo, ReadFails, StopCounts, Read, LoneTurn}
+use Rattle.run_commands.proofs.Names.{LoneHearingsDeliver, LoneSpeakingTakesNothing, deliveries, OnlyPuts-reads, OnlyPuts-trans}
+use Rattle.run_commands.proofs.Names.{GoesOn-trans, KeepsName-trans, octets-kept, told_later, CountsStand-trans, FolderState, octets_at}
+use Rattle.run_commands.proofs.Names.{GoesOn, KeepsName, OnlyReads, CountsStand, AreApart, AreNoneOf, AreApartFrom, Holds, OnlyPuts}
+use Rattle.run_commands.proofs.Names.{HoldPart, FolderFault, HoldLeft, PeerEnd, IsDone, GivesUp, MakesTurn, RunsTo, left_of, left_after}
+use Rattle.run_commands.proofs.Names.{slot_at, slots_before, Reached, fault_stop, Names, inputs_of, outputs_of, turn_names, LinkFault}
+use Rattle.run_commands.proofs.Names.{FILE_LIMIT, Role, slot_octets, Past, PeerRun, PeerTurn, Outcome, Going, Closed, Broken, party_of}
+use Rattle.run_commands.proofs.Names.{after, over, SingleAfter, file_limit, Makes, Single}
 use Rattle.std.proofs.Common.{append-nil}
 use Rattle.std.proofs.lemmas.Bool.{false≢true}
 use Rattle.outside_calls.specs.declared.folder.FolderFault.TheVariants as folder

@@ -1,6 +1,6 @@
 -- Octets cut into slots.
 use Rattle.run_commands.proofs.Names.{◌≡◌, ◌∙◌, ℕ, zero, suc, ◌+◌, ◌*◌, ◌<◌, ◌≤◌, List, [], ◌∷◌, ◌++◌, length, take, refl, ap, subst, arith}
-use Rattle.run_commands.proofs.Names.{append_assoc, take_all, slot_octets, slot_at, slots_before}
+use Rattle.run_commands.proofs.Names.{append_assoc, take_all, slot_at, slots_before, slot_octets}
 use Rattle.std.proofs.Common.{drop}
 use Rattle.std.proofs.Common.{append-nil}
 use Rattle.std.proofs.lemmas.List.{take-append-le, drop-append-le, length-drop}

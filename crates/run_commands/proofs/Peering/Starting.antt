@@ -1,10 +1,10 @@
 -- Before the first turn, and what a turn's answer says of a run.
 use Rattle.run_commands.proofs.Names.{◌≡◌, ◌∙◌, ℕ, ◌<◌, ◌≤◌, ◌+◌, List, [], ◌∷◌, length, take, refl, sym, subst, arith, stop-earlier}
-use Rattle.run_commands.proofs.Names.{IsWithin, ReadFails, StopCounts, Stop, slot_octets, Past, Going, after, over, SingleAfter, file_limit}
-use Rattle.run_commands.proofs.Names.{Makes, Single, LoneHearingsDeliver, LoneSpeakingTakesNothing, GoesOn-trans, KeepsName-trans}
-use Rattle.run_commands.proofs.Names.{CountsStand-trans, FolderState, octets_at, GoesOn, KeepsName, OnlyReads, CountsStand, KeepsAll}
-use Rattle.run_commands.proofs.Names.{CreatesPart, Creates, AreNoneOf, OnlyOutputs, FolderFault, IsDone, Reached, Names, turn_names}
-use Rattle.run_commands.proofs.Names.{inputs_of, outputs_of, FILE_LIMIT, Role}
+use Rattle.run_commands.proofs.Names.{IsWithin, ReadFails, StopCounts, Stop, LoneHearingsDeliver, LoneSpeakingTakesNothing, GoesOn-trans}
+use Rattle.run_commands.proofs.Names.{KeepsName-trans, CountsStand-trans, FolderState, octets_at, GoesOn, KeepsName, OnlyReads, CountsStand}
+use Rattle.run_commands.proofs.Names.{KeepsAll, CreatesPart, Creates, AreNoneOf, OnlyOutputs, FolderFault, IsDone, Reached, Names}
+use Rattle.run_commands.proofs.Names.{turn_names, inputs_of, outputs_of, FILE_LIMIT, Role, slot_octets, Past, Going, after, over}
+use Rattle.run_commands.proofs.Names.{SingleAfter, file_limit, Makes, Single}
 use Rattle.std.proofs.lemmas.List.{length-take}
 use Rattle.link_account.specs.Account.{fresh}
 use Rattle.stations.specs.Station.{file_at}

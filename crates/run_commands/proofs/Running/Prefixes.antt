@@ -7,7 +7,6 @@ use Rattle.run_commands.proofs.Names.{Both, of, other, Role, Originator, Answere
 use Rattle.shared_terms.specs.Prefix.{IsPrefixOf}
 use Rattle.link_run.specs.Run.{Link}
 use Rattle.link_run.specs.Laws.{RunsOver, HoldPrefixes}
-use Rattle.line_run.proofs.Leaving.{hearing-in}
 use Rattle.command_base.specs.declared.stop.Stop.TheVariants as stops
 use Rattle.outside_calls.specs.Outputs.{HoldsPart}
 use Rattle.run_inputs.specs.Words.{outputs_of}
@@ -16,6 +15,7 @@ use Rattle.run_inputs.specs.Files.{KeptOrPrefix}
 use Rattle.run_inputs.proofs.Files.{prefix-of, part-of, empty-of}
 use Rattle.line_ends.proofs.RunLaws.{runs-over}
 use Rattle.run_commands.specs.Running.Ends.{Ends as EndsSo}
+use Rattle.link_run.proofs.Only.{hearing-of}
 
 -- both received files
 pub record BothPrefix (old before : FolderState) (n : RunNames) : Type 0 where
@@ -68,7 +68,7 @@ stopped-prefix laws script files f n limits s role = by s.adds
     by : AddsTurn (wire_of script) link s.turns s.ends s.more ⊎ AddsChance (wire_of script) s.turns s.ends s.more
         → IsPrefixOf (of role s.left.got ++ of role s.more.got) (of (other role) link).user.file
     by (inl a) =
-        let hears = hearing-in link s.turns s.ends a.turn a.mid a.outcome a.is in
+        let hears = hearing-of link s.turns s.ends a.turn a.mid a.outcome a.is in
         let whole : HoldPrefixes link a.mid =
         laws.hears link (delay_of script) s.turns s.ends a.turn a.mid over
         (laws.one (wire_of script) s.turns a.turn a.heard) hears in

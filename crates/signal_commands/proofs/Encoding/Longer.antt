@@ -16,6 +16,7 @@ use Rattle.recordings.specs.Recording.{recording_octets}
 use Rattle.signal_commands.specs.Encoding.Recorder.{ModulatesAt}
 use Rattle.signal_commands.proofs.Encoding.Quarters.{sent_for, bit-lt, two-more, twos-behind}
 use Rattle.signal_commands.proofs.Decoding.Joined.{octet-behind as octet-bits-more}
+use Rattle.signal_commands.proofs.PickingUp.Longer.{tap-low}
 
 -- a code sequence stays among the states
 end-lt : (from : ℕ) (labels : List ℕ) (end : ℕ) → from < 8 → Leads next_state from labels end → end < 8
@@ -72,9 +73,6 @@ Modulates-more tap bits samples a b c d low h =
         points = ap (λ xs. xs ++ point_of label ∷ []) h.points ∙ sym (map-append point_of h.labels (label ∷ []));
       };
     }
-
-tap-low : (mode : Mode) → 1 ≤ tap_of mode
-tap-low mode = grind (arith)
 
 -- the samples of one octet more
 record LongerAt (rate : Rate) (tap : ℕ) (bits : List Bool) (samples : List Sample) : Type 0 where

@@ -7,7 +7,7 @@ use Rattle.signal_commands.specs.PickingUp.Laws.{LaterPiecesStandBehind}
 use Rattle.signal_commands.proofs.Decoding.Longer.{reads-on}
 
 -- a list without its first elements begins a longer one without them
-drop-front : {A : Type 0} (n : ℕ) (xs ys : List A) → (more : List A) × (drop n (xs ++ ys) ≡ drop n xs ++ more)
+pub drop-front : {A : Type 0} (n : ℕ) (xs ys : List A) → (more : List A) × (drop n (xs ++ ys) ≡ drop n xs ++ more)
 drop-front zero xs ys = (ys, refl)
 drop-front (suc n) [] ys = (drop (suc n) ys, refl)
 drop-front (suc n) (x ∷ xs) ys = drop-front n xs ys

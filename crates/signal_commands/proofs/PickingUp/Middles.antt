@@ -1,81 +1,42 @@
 -- What a recording gives that begins in the middle of what was sent.
 use Rattle.signal_commands.proofs.Names.{◌≡◌, ◌∙◌, ℕ, zero, suc, ◌+◌, ◌*◌, ◌<◌, ◌≤◌, Bool, List, length, map, take, drop, refl, sym, ap}
-use Rattle.signal_commands.proofs.Names.{None, ◌-◌, [], ◌∷◌, subst, arith, take-append-drop, take_all, length-take, flat_map, Found}
-use Rattle.signal_commands.proofs.Names.{IsReleased, LostIs, any_trellis, line_depth, low_bits, Modulates, IsPickedUp, tap_of, Descrambles}
-use Rattle.signal_commands.proofs.Names.{Mode, IsPrefixOf, point_of, Sample, Leads, next_state}
+use Rattle.signal_commands.proofs.Names.{None, ◌-◌, [], ◌∷◌, subst, arith, take-append-drop, take_all, length-take, Found, IsReleased}
+use Rattle.signal_commands.proofs.Names.{LostIs, any_trellis, line_depth, Modulates, IsPickedUp, tap_of, Mode, IsPrefixOf, point_of, Sample}
+use Rattle.signal_commands.proofs.Names.{Leads, next_state}
 use Rattle.std.proofs.Common.{length-drop, lt-ltb}
 use Rattle.std.proofs.Math.Seq.{take-nil}
-use Rattle.std.proofs.lemmas.List.{take_at, drop-take, drop-map, take-map, length-map}
-use Rattle.symbol_map.specs.Distance.{distance_of}
+use Rattle.std.proofs.lemmas.List.{take_at, drop-take, drop-map}
 use Rattle.symbol_map.proofs.Distances.{no_distance_from_equal}
-use Rattle.symbol_map.specs.Laws.{turned_label}
 use Rattle.trellis_tables.specs.Laws.{far_from}
 use Rattle.trellis_tables.specs.Sequences.{cost}
 use Rattle.trellis_tables.proofs.Sequences.{Leads-split}
 use Rattle.exact_decoder.specs.Surviving.V32.{at_any}
 use Rattle.line_coding.specs.Demodulates.{Demodulates}
 use Rattle.line_coding.proofs.Readings.{comes-back, four-each, first-stay}
-use Rattle.line_coding.proofs.Quads.{quads-turned}
 use Rattle.line_coding.proofs.Middle.{middle_is_sent}
 use Rattle.noise_bound.specs.Near.{sure_of_any, IsNear}
 use Rattle.line_coding.proofs.TurnedLabels.{leads-within}
+use Rattle.line_coding.proofs.TurnedLines.{labels_turned, length-turned, take-turned, unturned}
+use Rattle.noise_bound.proofs.Turned.{turned-near}
 use Rattle.noise_bound.proofs.NoiselessCosts.{length-points}
 use Rattle.noise_bound.proofs.Near.{releases-near_of_any, few-unreleased_any, few-without_noise, never-lost_any}
-use Rattle.line_coding.proofs.TurnedSequences.{all_states_turn}
-use Rattle.noise_bound.proofs.Turned.{near-turns}
 use Rattle.signal_commands.specs.PickingUp.Gives.{GivesPieces}
-use Rattle.signal_commands.specs.PickingUp.Middles.{turned_by, middle_of, noise_of, AreNear, AreHeardOf}
+use Rattle.signal_commands.specs.PickingUp.Middles.{middle_of, AreNear, AreHeardOf}
 use Rattle.signal_commands.specs.PickingUp.Middles.{MiddlesGiveWhatWasSent, MiddlesWithoutNoiseGiveMore, MiddlesAreNeverLost}
+use Rattle.noise_bound.specs.Margins.{distances}
+use Rattle.noise_bound.proofs.Margins.{distances-cost}
 
 tap-small : (mode : Mode) → (1 ≤ tap_of mode) × (tap_of mode ≤ 23)
 tap-small mode = grind (arith)
 
--- ---- turned labels
-
-abbrev labels_turned : ℕ → List ℕ → List ℕ
-labels_turned zero labels = labels
-labels_turned (suc turns) labels = map turned_label (labels_turned turns labels)
-
-length-turned : (turns : ℕ) (labels : List ℕ) → length (labels_turned turns labels) ≡ length labels
-length-turned zero labels = refl
-length-turned (suc turns) labels = length-map (labels_turned turns labels) turned_label ∙ length-turned turns labels
-
-take-turned : (turns n : ℕ) (labels : List ℕ) → take n (labels_turned turns labels) ≡ labels_turned turns (take n labels)
-take-turned zero n labels = refl
-take-turned (suc turns) n labels = take-map turned_label n (labels_turned turns labels) ∙ ap (map turned_label) (take-turned turns n labels)
-
--- they give what the labels give
-unturned : (tap turns : ℕ) (labels : List ℕ) (bits : List Bool) → IsPickedUp tap (labels_turned turns labels) bits
-    → IsPickedUp tap labels bits
-unturned tap zero labels bits h = h
-unturned tap (suc turns) labels bits h = unturned tap turns labels bits (record {
-  all = h.all;
-  descrambled = subst (λ (xs : List Bool). Descrambles tap xs h.all)
-      (ap (flat_map (low_bits 4)) (quads-turned (labels_turned turns labels))) h.descrambled;
-  bits_are = h.bits_are;
-})
-
-turned-near : (bound turns : ℕ) (labels : List ℕ) (samples : List Sample) → IsNear bound at_any labels samples
-    → IsNear bound at_any (labels_turned turns labels) (turned_by turns samples)
-turned-near bound zero labels samples h = h
-turned-near bound (suc turns) labels samples h =
-    near-turns bound at_any at_any (labels_turned turns labels) (turned_by turns samples) all_states_turn
-    (turned-near bound turns labels samples h)
-
 -- ---- noise
 
--- it is what the labels of points cost
-noise-cost : (labels : List ℕ) (samples : List Sample) → noise_of (map point_of labels) samples ≡ cost far_from labels samples
-noise-cost [] samples = refl
-noise-cost (label ∷ labels) [] = refl
-noise-cost (label ∷ labels) (sample ∷ samples) = ap (λ n. distance_of (point_of label) sample + n) (noise-cost labels samples)
-
 -- of the first samples there is no more
-noise-front : (n : ℕ) (sent heard : List Sample) → noise_of (take n sent) (take n heard) ≤ noise_of sent heard
-noise-front zero sent heard = omega arith
-noise-front (suc n) [] heard = omega arith
-noise-front (suc n) (point ∷ sent) [] = omega arith
-noise-front (suc n) (point ∷ sent) (sample ∷ heard) = omega (arith, noise-front n sent heard)
+distances-front : (n : ℕ) (sent heard : List Sample) → distances (take n sent) (take n heard) ≤ distances sent heard
+distances-front zero sent heard = omega arith
+distances-front (suc n) [] heard = omega arith
+distances-front (suc n) (point ∷ sent) [] = omega arith
+distances-front (suc n) (point ∷ sent) (sample ∷ heard) = omega (arith, distances-front n sent heard)
 
 drop-take-less : (cut n : ℕ) (xs : List Sample) → drop cut (take n xs) ≡ take (n - cut) (drop cut xs)
 drop-take-less zero n xs = let same : n - 0 ≡ n = omega arith in ap (λ k. take k xs) (sym same)
@@ -88,12 +49,12 @@ drop-take-less (suc cut) (suc n) (x ∷ xs) =
 pub near-front : (cut n : ℕ) (sent heard : List Sample) → AreNear cut sent heard → AreNear cut (take n sent) (take n heard)
 near-front cut n sent heard h = record {
   as_many = omega (arith, h.as_many, length-take n sent, length-take n heard);
-  near = subst (λ xs. noise_of xs (drop cut (take n heard)) < sure_of_any) (sym (drop-take-less cut n sent))
-      (subst (λ xs. noise_of (take (n - cut) (drop cut sent)) xs < sure_of_any) (sym (drop-take-less cut n heard))
-      (omega (arith, h.near, noise-front (n - cut) (drop cut sent) (drop cut heard))));
+  near = subst (λ xs. distances xs (drop cut (take n heard)) < sure_of_any) (sym (drop-take-less cut n sent))
+      (subst (λ xs. distances (take (n - cut) (drop cut sent)) xs < sure_of_any) (sym (drop-take-less cut n heard))
+      (omega (arith, h.near, distances-front (n - cut) (drop cut sent) (drop cut heard))));
 }
 
-no-noise : (samples : List Sample) → noise_of samples samples ≡ 0
+no-noise : (samples : List Sample) → distances samples samples ≡ 0
 no-noise [] = refl
 no-noise (sample ∷ samples) = omega (arith, no-noise samples, no_distance_from_equal sample sample refl)
 
@@ -110,10 +71,10 @@ module _ (mode : Mode) (sent : List Bool) (samples heard : List Sample) (cut tur
   long : length tail ≡ length (drop cut heard)
   long = grind (arith, exact, length-points, length-drop)
 
-  costs : cost far_from tail (drop cut heard) ≡ noise_of (drop cut samples) (drop cut heard)
-  costs = sym (noise-cost tail (drop cut heard)) ∙ ap (λ xs. noise_of xs (drop cut heard)) (sym exact)
+  costs : cost far_from tail (drop cut heard) ≡ distances (drop cut samples) (drop cut heard)
+  costs = sym (distances-cost tail (drop cut heard)) ∙ ap (λ xs. distances xs (drop cut heard)) (sym exact)
 
-  tail-near : (bound : ℕ) → noise_of (drop cut samples) (drop cut heard) < bound → IsNear bound at_any tail (drop cut heard)
+  tail-near : (bound : ℕ) → distances (drop cut samples) (drop cut heard) < bound → IsNear bound at_any tail (drop cut heard)
   tail-near bound few =
       let split = Leads-split next_state 0 (take cut m.labels) tail m.end
       (subst (λ labels. Leads next_state 0 labels m.end) (sym (take-append-drop cut m.labels)) m.encoded.leads) in
@@ -182,7 +143,7 @@ module _ (mode : Mode) (sent : List Bool) (samples heard : List Sample) (cut tur
     gives-near = gives 116 (few-unreleased_any at_any (length (middle_of cut turns heard)) (labels_turned turns tail) g.labels
         (middle_of cut turns heard) (omega arith) near released)
 
-    pub gives-exact : noise_of (drop cut samples) (drop cut heard) < 1 → AreHeardOf 116 sent cut g.bits
+    pub gives-exact : distances (drop cut samples) (drop cut heard) < 1 → AreHeardOf 116 sent cut g.bits
     gives-exact none =
         let without : IsNear 1 at_any (labels_turned turns tail) (middle_of cut turns heard) =
         turned-near 1 turns tail (drop cut heard) (tail-near 1 none) in
@@ -194,7 +155,7 @@ middles-give-what-was-sent mode sent samples heard cut turns pieces m h g = give
 
 pub middles-without-noise-give-more : MiddlesWithoutNoiseGiveMore
 middles-without-noise-give-more mode sent samples cut turns pieces m g =
-    let none : noise_of (drop cut samples) (drop cut samples) ≡ 0 = no-noise (drop cut samples) in
+    let none : distances (drop cut samples) (drop cut samples) ≡ 0 = no-noise (drop cut samples) in
     let near : AreNear cut samples samples = record { as_many = refl; near = omega (arith, none) } in
     gives-exact mode sent samples samples cut turns m near pieces g (omega (arith, none))
 

@@ -1,35 +1,25 @@
 -- What a recording gives that begins in the middle of what was sent.
-use Rattle.std.specs.Prelude.{◌≡◌, ℕ, zero, suc, ◌+◌, ◌*◌, ◌<◌, ◌≤◌, Bool, List, [], ◌∷◌, length, map, take, drop, None}
+use Rattle.std.specs.Prelude.{◌≡◌, ℕ, ◌+◌, ◌*◌, ◌<◌, ◌≤◌, Bool, List, length, take, drop, None}
 use Rattle.scramblers.specs.declared.mode.Mode.{Mode}
 use Rattle.scramblers.specs.Mode.{tap_of}
 use Rattle.symbol_map.specs.declared.sample.Sample.{Sample}
-use Rattle.symbol_map.specs.Distance.{distance_of, quarter_turned}
 use Rattle.exact_decoder.specs.Surviving.Survivors.{LostIs}
 use Rattle.exact_decoder.specs.Surviving.V32.{any_trellis, line_depth}
 use Rattle.bit_stuffing.specs.Found.{Found}
 use Rattle.line_coding.specs.Modulates.{Modulates}
+use Rattle.line_coding.specs.QuarterTurns.{turned_by}
 use Rattle.noise_bound.specs.Near.{sure_of_any}
+use Rattle.noise_bound.specs.Margins.{distances}
 use Rattle.signal_commands.specs.PickingUp.Gives.{GivesPieces}
-
--- samples after so many quarter turns
-abbrev pub turned_by : ℕ → List Sample → List Sample
-turned_by zero samples = samples
-turned_by (suc turns) samples = map quarter_turned (turned_by turns samples)
 
 -- what is left of samples whose first ones aren't there, after so many quarter turns
 abbrev pub middle_of : ℕ → ℕ → List Sample → List Sample
 middle_of cut turns samples = turned_by turns (drop cut samples)
 
--- the squared distances of samples from others at the same places, in all
-abbrev pub noise_of : List Sample → List Sample → ℕ
-noise_of [] heard = 0
-noise_of (point ∷ sent) [] = 0
-noise_of (point ∷ sent) (sample ∷ heard) = distance_of point sample + noise_of sent heard
-
 -- Samples are heard as they were sent, each, with noise of less than a square of a map unit in all from a place on.
 pub record AreNear (cut : ℕ) (sent heard : List Sample) : Type 0 where
   pub as_many : length heard ≡ length sent
-  pub near : noise_of (drop cut sent) (drop cut heard) < sure_of_any
+  pub near : distances (drop cut sent) (drop cut heard) < sure_of_any
 
 -- Of what was sent these bits are heard, where so many of the first symbols aren't there: those behind the first 27 that are there, but for
 -- so many at the end at most.

@@ -20,6 +20,7 @@ use Rattle.stations.specs.declared.one_end.single.Single.{Single}
 use Rattle.stations.specs.declared.one_end.step.SingleFault.TheVariants as faults
 use Rattle.stations.specs.declared.one_end.step.SingleStep.{SingleStep}
 use Rattle.stations.specs.declared.one_end.step.SingleStep.TheVariants as steps
+use Rattle.link_run.proofs.Overhearing.{same-ok}
 
 -- ---- the end
 
@@ -123,13 +124,6 @@ pub record Comes (party-role : Role) (p : Past) (slot : List ℕ) (arrived : Arr
   pub outcome : Outcome
   pub is : PeerTurn party-role p slot turn octets outcome
 
-abbrev answer-of : Account → Result Account LinkFault → Account
-answer-of mid (Ok a) = a
-answer-of mid (Err fault) = mid
-
-same-mid : (r : Result Account LinkFault) (mid once : Account) → r ≡ Ok mid → r ≡ Ok once → mid ≡ once
-same-mid r mid once e f = sym (ap (answer-of mid) e) ∙ ap (answer-of mid) f
-
 never-both : (r : Result Account LinkFault) (mid : Account) (fault : LinkFault) → r ≡ Ok mid → r ≡ Err fault → ⊥
 never-both r mid fault e f = false≢true (sym (ap is_ok f) ∙ ap is_ok e)
 
@@ -138,7 +132,7 @@ pub comes : EachLoneTurnIsMade → (s : Single) (p : Past) (slot : List ℕ) (ar
 comes law s p slot arrived mid now h = by (law (party_of s.role p.file) p.turns p.account arrived)
   where
     same : (once : Account) → hear (length p.turns) arrived p.account ≡ Ok once → concat (deliveries mid) ≡ concat (deliveries once)
-    same once e = ap (λ (a : Account). concat (deliveries a)) (same-mid (hear (length p.turns) arrived p.account) mid once h.hears e)
+    same once e = ap (λ (a : Account). concat (deliveries a)) (same-ok (hear (length p.turns) arrived p.account) mid once h.hears e)
 
     by : LoneNext (party_of s.role p.file) p.turns p.account arrived → Comes s.role p slot arrived (concat (deliveries mid))
     by (Goes_on sent given next g) =

@@ -3,7 +3,7 @@
 use shared_terms::LinkFault;
 
 /// What comes after a turn.
-#[derive(Clone, Copy, PartialEq, Eq)]
+#[derive(Clone, Copy)]
 pub enum SingleStep {
     /// The link goes on.
     Going,
@@ -12,7 +12,7 @@ pub enum SingleStep {
 }
 
 /// Why there is no further turn.
-#[derive(Clone, Copy, PartialEq, Eq)]
+#[derive(Clone, Copy)]
 pub enum SingleFault {
     /// The user's file was not read.
     ReadFault,

@@ -1,4 +1,4 @@
-use Rattle.std.proofs.Common.{arith}
+use Rattle.detection.proofs.Names.{arith}
 use Rattle.detection.proofs.Written.{pattern-plain, mark-plain}
 use Rattle.detection.proofs.laws.patterns_are_plain.Goals as goal
 

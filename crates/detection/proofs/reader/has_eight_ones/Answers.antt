@@ -1,4 +1,5 @@
-use Rattle.std.proofs.lemmas.Bool.{eqb-true, not-false}
+use Rattle.detection.proofs.Names.{eqb-true}
+use Rattle.std.proofs.lemmas.Bool.{not-false}
 use Rattle.detection.proofs.Quiet.{eight-ones}
 use Rattle.detection.proofs.reader.has_eight_ones.Goals as goal
 

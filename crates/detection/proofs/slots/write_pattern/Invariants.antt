@@ -1,4 +1,4 @@
-use Rattle.std.proofs.Common.{◌≡◌, ◌++◌, take}
+use Rattle.detection.proofs.Names.{◌≡◌, ◌++◌, take}
 use Rattle.detection.proofs.slots.write_pattern.Given as goal
 
 abbrev pub invariant-loop-quad : goal.invariant-loop-quad

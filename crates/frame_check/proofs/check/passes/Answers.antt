@@ -1,5 +1,5 @@
-use Rattle.std.proofs.Common.{◌≡◌, ◌≤◌, length, arith, ◌∙◌, subst}
-use Rattle.frame_check.specs.Division.{check_of, count_of}
+use Rattle.frame_check.proofs.Names.{◌≡◌, ◌≤◌, length, arith, ◌∙◌, subst, count_of}
+use Rattle.frame_check.specs.Division.{check_of}
 use Rattle.frame_check.proofs.Checks.{too_short, decides}
 use Rattle.frame_check.proofs.check.passes.Goals as goal
 

@@ -1,4 +1,4 @@
-use Rattle.std.proofs.Common.{refl}
+use Rattle.frame_check.proofs.Names.{refl}
 use Rattle.frame_check.proofs.laws.sizes.Goals as goal
 
 pub returns-clause-slot : goal.returns-clause-slot

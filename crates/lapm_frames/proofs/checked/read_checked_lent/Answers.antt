@@ -1,12 +1,13 @@
 use Rattle.lapm_frames.proofs.Names.{Ok, Err, arith, refl, SpellsFrame, Refused}
 use Rattle.lapm_frames.specs.Checked.{SpellsFault}
-use Rattle.lapm_frames.proofs.Checking.{all-checked, all-checked-faults, front-is, long-enough}
+use Rattle.lapm_frames.proofs.Checking.{all-checked, all-checked-faults, front-is}
 use Rattle.lapm_frames.proofs.checked.read_checked_lent.Goals as goal
 use Rattle.lapm_frames.proofs.checked.read_checked_lent.Goals.{In-Ok, In-Err}
+use Rattle.frame_check.proofs.Checks.{long_enough}
 
 pub overflow_sub-octets : goal.overflow_sub-octets
 overflow_sub-octets c =
-    omega (arith, c.len.ensures, long-enough c.check_heard-used.result c.args.octets.now (c.passes.ensures.0 c.if-not-passes.false))
+    omega (arith, c.len.ensures, long_enough c.check_heard-used.result c.args.octets.now (c.passes.ensures.0 c.if-not-passes.false))
 
 frame_is_right : (c : In-Ok) → SpellsFrame c.args.check c.args.sender c.args.dlci c.args.octets.now c.in-Ok.frame
 frame_is_right c = record {

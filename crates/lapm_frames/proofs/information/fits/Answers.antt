@@ -1,4 +1,4 @@
-use Rattle.std.proofs.Common.{arith}
+use Rattle.lapm_frames.proofs.Names.{arith}
 use Rattle.lapm_frames.proofs.information.fits.Goals as goal
 
 pub returns-clause-ok : goal.returns-clause-ok

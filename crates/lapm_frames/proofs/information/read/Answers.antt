@@ -1,5 +1,5 @@
-use Rattle.std.proofs.Common.{◌≡◌, ◌+◌, ◌-◌, length, take, drop, arith, length-take, length-drop, ℕ}
-use Rattle.std.proofs.lemmas.Result.{err_from_is_err_and}
+use Rattle.lapm_frames.proofs.Names.{◌≡◌, ◌+◌, ◌-◌, length, take, arith, ℕ, err_from_is_err_and}
+use Rattle.std.proofs.Common.{drop, length-take, length-drop}
 use Rattle.lapm_frames.proofs.Faults.{information-control, information-short, information-long}
 use Rattle.lapm_frames.proofs.information.read.Goals as goal
 

@@ -1,4 +1,4 @@
-use Rattle.std.proofs.Common.{length}
+use Rattle.lapm_frames.proofs.Names.{length}
 use Rattle.lapm_frames.proofs.kind.+first_named.Given as goal
 
 abbrev pub decreases-first_named : goal.decreases-first_named

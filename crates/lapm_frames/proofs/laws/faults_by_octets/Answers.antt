@@ -1,4 +1,4 @@
-use Rattle.std.proofs.Common.{refl, []}
+use Rattle.lapm_frames.proofs.Names.{refl, []}
 use Rattle.lapm_frames.proofs.Faults.{nothing-short}
 use Rattle.lapm_frames.proofs.RowLemmas.{wrong-address, lone-address, wrong-control, no-number, too-many}
 use Rattle.lapm_frames.proofs.laws.faults_by_octets.Goals as goal

@@ -1,4 +1,4 @@
-use Rattle.lapm_frames.specs.Checked.{check_for}
+use Rattle.lapm_frames.proofs.Names.{check_for}
 use Rattle.lapm_frames.proofs.Checking.{kind-heard, sixteen-heard}
 use Rattle.lapm_frames.proofs.laws.judged.Goals as goal
 

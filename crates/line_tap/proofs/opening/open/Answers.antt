@@ -2,8 +2,9 @@ use Rattle.line_tap.proofs.Cited.{inl, inr, [], ◌∷◌, stop-earlier, ReadTo-
 use Rattle.line_tap.proofs.Cited.{CountsStand-trans, FolderState, OnlyReads, Call}
 use Rattle.command_base.proofs.Reading.{ReadTo-none}
 use Rattle.line_tap.specs.declared.limits.TheConstants.{TAP_LIMIT, LIMITS}
-use Rattle.line_tap.proofs.HeaderRead.{inputs-refused, both-read, header-read, orig-refused, answ-refused, stop-widened}
+use Rattle.line_tap.proofs.HeaderRead.{inputs-refused, both-read, header-read, orig-refused, answ-refused}
 use Rattle.line_tap.proofs.opening.open.Goals as goal
+use Rattle.run_inputs.proofs.Looking.{of-more}
 
 pub returns-in-Err : goal.returns-in-Err
 returns-in-Err g c = record {
@@ -28,7 +29,7 @@ returns-in-Err-open_header g c =
           (c.in-Err-open_header.ensures.counts []));
       reads = OnlyReads-trans c.in-Ok.ensures.reads c.in-Err-open_header.ensures.reads;
       counts = λ outputs. stop-earlier _ _ _ (inputs_of n) outputs c.in-Err-open_header.stop (c.in-Ok.ensures.counts outputs)
-          (stop-widened _ _ (n.rec_o ∷ []) (inputs_of n) outputs c.in-Err-open_header.stop
+          (of-more _ _ (n.rec_o ∷ []) (inputs_of n) outputs c.in-Err-open_header.stop
           (λ some. elim some [ inl rose ↦ inl rose | inr never ↦ absurd never ]) (c.in-Err-open_header.ensures.counts outputs));
     }
 
@@ -81,6 +82,6 @@ returns-in-Err-open_header-2 g c =
           OnlyReads-trans (OnlyReads-trans c.in-Ok.ensures.reads c.in-Ok-open_header.ensures.reads) c.in-Err-open_header-2.ensures.reads;
       counts = λ outputs. stop-earlier old n2 _ (inputs_of n) outputs c.in-Err-open_header-2.stop
           (CountsStand-trans (c.in-Ok.ensures.counts outputs) c.in-Ok-open_header.ensures.stand)
-          (stop-widened n2 _ (n.rec_a ∷ []) (inputs_of n) outputs c.in-Err-open_header-2.stop
+          (of-more n2 _ (n.rec_a ∷ []) (inputs_of n) outputs c.in-Err-open_header-2.stop
           (λ some. elim some [ inl rose ↦ inr (inl rose) | inr never ↦ absurd never ]) (c.in-Err-open_header-2.ensures.counts outputs));
     }

@@ -1,5 +1,4 @@
-use Rattle.std.proofs.Common.{sym, ap}
-use Rattle.line_texts.specs.LineText.{is_chance}
+use Rattle.line_texts.proofs.Names.{sym, ap, is_chance}
 use Rattle.line_texts.proofs.slots.is_chance.Goals as goal
 
 pub returns-in-Chance : goal.returns-in-Chance

@@ -1,5 +1,4 @@
-use Rattle.std.proofs.Common.{◌++◌, codes, append_assoc, sym, ◌∙◌, ap}
-use Rattle.line_texts.specs.LineText.{slot_word, heard_word}
+use Rattle.line_texts.proofs.Names.{◌++◌, codes, append_assoc, sym, ◌∙◌, ap, slot_word, heard_word}
 use Rattle.line_texts.proofs.slots.put_heard.Goals as goal
 
 pub returns-in-Lost-clause-text : goal.returns-in-Lost-clause-text

@@ -1,6 +1,5 @@
-use Rattle.std.proofs.Common.{◌≡◌, ◌++◌, codes, append_assoc, refl, ◌∙◌, ap}
-use Rattle.std.specs.Option.{option_map}
-use Rattle.line_texts.specs.FrameText.{direction_word, if_numbered, poll_word, information_words, text_of}
+use Rattle.line_texts.proofs.Names.{◌≡◌, ◌++◌, codes, append_assoc, refl, ◌∙◌, ap, option_map, direction_word, if_numbered, poll_word}
+use Rattle.line_texts.proofs.Names.{information_words, text_of}
 use Rattle.line_texts.proofs.text.put_frame_text.Goals as goal
 
 pub returns-clause-text : goal.returns-clause-text

@@ -1,6 +1,4 @@
-use Rattle.std.proofs.Common.{◌++◌, ◌∙◌, ap}
-use Rattle.std.specs.Option.{option_map}
-use Rattle.line_texts.specs.LineText.{sent_word, break_word}
+use Rattle.line_texts.proofs.Names.{◌++◌, ◌∙◌, ap, option_map, sent_word, break_word}
 use Rattle.line_texts.proofs.trace_line.put_reply.Goals as goal
 
 pub returns-clause-text : goal.returns-clause-text

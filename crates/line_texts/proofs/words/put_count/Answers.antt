@@ -1,6 +1,4 @@
-use Rattle.std.proofs.Common.{◌++◌, sym, ◌∙◌, ap}
-use Rattle.std.specs.Option.{option_map}
-use Rattle.line_texts.specs.FrameText.{if_informed}
+use Rattle.line_texts.proofs.Names.{◌++◌, sym, ◌∙◌, ap, option_map, if_informed}
 use Rattle.line_texts.proofs.words.put_count.Goals as goal
 
 pub returns-in-Some-clause-text : goal.returns-in-Some-clause-text

@@ -1,4 +1,4 @@
-use Rattle.std.proofs.Common.{◌≤◌, ◌+◌, length, sym, subst, ◌∙◌, append_assoc}
+use Rattle.line_texts.proofs.Names.{◌≤◌, ◌+◌, length, sym, subst, ◌∙◌, append_assoc}
 use Rattle.line_texts.proofs.Fits.{length-labelled}
 use Rattle.line_texts.proofs.words.put_labelled.Goals as goal
 

@@ -1,9 +1,4 @@
-use Rattle.std.proofs.Common.{◌≡◌, ◌∙◌, sym, arith, Err}
-use Rattle.command_base.specs.declared.stop.Stop.{Stop}
-use Rattle.link_pair.specs.Answers.{last_turn_of, result_of}
-use Rattle.link_pair.specs.Half.{run_end}
-use Rattle.link_pair.specs.Pairs.Ends.{end_of}
-use Rattle.link_pair.specs.declared.half.LinkEnd.{LinkEnd}
+use Rattle.link_pair.proofs.Names.{◌≡◌, ◌∙◌, sym, arith, Err, Stop, last_turn_of, result_of, run_end, end_of, LinkEnd}
 use Rattle.link_pair.proofs.command.last_turns.Goals as goal
 
 -- where the first link isn't done, that is how the pair ends

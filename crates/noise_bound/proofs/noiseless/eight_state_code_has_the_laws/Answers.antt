@@ -1,5 +1,5 @@
-use Rattle.std.proofs.Common.{refl, nat_eq, ◌<◌, subst, sym}
-use Rattle.std.proofs.lemmas.Bool.{eq-eqb, eqb-true}
+use Rattle.noise_bound.proofs.Names.{refl, nat_eq, ◌<◌, subst, sym, eqb-true}
+use Rattle.std.proofs.lemmas.Bool.{eq-eqb}
 use Rattle.noise_bound.proofs.noiseless.eight_state_code_has_the_laws.Goals as goal
 
 pub returns : goal.returns

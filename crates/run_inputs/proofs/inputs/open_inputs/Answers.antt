@@ -1,6 +1,4 @@
-use Rattle.std.proofs.Common.{ℕ, List, [], map, Bor}
-use Rattle.outside_calls.specs.Folder.{FolderState}
-use Rattle.outside_calls.proofs.Steps.{CountsStand-trans}
+use Rattle.run_inputs.proofs.Names.{ℕ, List, [], map, Bor, CountsStand-trans, FolderState}
 use Rattle.run_inputs.proofs.Looking.{opens, counts-script, counts-files, refused-script, refused-files}
 use Rattle.run_inputs.proofs.inputs.open_inputs.Goals as goal
 

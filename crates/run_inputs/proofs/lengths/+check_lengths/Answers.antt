@@ -1,9 +1,6 @@
-use Rattle.std.proofs.Common.{◌≡◌, ◌+◌, ◌∷◌, map, ℕ, List, Bor, OnOk, ap, subst, sym}
-use Rattle.outside_calls.specs.Folder.{FolderState}
-use Rattle.command_base.specs.declared.stop.Stop.{Stop}
-use Rattle.command_base.specs.Stops.{EndCounts}
+use Rattle.run_inputs.proofs.Names.{◌≡◌, ◌+◌, ◌∷◌, map, ℕ, List, Bor, OnOk, ap, subst, sym, EndCounts, Stop, FolderState, AreWithin}
+use Rattle.run_inputs.proofs.Names.{TellOctets, RefusesLengths}
 use Rattle.command_base.proofs.Saying.{if-err-map}
-use Rattle.run_inputs.specs.Lengths.{AreWithin, TellOctets, RefusesLengths}
 use Rattle.run_inputs.proofs.Looking.{within-all, octets-all, refused-later, counts-later}
 use Rattle.run_inputs.proofs.lengths.+check_lengths.Goals as goal
 

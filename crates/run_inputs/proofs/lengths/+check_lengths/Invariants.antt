@@ -1,4 +1,4 @@
-use Rattle.std.proofs.Common.{length}
+use Rattle.run_inputs.proofs.Names.{length}
 use Rattle.run_inputs.proofs.lengths.+check_lengths.Given as goal
 
 abbrev pub decreases-check_lengths : goal.decreases-check_lengths

@@ -1,7 +1,6 @@
-use Rattle.std.proofs.Common.{◌≡◌, ◌≤◌, ◌∙◌, ℕ, List, [], ◌∷◌, length, subst, sym}
-use Rattle.outside_calls.specs.Folder.{FolderState, octets_at}
-use Rattle.outside_calls.proofs.Steps.{told_later, octets-kept, OnlyReads-trans, CountsStand-trans}
-use Rattle.command_base.proofs.Jobs.{stop-earlier}
+use Rattle.run_inputs.proofs.Names.{◌≡◌, ◌≤◌, ◌∙◌, ℕ, List, [], ◌∷◌, length, subst, sym, stop-earlier, told_later, octets-kept}
+use Rattle.run_inputs.proofs.Names.{CountsStand-trans, FolderState, octets_at}
+use Rattle.outside_calls.proofs.Steps.{OnlyReads-trans}
 use Rattle.noise_script.specs.Grammar.{ScriptSpelling, FirstFault, IsFaultOf}
 use Rattle.run_inputs.proofs.Looking.{counts-first, script-longer, script-not-held, counts-held}
 use Rattle.run_inputs.proofs.script.open_script.Goals as goal

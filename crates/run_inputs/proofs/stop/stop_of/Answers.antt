@@ -1,4 +1,4 @@
-use Rattle.std.proofs.Common.{sym, ap}
+use Rattle.run_inputs.proofs.Names.{sym, ap}
 use Rattle.run_inputs.specs.Answers.{fault_stop}
 use Rattle.run_inputs.proofs.stop.stop_of.Goals as goal
 

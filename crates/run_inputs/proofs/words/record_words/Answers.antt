@@ -1,4 +1,4 @@
-use Rattle.std.proofs.Common.{sym}
+use Rattle.run_inputs.proofs.Names.{sym}
 use Rattle.run_inputs.proofs.Places.{eight}
 use Rattle.run_inputs.proofs.words.record_words.Goals as goal
 

@@ -1,7 +1,8 @@
 use Rattle.sample_line.proofs.Names.{◌+◌, List, [], ◌∷◌, ◌++◌, length, sym, ap, subst, ◌∙◌, option_to_list, seen_at, sights_at, Seen}
 use Rattle.sample_line.proofs.Names.{Tallies}
-use Rattle.sample_line.proofs.Finding.{sights-more, kinds-at}
+use Rattle.sample_line.proofs.Finding.{kinds-at}
 use Rattle.sample_line.proofs.receiver.with_bit_seen.Goals as goal
+use Rattle.detection.proofs.Sightings.{sights-more}
 
 pub returns-clause-tallied : goal.returns-clause-tallied
 returns-clause-tallied c = λ sender dlci bits octets patterns h tallied.

@@ -2,8 +2,9 @@ use Rattle.std.proofs.Common.{◌≡◌, ◌∙◌, ℤ, ◌+ℤ◌, arith}
 use Rattle.std.specs.Int.{w32, cast_signed, cast_unsigned}
 use Rattle.std.proofs.lemmas.Int.{ints}
 use Rattle.sample_line.specs.Recorded.{saturated}
-use Rattle.sample_line.proofs.Standing.{same-saturated, same-sample}
+use Rattle.sample_line.proofs.Standing.{same-saturated}
 use Rattle.sample_line.proofs.transmitter.displaced.Goals as goal
+use Rattle.symbol_map.proofs.Distances.{same_sample}
 
 pub returns : goal.returns
 returns c =
@@ -17,4 +18,4 @@ returns c =
     same-saturated c.saturated.result re_sum (c.args.offset.re +ℤ c.args.point.re) c.saturated.ensures re_is in
     let im : c.saturated-2.result ≡ saturated (c.args.offset.im +ℤ c.args.point.im) =
     same-saturated c.saturated-2.result im_sum (c.args.offset.im +ℤ c.args.point.im) c.saturated-2.ensures im_is in
-    same-sample _ _ (omega (arith, ints, c.saturated.type_inv) ∙ re) (omega (arith, ints, c.saturated-2.type_inv) ∙ im)
+    same_sample _ _ (omega (arith, ints, c.saturated.type_inv) ∙ re) (omega (arith, ints, c.saturated-2.type_inv) ∙ im)

@@ -1,4 +1,4 @@
-use Rattle.std.proofs.Common.{◌∙◌, ◌-◌, ◌/◌, ◌^◌}
+use Rattle.scramblers.proofs.Names.{◌∙◌, ◌-◌, ◌/◌, ◌^◌}
 use Rattle.scramblers.proofs.Registers.{bit_at-rem, bit_at-quotient}
 use Rattle.scramblers.proofs.register.octet_before.Goals as goal
 

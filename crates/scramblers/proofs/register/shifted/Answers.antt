@@ -1,4 +1,4 @@
-use Rattle.std.proofs.Common.{rules}
+use Rattle.scramblers.proofs.Names.{rules}
 use Rattle.scramblers.proofs.Registers.{Holds-shifted}
 use Rattle.scramblers.proofs.register.shifted.Goals as goal
 

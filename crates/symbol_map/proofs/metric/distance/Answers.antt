@@ -1,8 +1,5 @@
-use Rattle.std.proofs.Common.{◌≡◌, ℕ, ◌+◌, ◌*◌, ◌∙◌, ap, arith}
-use Rattle.std.proofs.lemmas.Int.{ints}
-use Rattle.std.specs.Int.{cast_signed, cast_unsigned, w16}
-use Rattle.std.specs.Prelude.{ℤ, ◌-ℤ◌, unsigned_abs}
-use Rattle.symbol_map.specs.Distance.{squared_gap}
+use Rattle.symbol_map.proofs.Names.{◌≡◌, ℕ, ◌+◌, ◌*◌, ◌∙◌, ap, arith, ints, cast_signed, cast_unsigned, w16, ℤ, ◌-ℤ◌, unsigned_abs}
+use Rattle.symbol_map.proofs.Names.{squared_gap}
 use Rattle.symbol_map.proofs.metric.distance.Goals as goal
 
 square : (gap : ℕ) (a b p q : ℤ) → gap ≡ unsigned_abs (p -ℤ q) → p ≡ a → q ≡ b → gap * gap ≡ squared_gap a b

@@ -1,20 +1,21 @@
 use Rattle.trace_audit.proofs.Cited.{◌∙◌, sym, ap, subst, List, ℕ, ◌++◌, drop, length, Decides-eqb, OwnDiffers}
 use Rattle.std.proofs.lemmas.Slice.Eq.{starts_is}
-use Rattle.trace_audit.proofs.Windows.{stops-fed, goes-on, stops-within, departs, equal, unequal, empty, full, false-no}
+use Rattle.trace_audit.proofs.Windows.{stops-fed, goes-on, stops-within, departs, unequal, empty, full, false-no}
 use Rattle.trace_audit.proofs.difference.difference.Goals as goal
 use Rattle.trace_audit.proofs.difference.difference.Goals.{else-is_empty-2-via-then-is_empty-2+else-starts_with}
 use Rattle.trace_audit.proofs.difference.difference.Goals.{else-is_empty-2-via-else-is_empty-2}
+use Rattle.trace_audit.proofs.Frames.{same-bytes}
 
 pub returns-then-is_empty : goal.returns-then-is_empty
 returns-then-is_empty c = λ rest is_window.
     stops-fed c.args.line.now c.args.window.now rest c.requires.line c.requires.read.1.short is_window
-    (sym c.cut_line.ensures.front ∙ equal _ _ (sym c.eq.ensures ∙ c.if-eq.true))
+    (sym c.cut_line.ensures.front ∙ same-bytes _ _ (sym c.eq.ensures ∙ c.if-eq.true))
     (sym c.cut_line.ensures.rest ∙ empty _ (sym c.is_empty.ensures ∙ c.if-is_empty.true))
 
 pub returns-else-is_empty : goal.returns-else-is_empty
 returns-else-is_empty c = λ rest is_window.
     goes-on c.args.line.now c.args.window.now rest c.requires.line c.requires.read.1.short is_window
-    (sym c.cut_line.ensures.front ∙ equal _ _ (sym c.eq.ensures ∙ c.if-eq.true))
+    (sym c.cut_line.ensures.front ∙ same-bytes _ _ (sym c.eq.ensures ∙ c.if-eq.true))
     (λ e. full _ (sym c.is_empty.ensures ∙ c.if-is_empty.false) (c.cut_line.ensures.rest ∙ e))
 
 pub returns-then-starts_with : goal.returns-then-starts_with

@@ -1,5 +1,4 @@
-use Rattle.std.proofs.Common.{ap, sym}
-use Rattle.trace_audit.specs.Turns.{found_end}
+use Rattle.trace_audit.proofs.Cited.{ap, sym, found_end}
 use Rattle.trace_audit.proofs.turns.found_end.Goals as goal
 
 pub returns-in-Err : goal.returns-in-Err

@@ -1,4 +1,4 @@
-use Rattle.std.proofs.Common.{refl}
+use Rattle.trellis_tables.proofs.Names.{refl}
 use Rattle.trellis_tables.proofs.rotation.rotate_state.Goals as goal
 
 pub returns-clause-value : goal.returns-clause-value

@@ -1,4 +1,4 @@
-use Rattle.std.proofs.Common.{◌<◌, ◌≤◌, ap, sym, subst, arith}
+use Rattle.trellis_tables.proofs.Names.{◌<◌, ◌≤◌, ap, sym, subst, arith}
 use Rattle.trellis_tables.proofs.Tables.{branch-there, next_by_y-lt}
 use Rattle.trellis_tables.proofs.table.branch_by.Goals as goal
 

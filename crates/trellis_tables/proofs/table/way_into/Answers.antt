@@ -1,4 +1,4 @@
-use Rattle.std.proofs.Common.{refl}
+use Rattle.trellis_tables.proofs.Names.{refl}
 use Rattle.trellis_tables.proofs.table.way_into.Goals as goal
 
 pub returns-clause-before : goal.returns-clause-before

@@ -1,4 +1,4 @@
-use Rattle.std.proofs.Common.{[], refl}
+use Rattle.line_coding.proofs.Names.{[], refl}
 use Rattle.line_coding.proofs.middle_reader.MiddleReader.new.Goals as goal
 
 pub returns-clause-stands : goal.returns-clause-stands

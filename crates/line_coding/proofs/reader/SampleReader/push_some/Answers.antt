@@ -1,5 +1,5 @@
-use Rattle.std.proofs.Common.{◌≤◌, ◌+◌, MatchResult, length, sym, subst}
-use Rattle.line_coding.specs.Reading.{Reading, SamplesRead}
+use Rattle.line_coding.proofs.Names.{◌≤◌, ◌+◌, length, sym, subst, Reading, SamplesRead}
+use Rattle.std.proofs.Common.{MatchResult}
 use Rattle.line_coding.proofs.reader.SampleReader.push_some.Goals as goal
 
 pub returns : goal.returns

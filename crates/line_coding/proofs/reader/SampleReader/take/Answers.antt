@@ -1,6 +1,6 @@
-use Rattle.std.proofs.Common.{◌≡◌, ◌∙◌, ℕ, ◌+◌, List, [], ◌∷◌, ◌++◌, length, drop, sym, ap, subst, append-nil, arith}
+use Rattle.line_coding.proofs.Names.{◌≡◌, ◌∙◌, ℕ, ◌+◌, List, [], ◌∷◌, ◌++◌, length, drop, sym, ap, subst, append-nil, arith, Reading}
+use Rattle.line_coding.proofs.Names.{SamplesRead}
 use Rattle.exact_decoder.specs.Decoder.{Decoding, DecoderStands}
-use Rattle.line_coding.specs.Reading.{Reading, SamplesRead}
 use Rattle.line_coding.proofs.reader.SampleReader.take.Goals as goal
 
 one-more : (label : ℕ) (labels : List ℕ) → length (label ∷ labels) ≡ length labels + 1

@@ -1,8 +1,8 @@
 use Rattle.line_tap.proofs.Cited.{◌≡◌, ◌%◌, ◌++◌, length, refl, sym, ◌∙◌, ap, subst, Ok, given_in, given_by_word}
 use Rattle.break_signals.specs.declared.word.BreakWord.{BreakWord}
 use Rattle.break_signals.specs.Breaks.{TheirBreaks, gives}
-use Rattle.line_tap.proofs.Listening.{with-given}
 use Rattle.line_tap.proofs.listener.EndListener.take_word.Goals as goal
+use Rattle.link_run.proofs.Listening.{with-given}
 
 pub returns-in-Brk-clause-given : goal.returns-in-Brk-clause-given
 returns-in-Brk-clause-given c = λ terms role agreed connected i lengths h.

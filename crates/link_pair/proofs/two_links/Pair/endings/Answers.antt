@@ -1,6 +1,4 @@
-use Rattle.std.proofs.Common.{◌≡◌, ◌∙◌, ap, sym, Option, Some}
-use Rattle.link_pair.specs.Pair.{both_ended}
-use Rattle.link_pair.specs.declared.half.LinkEnd.{LinkEnd}
+use Rattle.link_pair.proofs.Names.{◌≡◌, ◌∙◌, ap, sym, Option, Some, both_ended, LinkEnd}
 use Rattle.link_pair.proofs.two_links.Pair.endings.Goals as goal
 
 pub returns-in-Some-Some : goal.returns-in-Some-Some

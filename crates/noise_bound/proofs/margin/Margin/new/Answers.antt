@@ -1,4 +1,4 @@
-use Rattle.std.proofs.Common.{[], refl}
+use Rattle.noise_bound.proofs.Names.{[], refl}
 use Rattle.noise_bound.proofs.margin.Margin.new.Goals as goal
 
 pub returns-clause-stands : goal.returns-clause-stands

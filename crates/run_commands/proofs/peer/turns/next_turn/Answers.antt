@@ -1,7 +1,7 @@
 use Rattle.run_commands.proofs.Names.{◌≡◌, ◌∙◌, inl, inr, ℕ, ◌+◌, ◌*◌, ◌<◌, IsTrue, List, ◌++◌, length, take, refl, sym, subst, arith}
-use Rattle.run_commands.proofs.Names.{Option, Some, None, Result, Ok, Err, rules, append-nil, ReadTo, StopCounts, Stop, slot_octets, Closed}
-use Rattle.run_commands.proofs.Names.{turn_of, Makes, OnlyPuts-reads, CountsStand-trans, FolderState, octets_at, Reached, Names, named}
-use Rattle.run_commands.proofs.Names.{turn_names, inputs_of, outputs_of, FILE_LIMIT, Role}
+use Rattle.run_commands.proofs.Names.{Option, Some, None, Result, Ok, Err, rules, append-nil, ReadTo, StopCounts, Stop, OnlyPuts-reads}
+use Rattle.run_commands.proofs.Names.{CountsStand-trans, FolderState, octets_at, Reached, Names, named, turn_names, inputs_of, outputs_of}
+use Rattle.run_commands.proofs.Names.{FILE_LIMIT, Role, slot_octets, Closed, turn_of, Makes}
 use Rattle.std.proofs.lemmas.List.{length-take-le}
 use Rattle.stations.specs.OneEnd.Turn.{EndsBy as TurnEndsBy}
 use Rattle.run_commands.specs.Peering.Ends.{EndsBy}

@@ -1,5 +1,5 @@
-use Rattle.run_commands.proofs.Names.{◌*◌, ◌≤◌, slot_octets, turn_of, FolderState, CountsStand, OnlyPuts, Reached, named, outputs_of}
-use Rattle.run_commands.proofs.Names.{FILE_LIMIT}
+use Rattle.run_commands.proofs.Names.{◌*◌, ◌≤◌, FolderState, CountsStand, OnlyPuts, Reached, named, outputs_of, FILE_LIMIT, slot_octets}
+use Rattle.run_commands.proofs.Names.{turn_of}
 use Rattle.std.proofs.Common.{◌-◌}
 use Rattle.stations.specs.OneEnd.Single.{IsReady}
 use Rattle.run_commands.proofs.peer.turns.run_turns.Given as goal

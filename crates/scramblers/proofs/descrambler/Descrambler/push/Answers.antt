@@ -1,4 +1,4 @@
-use Rattle.std.proofs.Common.{arith}
+use Rattle.scramblers.proofs.Names.{arith}
 use Rattle.scramblers.proofs.Streams.{Descrambles-more}
 use Rattle.scramblers.proofs.descrambler.Descrambler.push.Goals as goal
 

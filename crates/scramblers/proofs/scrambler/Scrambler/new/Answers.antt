@@ -1,4 +1,4 @@
-use Rattle.scramblers.proofs.Names.{◌≡◌, ◌<◌, true, refl, arith, nat_tests, bit_at}
+use Rattle.scramblers.proofs.Names.{◌≡◌, true, refl, arith, nat_tests, bit_at}
 use Rattle.std.proofs.Common.{nat_lt}
 use Rattle.scramblers.proofs.scrambler.Scrambler.new.Goals as goal
 

@@ -1,4 +1,4 @@
-use Rattle.std.proofs.Common.{arith}
+use Rattle.scramblers.proofs.Names.{arith}
 use Rattle.scramblers.proofs.Streams.{Scrambles-more}
 use Rattle.scramblers.proofs.scrambler.Scrambler.push.Goals as goal
 

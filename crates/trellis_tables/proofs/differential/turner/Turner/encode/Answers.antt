@@ -1,4 +1,4 @@
-use Rattle.std.proofs.Common.{◌≡◌, ◌+◌, ◌%◌, ◌++◌, ◌∷◌, [], sum, arith, sym, ◌∙◌, ap}
+use Rattle.trellis_tables.proofs.Names.{◌≡◌, ◌+◌, ◌%◌, ◌++◌, ◌∷◌, [], sum, arith, sym, ◌∙◌, ap}
 use Rattle.trellis_tables.proofs.Turning.Places.{turned-snoc, sum-snoc}
 use Rattle.trellis_tables.proofs.differential.turner.Turner.encode.Goals as goal
 

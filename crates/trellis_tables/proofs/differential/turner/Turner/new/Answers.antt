@@ -1,4 +1,4 @@
-use Rattle.std.proofs.Common.{refl}
+use Rattle.trellis_tables.proofs.Names.{refl}
 use Rattle.trellis_tables.proofs.differential.turner.Turner.new.Goals as goal
 
 pub returns : goal.returns
