@@ -51,7 +51,7 @@ enum modem_code {
     MODEM_LATE = -6         /* no line has more than 2^50 samples, no link more than 2^40 turns, no deframer 2^64 bits, no meter more than 2^24 octets */
 };
 
-/* A code in words, and the library's version, as "1.0.9". Neither is to be freed. */
+/* A code in words, and the library's version, as "1.0.10". Neither is to be freed. */
 const char *modem_text(int32_t code);
 const char *modem_version(void);
 
